@@ -1,0 +1,110 @@
+-- What the answers of `read` and `write` say of the bytes, for callers.
+--     value-read, truncated-read, malformed-read    each answer of readAt, as a scan of the bytes at the position
+--     next-stored, full-kept                        each answer of endAt, with the bytes after it
+-- Not here: the same by the cases of the code, `Position/Reads.antt` and `Position/Writes.antt`. Assumes nothing.
+use Prim.Native.Nat.{ℕ, _+_, _-_, _≤_, _<_}
+use native.Mathlib.Omega.{arith}
+use mathlib.Core.Path.{_≡_, refl, ap, sym, _∙_, subst}
+use mathlib.Core.Bool.{Bool, true, false, cond}
+use mathlib.Core.List.{List, _++_}
+use lib.ListN.{length, take, drop, length-drop}
+use lib.Seq.{drop-drop}
+use lib.Dec.{leb}
+use borrow.Author.Tests.{leb-true, leb-false}
+use Rattle.numbers.specs.declared.Reading.the-variants.{Value, Truncated, Malformed}
+use Rattle.numbers.specs.declared.Written.the-variants.{Next, Full}
+use Rattle.numbers.specs.Number.{bytesOf, Scan, value, truncated, malformed, readNumber}
+use Rattle.numbers.specs.Number.Extent.{scan-extent}
+use Rattle.numbers.specs.Position.{found, readAt, endAt, storedAt}
+
+-- ---- readAt
+-- the number v stands at a position of l, and q is the position after it
+pub record Stands (l : List ℕ) (at v q : ℕ) : Type 0 where
+  pub scan : readNumber (drop at l) ≡ value v (q - at) (drop q l)
+  pub after : at < q
+  pub within : q ≤ length l
+
+-- each answer, over every scan x of the bytes at the position
+record Found (at v q : ℕ) (x : Scan) : Type 0 where
+  n : ℕ
+  rest : List ℕ
+  scan : x ≡ value v n rest
+  next : q ≡ at + n
+
+value-found : (at v q : ℕ) (x : Scan) → Value v q ≡ found at x → Found at v q x
+unfolding found
+value-found at v q (value w n rest) e = record { n = n; rest = rest; scan = cc; next = cc }
+value-found at v q truncated e = let z : _≡_ {A = ℕ} 0 1 = cc in absurd (omega arith)
+value-found at v q malformed e = let z : _≡_ {A = ℕ} 0 1 = cc in absurd (omega arith)
+
+truncated-found : (at : ℕ) (x : Scan) → Truncated ≡ found at x → x ≡ truncated
+unfolding found
+truncated-found at (value w n rest) e = let z : _≡_ {A = ℕ} 0 1 = cc in absurd (omega arith)
+truncated-found at truncated e = refl
+truncated-found at malformed e = let z : _≡_ {A = ℕ} 0 1 = cc in absurd (omega arith)
+
+malformed-found : (at : ℕ) (x : Scan) → Malformed ≡ found at x → x ≡ malformed
+unfolding found
+malformed-found at (value w n rest) e = let z : _≡_ {A = ℕ} 0 1 = cc in absurd (omega arith)
+malformed-found at truncated e = let z : _≡_ {A = ℕ} 0 1 = cc in absurd (omega arith)
+malformed-found at malformed e = refl
+
+scan-path : (v n m : ℕ) (s t : List ℕ) → n ≡ m → s ≡ t → value v n s ≡ value v m t
+scan-path v n m s t p q = cc
+
+pub value-read : (l : List ℕ) (at v q : ℕ) → Value v q ≡ readAt l at → Stands l at v q
+unfolding readAt readNumber
+value-read l at v q e =
+    let f = value-found at v q (readNumber (drop at l)) e in
+    let k : q ≡ at + f .n = f .next in
+    let h = scan-extent 2 3 (drop at l) v (f .n) (f .rest) (f .scan) in
+    let some : 1 ≤ f .n = h .some in
+    let within : f .n ≤ length l - at = subst (λ (m : ℕ). f .n ≤ m) (length-drop at l) (h .within) in
+    record {
+      scan =
+          f .scan
+          ∙ scan-path _ _ _ _ _ (omega arith) (h .left ∙ drop-drop (f .n) at l ∙ ap (λ (i : ℕ). drop i l) (sym k));
+      after = omega arith;
+      within = omega arith;
+    }
+
+pub truncated-read : (l : List ℕ) (at : ℕ) → Truncated ≡ readAt l at → readNumber (drop at l) ≡ truncated
+unfolding readAt
+truncated-read l at e = truncated-found at (readNumber (drop at l)) e
+
+pub malformed-read : (l : List ℕ) (at : ℕ) → Malformed ≡ readAt l at → readNumber (drop at l) ≡ malformed
+unfolding readAt
+malformed-read l at e = malformed-found at (readNumber (drop at l)) e
+
+-- ---- endAt and storedAt
+-- the bytes of v stand at a position, q is the position after them, and all else is kept
+pub record Put (l : List ℕ) (at v q : ℕ) : Type 0 where
+  pub next : q ≡ at + length (bytesOf v)
+  pub within : q ≤ length l
+  pub output : storedAt l at v ≡ take at l ++ (bytesOf v ++ drop q l)
+
+pub next-stored : (l : List ℕ) (at v q : ℕ) → Next q ≡ endAt l at v → Put l at v q
+unfolding endAt storedAt
+next-stored l at v q = by-room (leb (at + length (bytesOf v)) (length l)) refl
+  where
+    by-room : (b : Bool) → leb (at + length (bytesOf v)) (length l) ≡ b
+        → Next q ≡ cond b (Next (at + length (bytesOf v))) Full → Put l at v q
+    by-room true t e =
+        let k : q ≡ at + length (bytesOf v) = cc in
+        let h : at + length (bytesOf v) ≤ length l = leb-true _ _ t in
+        record { next = k; within = omega arith; output = rw k (simp t) }
+    by-room false t e = let z : _≡_ {A = ℕ} 0 1 = cc in absurd (omega arith)
+
+-- there was no room, and nothing changed
+pub record Kept (l : List ℕ) (at v : ℕ) : Type 0 where
+  pub beyond : length l < at + length (bytesOf v)
+  pub output : storedAt l at v ≡ l
+
+pub full-kept : (l : List ℕ) (at v : ℕ) → Full ≡ endAt l at v → Kept l at v
+unfolding endAt storedAt
+full-kept l at v = by-room (leb (at + length (bytesOf v)) (length l)) refl
+  where
+    by-room : (b : Bool) → leb (at + length (bytesOf v)) (length l) ≡ b
+        → Full ≡ cond b (Next (at + length (bytesOf v))) Full → Kept l at v
+    by-room true t e = let z : _≡_ {A = ℕ} 0 1 = cc in absurd (omega arith)
+    by-room false t e = record { beyond = leb-false _ _ t; output = simp t }

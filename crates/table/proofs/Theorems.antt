@@ -1,0 +1,113 @@
+-- A proof of each claim of `specs/Claims.antt`. Assumes nothing.
+use mathlib.Core.List.{List}
+use lib.ListN.{length}
+use Rattle.table.specs.Table.{Table}
+use Rattle.numbers.specs.Number.Laws.{Written, read-written, read-is-written}
+use Rattle.table.specs.Tokens.{listTokens}
+use Rattle.table.specs.Tokens.Laws.{Cut, follows-list, list-follows}
+use Rattle.table.specs.Writing.{numbersOf}
+use Rattle.table.specs.Grammar.Whole.{table-ok-sound, table-ok-complete}
+use Rattle.table.specs.Fields.Laws.{fields-in, fields-out}
+use Rattle.table.specs.Branches.Capped.{capped-all}
+use Rattle.table.specs.Resolve.Laws.{resolve-reach, reach-most}
+use Rattle.table.specs.Judge.Laws.{AcceptedList, list-out, list-in, AcceptedBytes, bytes-out, bytes-in}
+use Rattle.table.specs.Marks.Whole.{table-numbers}
+use Rattle.table.specs.Refusals.AtNumbers.{refused-out, refused-in, marks-out, marks-in}
+use Rattle.table.specs.BytesRefused.Exact.{refused-bytes-out, refused-bytes-in}
+use Rattle.table.specs.Equations.{branches-call, resolve-call, width-level, resolve-count}
+use Rattle.table.specs.Examples.{numbers-hold, tables-hold, counts-hold, longs-hold, operations-hold}
+use Rattle.table.specs.Operations.Laws.{writes-back, reads-back, read-fills}
+use Rattle.table.specs.Claims.{NumberReadsBack, NumberCanonical, TableReadsBack, TableCanonical}
+use Rattle.table.specs.Claims.{AcceptedExactly, AcceptedBytesExactly, AcceptedWritesBack, WrittenReadsBack}
+use Rattle.table.specs.Claims.{RefusedExactly, RefusedBytesExactly, FieldsAreMarks}
+use Rattle.table.specs.Claims.{BranchesOfCall, ResolvedCall, WidthOfLevel, ResolvedCount, ReadFills, Examples}
+use Rattle.table.specs.Claims.{ResolvedReach, ReachMost, CappedBranches}
+
+pub number-reads-back : NumberReadsBack
+unfolding NumberReadsBack
+number-reads-back v s h = read-written v s h
+
+pub number-canonical : NumberCanonical
+unfolding NumberCanonical
+number-canonical s v n rest w e = let x = read-is-written s v n rest w e in (x .whole, x .small, x .taken)
+
+pub table-reads-back : TableReadsBack
+unfolding TableReadsBack
+table-reads-back t at more f = table-ok-complete _ _ t (fields-in t f) (list-follows at (numbersOf t) more)
+
+pub table-canonical : TableCanonical
+unfolding TableCanonical
+table-canonical t at l rest e =
+    let k = table-ok-sound (listTokens at l) rest t e in
+    let c = follows-list (numbersOf t) at l rest (k .1) in
+    (fields-out t (k .0), (c .more, c .whole, c .stream))
+
+pub accepted-exactly : AcceptedExactly
+unfolding AcceptedExactly
+accepted-exactly l ns t = (
+  λ h. let a = list-out l ns t h in (a .numbers, a .written, a .rules, a .short),
+  λ h. list-in l ns t (record { numbers = h .0; written = h .1; rules = h .2; short = h .3 }),
+)
+
+pub accepted-bytes-exactly : AcceptedBytesExactly
+unfolding AcceptedBytesExactly
+accepted-bytes-exactly s ns t w = (
+  λ h. let a = bytes-out s ns t w h in (a .bytes, a .written, a .rules, a .short),
+  λ h. bytes-in s ns t (record { bytes = h .0; written = h .1; rules = h .2; short = h .3 }),
+)
+
+pub refused-exactly : RefusedExactly
+unfolding RefusedExactly
+refused-exactly l n at = (refused-out l n at, refused-in l n at)
+
+pub refused-bytes-exactly : RefusedBytesExactly
+unfolding RefusedBytesExactly
+refused-bytes-exactly s n at w = (λ h. refused-bytes-out s n at h w, refused-bytes-in s n at)
+
+pub fields-are-marks : FieldsAreMarks
+unfolding FieldsAreMarks
+fields-are-marks t = ((marks-out t, λ h. marks-in t (h .0) (h .1)), table-numbers t)
+
+pub accepted-writes-back : AcceptedWritesBack
+unfolding AcceptedWritesBack
+accepted-writes-back = writes-back
+
+pub written-reads-back : WrittenReadsBack
+unfolding WrittenReadsBack
+written-reads-back = reads-back
+
+pub resolved-reach : ResolvedReach
+unfolding ResolvedReach
+resolved-reach t r m p = resolve-reach t r m p
+
+pub reach-most-8 : ReachMost
+unfolding ReachMost
+reach-most-8 t r d b = reach-most t r d b
+
+pub capped-branches : CappedBranches
+unfolding CappedBranches
+capped-branches ds = capped-all ds
+
+pub branches-of-call : BranchesOfCall
+unfolding BranchesOfCall
+branches-of-call = branches-call
+
+pub resolved-call : ResolvedCall
+unfolding ResolvedCall
+resolved-call = resolve-call
+
+pub width-of-level : WidthOfLevel
+unfolding WidthOfLevel
+width-of-level = width-level
+
+pub resolved-count : ResolvedCount
+unfolding ResolvedCount
+resolved-count = resolve-count
+
+pub read-keeps-length : ReadFills
+unfolding ReadFills
+read-keeps-length = read-fills
+
+pub examples : Examples
+unfolding Examples
+examples = (numbers-hold, tables-hold, counts-hold, longs-hold, operations-hold)

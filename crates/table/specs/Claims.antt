@@ -1,0 +1,125 @@
+-- What is proved of the table layer's definitions: statements only. The proofs are in `proofs/Theorems.antt`, under the
+-- same names.
+--     NumberReadsBack, NumberCanonical    a written number reads back; a number that is read is written just so
+--     TableReadsBack, TableCanonical      the same of a table, and then it is within the field bounds
+--     AcceptedExactly                     the number lists that are accepted, by 01's rules
+--     AcceptedBytesExactly                the bytes that are accepted
+--     RefusedExactly                      the number lists that are refused, with which number and place
+--     RefusedBytesExactly                 the bytes that are refused, with which number and place
+--     FieldsAreMarks                      the field rules hold where each number keeps its own bound
+--     AcceptedWritesBack                  what Read accepts, Write writes back byte for byte
+--     WrittenReadsBack                    what Write writes, Read reads back number for number
+--     ResolvedReach, ReachMost             a residual's leaves together have at most its term's reach, at most 8
+--     CappedBranches                      branches counted to 257 only
+--     BranchesOfCall, ResolvedCall, WidthOfLevel, ResolvedCount    01's sentences on calls, as equations
+--     ReadFills                           Read's output keeps its length
+--     Examples                            worked inputs
+-- Assumes nothing.
+use Prim.Native.Nat.{ℕ, _+_, _≤_, _<_, _-_}
+use mathlib.Core.Path.{_≡_}
+use mathlib.Core.Logic.{_↔_}
+use mathlib.Core.List.{List, _++_, map}
+use lib.ListN.{length, take, drop}
+use lib.Dec.{T}
+use Rattle.numbers.specs.Every.{All}
+use Rattle.table.specs.Grow.{grow}
+use Rattle.table.specs.Table.{Term, call, Definition, Table}
+use Rattle.numbers.specs.Number.{bytesOf, value, readNumber, listBytes}
+use Rattle.numbers.specs.Number.{Bytes}
+use Rattle.table.specs.Tokens.{Tokens, listTokens}
+use Rattle.table.specs.Parser.{got}
+use Rattle.table.specs.Grammar.{table}
+use Rattle.table.specs.Writing.{numbersOf}
+use Rattle.table.specs.Context.{Each}
+use Rattle.table.specs.Fields.{Fields}
+use Rattle.table.specs.Width.{widthWith, widest, levelWidth, reach}
+use Rattle.table.specs.Branches.{allBranches, branches, bodyIn}
+use Rattle.table.specs.Branches.Capped.{capped, nextCapped}
+use Rattle.table.specs.Resolve.{Memory, noMemory, resolve, reachSum}
+use Rattle.table.specs.Equations.{callCount}
+use Rattle.table.specs.Examples.{every, numberRows, tableRows, countRows, longRows, operationRows}
+use Rattle.table.specs.Rules.{Rules}
+use Rattle.table.specs.Marks.{tableMarks, Shape}
+use Rattle.table.specs.Parser.Sees.{Mark, numbers, Pass}
+use Rattle.table.specs.Refusals.{Refused}
+use Rattle.table.specs.BytesRefused.{RefusedBytes}
+use Rattle.table.specs.Judge.{accepted, declined, judgeList, judgeBytes}
+use Rattle.table.specs.Operations.{Answer, done, Outcome, zeros, readOf, writeOf}
+
+unfoldable pub NumberReadsBack : Type 0
+NumberReadsBack = (v : ℕ) (s : List ℕ) → v ≤ 65535 → readNumber (bytesOf v ++ s) ≡ value v (length (bytesOf v)) s
+
+unfoldable pub NumberCanonical : Type 0
+NumberCanonical = (s : List ℕ) (v n : ℕ) (rest : List ℕ) → Bytes s → readNumber s ≡ value v n rest
+    → (s ≡ bytesOf v ++ rest) × (v ≤ 65535) × (n ≡ length (bytesOf v))
+
+unfoldable pub TableReadsBack : Type 0
+TableReadsBack = (t : Table) (at : ℕ) (more : List ℕ) → Fields t
+    → table (listTokens at (numbersOf t ++ more)) ≡ got t (listTokens (at + length (numbersOf t)) more)
+
+unfoldable pub TableCanonical : Type 0
+TableCanonical = (t : Table) (at : ℕ) (l : List ℕ) (rest : Tokens) → table (listTokens at l) ≡ got t rest
+    → Fields t × ((more : List ℕ) × (l ≡ numbersOf t ++ more) × (rest ≡ listTokens (at + length (numbersOf t)) more))
+
+-- "Each is given exactly on its condition": none of 2 to 9 is met
+unfoldable pub AcceptedExactly : Type 0
+AcceptedExactly = (l ns : List ℕ) (t : Table)
+    → (judgeList l ≡ accepted ns t) ↔ ((ns ≡ l) × (l ≡ numbersOf t) × Rules t × (length (listBytes l) ≤ 16384))
+
+unfoldable pub AcceptedBytesExactly : Type 0
+AcceptedBytesExactly = (s ns : List ℕ) (t : Table) → Bytes s
+    → (judgeBytes s ≡ accepted ns t) ↔ ((s ≡ listBytes ns) × (ns ≡ numbersOf t) × Rules t × (length s ≤ 16384))
+
+unfoldable pub RefusedExactly : Type 0
+RefusedExactly = (l : List ℕ) (n at : ℕ) → (judgeList l ≡ declined n at) ↔ Refused l n at
+
+unfoldable pub RefusedBytesExactly : Type 0
+RefusedBytesExactly = (s : List ℕ) (n at : ℕ) → Bytes s → (judgeBytes s ≡ declined n at) ↔ RefusedBytes s n at
+
+unfoldable pub FieldsAreMarks : Type 0
+FieldsAreMarks = (t : Table) → (Fields t ↔ (Shape t × Pass (tableMarks t))) × (numbers (tableMarks t) ≡ numbersOf t)
+
+unfoldable pub AcceptedWritesBack : Type 0
+AcceptedWritesBack = (s out work : List ℕ) (n : ℕ) → Bytes s → readOf s out work .answer ≡ done n
+    → (out' work' : List ℕ) → length work' ≡ 8192 → length s ≤ length out'
+    → writeOf (take n (readOf s out work .output)) out' work'
+    ≡ record { answer = done (length s); output = s ++ drop (length s) out'; work = zeros 8192 }
+
+unfoldable pub WrittenReadsBack : Type 0
+WrittenReadsBack = (l out work : List ℕ) (n : ℕ) → writeOf l out work .answer ≡ done n
+    → (out' work' : List ℕ) → length out' ≡ 16384 → length work' ≡ 8192
+    → readOf (take n (writeOf l out work .output)) out' work'
+    ≡ record { answer = done (length l); output = l ++ zeros (16384 - length l); work = zeros 8192 }
+
+unfoldable pub ResolvedReach : Type 0
+ResolvedReach = (t : Table) → Rules t → (m : Memory) (p : Term) → All (λ r. reachSum t r ≤ reach t p) (resolve t m p)
+
+unfoldable pub ReachMost : Type 0
+ReachMost = (t : Table) → Rules t → (d : ℕ) → d < length (t .definitions) → Each (λ p. reach t p ≤ 8) (bodyIn (t .definitions) d)
+
+unfoldable pub CappedBranches : Type 0
+CappedBranches = (ds : List Definition) → grow (nextCapped ds) (length ds) ≡ map capped (allBranches ds)
+
+-- "the openings of a call are those of the definition called"
+unfoldable pub BranchesOfCall : Type 0
+BranchesOfCall = (t : Table) → Rules t → (d : ℕ) → d < length (t .definitions) → branches t (call d) ≡ branches t (bodyIn (t .definitions) d)
+
+-- "call the settled body"
+unfoldable pub ResolvedCall : Type 0
+ResolvedCall = (t : Table) → Rules t → (m : Memory) (d : ℕ) → d < length (t .definitions)
+    → resolve t m (call d) ≡ resolve t noMemory (bodyIn (t .definitions) d)
+
+-- "call to its own level 1, to a lower level that level's hands. A level's hands are the largest among its bodies"
+unfoldable pub WidthOfLevel : Type 0
+WidthOfLevel = (t : Table) → Rules t → (l : ℕ) → l ≤ 7 → levelWidth t l ≡ widest (widthWith (callCount t l)) l (t .definitions)
+
+-- ours: branches are how many ways a term resolves
+unfoldable pub ResolvedCount : Type 0
+ResolvedCount = (t : Table) (m : Memory) (p : Term) → length (resolve t m p) ≡ branches t p
+
+-- "a lent u16 buffer of 16,384": whatever Read says, its output is as long as it was
+unfoldable pub ReadFills : Type 0
+ReadFills = (s out work : List ℕ) → Bytes s → length (readOf s out work .output) ≡ length out
+
+unfoldable pub Examples : Type 0
+Examples = T (every numberRows) × T (every tableRows) × T (every countRows) × T (every longRows) × T (every operationRows)

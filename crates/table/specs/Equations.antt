@@ -1,0 +1,197 @@
+-- The sentences that define width, branches and settling through calls, as equations: the lists that the definitions
+-- grow are their solution where the rules hold.
+--     branches-call    "the openings of a call are those of the definition called"
+--     resolve-call      "call the settled body"
+--     width-level      "call to its own level 1, to a lower level that level's hands"; "the largest among its bodies"
+--     resolve-count     a term resolves in as many ways as it has branches
+-- Assumes nothing.
+use Prim.Native.Nat.{ℕ, zero, suc, _+_, _*_, _≤_, _<_, max}
+use native.Mathlib.Omega.{arith}
+use native.Mathlib.Decide.{decLt}
+use native.Mathlib.Nat.{zero-mul}
+use mathlib.Core.Path.{_≡_, refl, sym, ap, ap₂, _∙_, subst}
+use mathlib.Core.Bool.{Bool, true, false, cond}
+use mathlib.Core.List.{List, [], _∷_, _++_, map, flatMap, map-append}
+use lib.ListN.{length, getD, length-append, length-map}
+use lib.Dec.{eqb}
+use borrow.Author.Tests.{eq-eqb, ne-eqb, eqb-true}
+use Rattle.numbers.specs.Every.{All, AllFrom, from-at}
+use Rattle.table.specs.Grow.{grow, length-grow, getD-grow, grow-stable}
+use Rattle.table.specs.Table.{SetRef, Term, stop, fail, prefix, choice, par, call, Definition, Table}
+use Rattle.table.specs.Context.{Context, outermost, underPrefix, underParallel, Throughout}
+use Rattle.table.specs.Fields.{OfCall, Fields}
+use Rattle.table.specs.References.{levelIn}
+use Rattle.table.specs.Width.{widthWith, widest, callWidth, nextWidth, allWidths, levelWidth}
+use Rattle.table.specs.Branches.{branchesWith, lookup, bodyIn, nextBranches, allBranches, branches}
+use Rattle.table.specs.Rules.{InBodies, Rules}
+use Rattle.table.specs.Resolve.{Memory, noMemory, Residual, leaf, pair, pairs, resolveWith, resolved, nextResolved, allResolved, resolve}
+
+-- a call with no prefix around it names a number below n
+abbrev Below : ℕ → Context → Term → Type 0
+Below n c = OfCall (λ e. c .prefixes ≡ 0 → e < n)
+
+below-body : (t : Table) → Rules t → (d : ℕ) → d < length (t .definitions) → Throughout (Below d) outermost (bodyIn (t .definitions) d)
+unfolding bodyIn
+below-body t r d b = from-at (λ own x. Throughout (Below own) outermost (x .body)) _ 0 (t .definitions) (r .calls-guarded) d d (omega arith) b
+
+-- ---- branches
+module _ (f g : ℕ → ℕ) (n : ℕ) (same : (e : ℕ) → e < n → f e ≡ g e) where
+  branches-agree : (c : Context) (p : Term) → c .prefixes ≡ 0 → Throughout (Below n) c p → branchesWith f p ≡ branchesWith g p
+  unfolding branchesWith
+  branches-agree c stop z h = refl
+  branches-agree c fail z h = refl
+  branches-agree c (prefix r p) z h = refl
+  branches-agree c (choice p q) z h = ap₂ _+_ (branches-agree c p z (h .1)) (branches-agree c q z (h .2))
+  branches-agree c (par r p q) z h = ap₂ _*_ (branches-agree (underParallel c) p z (h .1)) (branches-agree (underParallel c) q z (h .2))
+  branches-agree c (call e) z h = same e (h z)
+
+pub branches-call : (t : Table) → Rules t → (d : ℕ) → d < length (t .definitions) → branches t (call d) ≡ branches t (bodyIn (t .definitions) d)
+unfolding branches branchesWith lookup allBranches
+branches-call t r d b =
+    let ds = t .definitions in
+    let f = nextBranches ds in
+    getD-grow f 0 (length ds) d b
+    ∙ unfold nextBranches in
+    ap (λ (k : ℕ). branchesWith (lookup (grow f d)) (bodyIn ds k)) (length-grow f d)
+    ∙ branches-agree (lookup (grow f d)) (lookup (grow f (length ds))) d
+    (λ e h. unfold lookup in grow-stable f 0 d (length ds) e h (omega arith))
+    outermost (bodyIn ds d) refl (below-body t r d b)
+
+-- ---- settling
+module _ (f g : ℕ → List Residual) (n : ℕ) (same : (e : ℕ) → e < n → f e ≡ g e) where
+  resolve-agree : (m : Memory) (c : Context) (p : Term) → c .prefixes ≡ 0 → Throughout (Below n) c p → resolveWith f m p ≡ resolveWith g m p
+  unfolding resolveWith
+  resolve-agree m c stop z h = refl
+  resolve-agree m c fail z h = refl
+  resolve-agree m c (prefix r p) z h = refl
+  resolve-agree m c (choice p q) z h = ap₂ _++_ (resolve-agree m c p z (h .1)) (resolve-agree m c q z (h .2))
+  resolve-agree m c (par r p q) z h = ap₂ (pairs m r) (resolve-agree m (underParallel c) p z (h .1)) (resolve-agree m (underParallel c) q z (h .2))
+  resolve-agree m c (call e) z h = same e (h z)
+
+pub resolve-call : (t : Table) → Rules t → (m : Memory) (d : ℕ) → d < length (t .definitions)
+    → resolve t m (call d) ≡ resolve t noMemory (bodyIn (t .definitions) d)
+unfolding resolve resolveWith resolved allResolved
+resolve-call t r m d b =
+    let ds = t .definitions in
+    let f = nextResolved ds in
+    getD-grow f [] (length ds) d b
+    ∙ unfold nextResolved in
+    ap (λ (k : ℕ). resolveWith (resolved (grow f d)) noMemory (bodyIn ds k)) (length-grow f d)
+    ∙ resolve-agree (resolved (grow f d)) (resolved (grow f (length ds))) d
+    (λ e h. unfold resolved in grow-stable f [] d (length ds) e h (omega arith))
+    noMemory outermost (bodyIn ds d) refl (below-body t r d b)
+
+-- ---- width
+-- what a call counts in level l: 1 for its own level, a lower level's width
+unfoldable pub callCount : Table → ℕ → ℕ → ℕ
+callCount t l e = cond (eqb (levelIn (t .definitions) e) l) 1 (levelWidth t (levelIn (t .definitions) e))
+
+abbrev Lower : List Definition → ℕ → Context → Term → Type 0
+Lower ds l c = OfCall (λ e. levelIn ds e ≤ l)
+
+module _ (ds : List Definition) (f g : ℕ → ℕ) (l : ℕ) (same : (e : ℕ) → levelIn ds e ≤ l → f e ≡ g e) where
+  width-agree : (c : Context) (p : Term) → Throughout (Lower ds l) c p → widthWith f p ≡ widthWith g p
+  unfolding widthWith
+  width-agree c stop h = refl
+  width-agree c fail h = refl
+  width-agree c (prefix r p) h = width-agree (underPrefix c) p (h .1)
+  width-agree c (choice p q) h = ap₂ max (width-agree c p (h .1)) (width-agree c q (h .2))
+  width-agree c (par r p q) h = ap₂ _+_ (width-agree (underParallel c) p (h .1)) (width-agree (underParallel c) q (h .2))
+  width-agree c (call e) h = same e h
+
+  widest-agree : (i : ℕ) (xs : List Definition) → AllFrom (λ own d. Throughout (Lower ds (d .level)) outermost (d .body)) i xs
+      → widest (widthWith f) l xs ≡ widest (widthWith g) l xs
+  unfolding widest
+  widest-agree i [] h = refl
+  widest-agree i (d ∷ xs) h = go (widest-agree (suc i) xs (h .1)) (eqb (d .level) l) refl
+    where
+      go : widest (widthWith f) l xs ≡ widest (widthWith g) l xs → (b : Bool) → eqb (d .level) l ≡ b
+          → cond b (max (widthWith f (d .body)) (widest (widthWith f) l xs)) (widest (widthWith f) l xs)
+          ≡ cond b (max (widthWith g (d .body)) (widest (widthWith g) l xs)) (widest (widthWith g) l xs)
+      go ih true e =
+          let q : d .level ≡ l = eqb-true _ _ e in
+          ap₂ max (width-agree outermost (d .body) (subst (λ (k : ℕ). Throughout (Lower ds k) outermost (d .body)) q (h .0))) ih
+      go ih false e = ih
+
+call-agree : (t : Table) (l : ℕ) → l ≤ 7 → (e : ℕ) → levelIn (t .definitions) e ≤ l
+    → callWidth (t .definitions) (grow (nextWidth (t .definitions)) l) e ≡ callCount t l e
+unfolding callWidth callCount levelWidth allWidths
+call-agree t l b e h = go (decLt (levelIn (t .definitions) e) l)
+  where
+    go : Dec (levelIn (t .definitions) e < l) → callWidth (t .definitions) (grow (nextWidth (t .definitions)) l) e ≡ callCount t l e
+    go (yes k) =
+        let n = length-grow (nextWidth (t .definitions)) l in
+        let x : (levelIn (t .definitions) e ≡ length (grow (nextWidth (t .definitions)) l) → ⊥) = λ q. omega arith in
+        let y : (levelIn (t .definitions) e ≡ l → ⊥) = λ q. omega arith in
+        simp (ne-eqb _ _ x, ne-eqb _ _ y) (grow-stable (nextWidth (t .definitions)) 0 l 8 (levelIn (t .definitions) e) k (omega arith))
+    go (no k) =
+        let n = length-grow (nextWidth (t .definitions)) l in
+        let x : levelIn (t .definitions) e ≡ length (grow (nextWidth (t .definitions)) l) = omega arith in
+        let y : levelIn (t .definitions) e ≡ l = omega arith in
+        simp (eq-eqb _ _ x, eq-eqb _ _ y)
+
+pub width-level : (t : Table) → Rules t → (l : ℕ) → l ≤ 7 → levelWidth t l ≡ widest (widthWith (callCount t l)) l (t .definitions)
+unfolding levelWidth allWidths nextWidth
+width-level t r l b =
+    let ds = t .definitions in
+    let f = nextWidth ds in
+    getD-grow f 0 8 l (omega arith)
+    ∙ ap (λ (n : ℕ). widest (widthWith (callWidth ds (grow f l))) n ds) (length-grow f l)
+    ∙ widest-agree ds (callWidth ds (grow f l)) (callCount t l) l (call-agree t l b) 0 ds (r .calls-level)
+
+-- ---- how many ways
+length-pairs : (m : Memory) (r : SetRef) (ps qs : List Residual) → length (pairs m r ps qs) ≡ length ps * length qs
+unfolding pairs flatMap
+length-pairs m r [] qs = sym (zero-mul (length qs))
+length-pairs m r (a ∷ ps) qs =
+    length-append (map (pair m r a) qs) _
+    ∙ ap₂ _+_ (length-map qs (pair m r a)) (length-pairs m r ps qs)
+    ∙ let e = native.Mathlib.Nat.suc-mul (length ps) (length qs) in omega arith
+
+resolveWith-count : (calls : ℕ → List Residual) (m : Memory) (p : Term) → length (resolveWith calls m p) ≡ branchesWith (λ d. length (calls d)) p
+unfolding resolveWith branchesWith
+resolveWith-count calls m stop = refl
+resolveWith-count calls m fail = refl
+resolveWith-count calls m (prefix r p) = refl
+resolveWith-count calls m (choice p q) = length-append (resolveWith calls m p) (resolveWith calls m q) ∙ ap₂ _+_ (resolveWith-count calls m p) (resolveWith-count calls m q)
+resolveWith-count calls m (par r p q) =
+    length-pairs m r (resolveWith calls m p) (resolveWith calls m q) ∙ ap₂ _*_ (resolveWith-count calls m p) (resolveWith-count calls m q)
+resolveWith-count calls m (call d) = refl
+
+branches-same : (f g : ℕ → ℕ) → ((d : ℕ) → f d ≡ g d) → (p : Term) → branchesWith f p ≡ branchesWith g p
+unfolding branchesWith
+branches-same f g s stop = refl
+branches-same f g s fail = refl
+branches-same f g s (prefix r p) = refl
+branches-same f g s (choice p q) = ap₂ _+_ (branches-same f g s p) (branches-same f g s q)
+branches-same f g s (par r p q) = ap₂ _*_ (branches-same f g s p) (branches-same f g s q)
+branches-same f g s (call d) = s d
+
+abbrev count : List Residual → ℕ
+count l = length l
+
+count-lookup : (l : List (List Residual)) (d : ℕ) → length (resolved l d) ≡ lookup (map count l) d
+unfolding resolved lookup
+count-lookup [] d = refl
+count-lookup (x ∷ l) zero = refl
+count-lookup (x ∷ l) (suc d) = unfold resolved lookup in count-lookup l d
+
+count-grow : (ds : List Definition) (n : ℕ) → map count (grow (nextResolved ds) n) ≡ grow (nextBranches ds) n
+unfolding grow nextResolved nextBranches
+count-grow ds zero = refl
+count-grow ds (suc n) =
+    let g = grow (nextResolved ds) n in
+    map-append count g _
+    ∙ ap (λ (x : ℕ). map count g ++ (x ∷ []))
+    (resolveWith-count (resolved g) noMemory (bodyIn ds (length g))
+    ∙ branches-same (λ d. length (resolved g d)) (lookup (map count g)) (count-lookup g) (bodyIn ds (length g))
+    ∙ ap (λ (k : ℕ). branchesWith (lookup (map count g)) (bodyIn ds k)) (sym (length-map g count)))
+    ∙ ap (λ (l : List ℕ). l ++ (branchesWith (lookup l) (bodyIn ds (length l)) ∷ [])) (count-grow ds n)
+
+pub resolve-count : (t : Table) (m : Memory) (p : Term) → length (resolve t m p) ≡ branches t p
+unfolding resolve branches allResolved allBranches
+resolve-count t m p =
+    let g = allResolved (t .definitions) in
+    resolveWith-count (resolved g) m p
+    ∙ branches-same (λ d. length (resolved g d)) (lookup (map count g)) (count-lookup g) p
+    ∙ ap (λ (l : List ℕ). branchesWith (lookup l) p) (count-grow (t .definitions) (length (t .definitions)))

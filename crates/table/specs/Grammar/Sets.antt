@@ -1,0 +1,115 @@
+-- Sets: what `set` reads is what would be written, within its bounds, and the other way. Assumes nothing.
+use Prim.Native.Nat.{ℕ, zero, suc, _+_, _≤_, _<_}
+use native.Mathlib.Omega.{arith}
+use mathlib.Core.Path.{_≡_, refl, sym, ap, _∙_, subst}
+use mathlib.Core.Bool.{Bool, true, false, _&&_}
+use mathlib.Core.List.{List, [], _∷_, _++_, flatMap}
+use lib.ListN.{length}
+use lib.Dec.{T, leb, ltb, leb→le, le→leb, ltb→lt, lt→ltb}
+use Rattle.numbers.specs.Choice.{both, both-in}
+use Rattle.numbers.specs.Every.{All}
+use Rattle.table.specs.Table.{SetDef, one, each}
+use Rattle.table.specs.Tokens.{Tokens}
+use Rattle.table.specs.Tokens.Laws.{Follows, Between, follows-split, follows-join}
+use Rattle.table.specs.Parser.{Result, got, refused, Parser, number, pure, andThen, times}
+use Rattle.table.specs.Parser.Laws.{pure-out, Split, then-out, then-in, number-out, number-in, Sound, Complete, Read, times-sound, times-complete}
+use Rattle.table.specs.Grammar.{events, row, setOfKind, set}
+use Rattle.table.specs.Writing.{rowNumbers, setNumbers}
+
+-- events below A, ascending, none below low
+abbrev pub Run : ℕ → ℕ → List ℕ → Type 0
+Run A low [] = Unit
+Run A low (e ∷ es) = (low ≤ e) × (e < A) × Run A (suc e) es
+
+pub record ReadEvents (A n low : ℕ) (es : List ℕ) (ts rest : Tokens) : Type 0 where
+  pub count : length es ≡ n
+  pub run : Run A low es
+  pub follows : Follows es ts rest
+
+pub events-sound : (A n low : ℕ) (ts rest : Tokens) (es : List ℕ) → events A n low ts ≡ got es rest → ReadEvents A n low es ts rest
+unfolding events
+events-sound A zero low ts rest es h =
+    pure-out (λ x us. ReadEvents A zero low x ts us) [] es ts rest h (record { count = refl; run = tt; follows = refl })
+events-sound A (suc n) low ts rest es h =
+    let a = then-out _ _ ts es rest h in
+    let b = then-out _ _ (a .middle) es rest (a .after) in
+    let e = a .first in
+    let one = number-out _ ts (a .middle) e (a .before) in
+    let ok = both (leb low e) (ltb e A) (one .0) in
+    let more = events-sound A n (suc e) (a .middle) (b .middle) (b .first) (b .before) in
+    pure-out (λ x us. ReadEvents A (suc n) low x ts us) (e ∷ b .first) es (b .middle) rest (b .after)
+    (record {
+      count = ap suc (more .count);
+      run = (leb→le low e (ok .0), ltb→lt e A (ok .1), more .run);
+      follows = follows-join (e ∷ []) (b .first) ts (a .middle) (b .middle) (one .1) (more .follows);
+    })
+
+pub events-complete : (A low : ℕ) (ts rest : Tokens) (es : List ℕ) → Run A low es → Follows es ts rest → events A (length es) low ts ≡ got es rest
+unfolding events pure
+events-complete A low ts rest [] h k = rw k refl
+events-complete A low ts rest (e ∷ es) h k =
+    let s = follows-split (e ∷ []) es ts rest k in
+    then-in _ _ ts (s .middle) e _
+    (number-in _ ts (s .middle) e (both-in (leb low e) (ltb e A) (le→leb low e (h .0)) (lt→ltb e A (h .1))) (s .front))
+    (then-in _ _ (s .middle) rest es _ (events-complete A (suc e) (s .middle) rest es (h .2) (s .back)) refl)
+
+abbrev pub RowOk : ℕ → List ℕ → Type 0
+RowOk A r = (length r ≤ A) × Run A 0 r
+
+pub row-sound : (A : ℕ) → Sound (row A) (RowOk A) rowNumbers
+unfolding row rowNumbers
+row-sound A ts rest r h =
+    let a = then-out _ _ ts r rest h in
+    let c = a .first in
+    let one = number-out _ ts (a .middle) c (a .before) in
+    let more = events-sound A c 0 (a .middle) rest r (a .after) in (
+      (rw (more .count) (leb→le c A (one .0)), more .run),
+      subst (λ (n : ℕ). Follows (n ∷ r) ts rest) (sym (more .count)) (follows-join (c ∷ []) r ts (a .middle) rest (one .1) (more .follows)),
+    )
+
+pub row-complete : (A : ℕ) → Complete (row A) (RowOk A) rowNumbers
+unfolding row rowNumbers
+row-complete A ts rest r h k =
+    let s = follows-split (length r ∷ []) r ts rest k in
+    then-in _ _ ts (s .middle) (length r) _
+    (number-in _ ts (s .middle) (length r) (le→leb (length r) A (h .0)) (s .front))
+    (events-complete A 0 (s .middle) rest r (h .1) (s .back))
+
+abbrev pub SetOk : ℕ → SetDef → Type 0
+SetOk A (one r) = RowOk A r
+SetOk A (each rs) = (length rs ≡ A) × All (RowOk A) rs
+
+kind-sound : (A k : ℕ) → k ≤ 1 → (ts mid rest : Tokens) (s : SetDef) → Follows (k ∷ []) ts mid → setOfKind A k mid ≡ got s rest
+    → SetOk A s × Follows (setNumbers s) ts rest
+unfolding setOfKind setNumbers
+kind-sound A zero b ts mid rest s f h =
+    let a = then-out _ _ mid s rest h in
+    let r = row-sound A mid (a .middle) (a .first) (a .before) in
+    pure-out (λ x us. SetOk A x × Follows (setNumbers x) ts us) _ s (a .middle) rest (a .after)
+    (r .0, follows-join (0 ∷ []) (rowNumbers (a .first)) ts mid (a .middle) f (r .1))
+kind-sound A (suc k) b ts mid rest s f h =
+    let e : suc k ≡ 1 = omega arith in
+    let a = then-out _ _ mid s rest h in
+    let r = times-sound (row A) (RowOk A) rowNumbers (row-sound A) A mid (a .middle) (a .first) (a .before) in
+    pure-out (λ x us. SetOk A x × Follows (setNumbers x) ts us) _ s (a .middle) rest (a .after)
+    ((r .count, r .within), follows-join (1 ∷ []) (flatMap rowNumbers (a .first)) ts mid (a .middle) (subst (λ (n : ℕ). Follows (n ∷ []) ts mid) e f) (r .follows))
+
+pub set-sound : (A : ℕ) → Sound (set A) (SetOk A) setNumbers
+unfolding set
+set-sound A ts rest s h =
+    let a = then-out _ _ ts s rest h in
+    let k = a .first in
+    let one = number-out _ ts (a .middle) k (a .before) in
+    kind-sound A k (leb→le k 1 (one .0)) ts (a .middle) rest s (one .1) (a .after)
+
+pub set-complete : (A : ℕ) → Complete (set A) (SetOk A) setNumbers
+unfolding set setOfKind setNumbers pure
+set-complete A ts rest (one r) h k =
+    let s = follows-split (0 ∷ []) (rowNumbers r) ts rest k in
+    then-in _ _ ts (s .middle) 0 _ (number-in _ ts (s .middle) 0 tt (s .front))
+    (then-in _ _ (s .middle) rest r _ (row-complete A (s .middle) rest r h (s .back)) refl)
+set-complete A ts rest (each rs) h k =
+    let s = follows-split (1 ∷ []) (flatMap rowNumbers rs) ts rest k in
+    let rows = times-complete (row A) (RowOk A) rowNumbers (row-complete A) (s .middle) rest rs (h .1) (s .back) in
+    then-in _ _ ts (s .middle) 1 _ (number-in _ ts (s .middle) 1 tt (s .front))
+    (then-in _ _ (s .middle) rest rs _ (rw (h .0) at rows) refl)

@@ -1,0 +1,123 @@
+// The test data of tables: a text file, one case per line. `HEAD` says how to read it.
+//     groups      all groups for a seed and a number of drawn cases
+//     file        the whole file, or the first case whose known answer is not the one given
+
+mod input;
+mod length;
+mod limit;
+mod mixed;
+
+use crate::case::*;
+use crate::damage::CLAUSES;
+use crate::generate::{small, MIDDLE, SMALL};
+use crate::random::Random;
+use crate::worked;
+use input::*;
+use length::*;
+use limit::*;
+use mixed::*;
+
+// Where the file comes from, but for the seed and the count.
+const SOURCE: &str = "\
+# Tables: answers of Read, Write and the list check.
+# Written by tools/reference, another implementation of 01; groups named worked_* and
+# drawings have answers worked by hand from 01. The command, in tools/reference:
+#     cargo run --release --offline -- cases --seed ";
+
+pub const HEAD: &str = "\
+# One case per line, fields separated by one space, numbers in decimal:
+#     r OUTLEN WORKLEN : b b .. = NUMBER PLACE    Read of these bytes
+#     w OUTLEN WORKLEN : n n .. = NUMBER PLACE    Write of this number list
+#     c : n n .. = NUMBER PLACE                   the check of this number list
+# No number stands between `:` and `=` where the input is empty. NUMBER is 0 for a result, else
+# the refusal's; PLACE is the refusal's place, or for a result r: the count of numbers, w: the
+# count of bytes, c: the number of terms.
+# In every accepted table here each number is below 128: numbers and bytes are the same.
+# An input has at most 16,500 numbers, an output at most 16,500, a work area at most 8,300.
+";
+
+pub const LONG_LINE: usize = 4_000;
+pub const MOST_LONG_LINES: usize = 40;
+pub const MOST_INPUT: usize = 16_500;
+
+// All groups; `count` is the number of cases in those that are drawn at random without an end.
+pub fn groups(seed: u64, count: usize) -> Vec<Group> {
+    let mut groups = worked::groups();
+    let mut add = |name: &'static str, make: &dyn Fn(&mut Random) -> Vec<Case>| {
+        groups.push(Group { name, cases: make(&mut Random::named(seed, name)) });
+    };
+    add("limit_alphabet", &limit_alphabet);
+    add("limit_sets", &limit_sets);
+    add("limit_definitions", &limit_definitions);
+    add("limit_terms", &limit_terms);
+    add("limit_depth", &limit_depth);
+    add("limit_hands", &limit_hands);
+    add("limit_openings", &limit_openings);
+    add("limit_bytes", &limit_bytes);
+    add("long_bytes", &long_bytes);
+    add("long_list", &long_list);
+    add("terms_above_1024", &terms_above_1024);
+    add("cut_short_at_each_byte", &cut_short_at_each_byte);
+    add("loose_at_each_number", &loose_at_each_number);
+    add("left_over_bytes", &left_over_bytes);
+    add("wrong_measure", &wrong_measure);
+    // the rest is drawn: a hundred parts, each group so many
+    let part = |parts: usize| (count * parts).div_ceil(100);
+    for (name, make) in CLAUSES {
+        let parts = if name.starts_with("openings") { 1 } else { 2 };
+        add(name, &|random| {
+            (0..part(parts))
+                .map(|_| {
+                    let fault = make(random);
+                    one_of_fault(random, &fault)
+                })
+                .collect()
+        });
+    }
+    add("two_faults_in_reading", &|random| drawn(random, part(6), two_faults_in_reading));
+    add("two_faults_after_reading", &|random| drawn(random, part(4), two_faults_after_reading));
+    add("near_limits", &|random| drawn(random, part(4), near_limits));
+    add("accepted_small", &|random| {
+        drawn(random, part(12), |random| {
+            let table = small(random, SMALL);
+            one_of_table(random, &table)
+        })
+    });
+    add("accepted_middle", &|random| {
+        drawn(random, part(4), |random| {
+            let table = small(random, MIDDLE);
+            one_of_table(random, &table)
+        })
+    });
+    add("wild_references", &|random| drawn(random, part(6), wild_references));
+    add("random_changes_of_bytes", &|random| drawn(random, part(8), changed_bytes));
+    add("random_changes_of_lists", &|random| drawn(random, part(8), changed_list));
+    groups
+}
+
+fn drawn(random: &mut Random, count: usize, make: fn(&mut Random) -> Case) -> Vec<Case> {
+    (0..count).map(|_| make(random)).collect()
+}
+
+// The whole file; or what is wrong with its first wrong case.
+pub fn file(seed: u64, count: usize) -> Result<String, String> {
+    let mut text = format!("{SOURCE}{seed} --count {count}\n");
+    text += HEAD;
+    for Group { name, cases } in groups(seed, count) {
+        text += &format!("# group {name}\n");
+        for case in cases {
+            let line = case.line();
+            let answer = case.answer();
+            if case.known.is_some_and(|known| known != answer) {
+                let line: String = line.chars().take(200).collect();
+                return Err(format!(
+                    "group {name}: known {:?}, given {answer:?}: {line}",
+                    case.known
+                ));
+            }
+            text += &line;
+            text.push('\n');
+        }
+    }
+    Ok(text)
+}

@@ -1,0 +1,28 @@
+// Another implementation of document 01 (the CSP_E line monitor), naive and in the order of its
+// words, which writes the stored answers of the test programs. It shares nothing with the
+// crates.
+//
+//     numbers      the written form of a number            refusal     numbers, places, words
+//     table        the abstract table                      reader      refusals 3 to 6
+//     judge        refusals 7 to 9                         operations  Read, Write, the list check
+//     random       a seeded generator                      generate    accepted tables
+//     role         what each number of a table is          damage      tables with one known fault
+//     worked       cases worked by hand                    case        a case of test data
+//     cases        the test data file
+
+pub mod case;
+pub mod cases;
+pub mod damage;
+pub mod generate;
+pub mod judge;
+pub mod numbers;
+pub mod operations;
+pub mod random;
+pub mod reader;
+pub mod refusal;
+pub mod role;
+pub mod table;
+pub mod worked;
+
+#[cfg(test)]
+mod properties;
