@@ -17,6 +17,7 @@ use Rattle.table.specs.Fields.{Fields}
 use Rattle.table.specs.Refusals.{Truncated, OutOfRange, TrailingInput, BadReference, TooWide, TooManyBranches}
 pub mod Laws
 pub mod Exact
+pub mod Judged
 
 unfoldable pub bytePlace : List ℕ → ℕ → ℕ
 bytePlace ns i = length (listBytes (take i ns))

@@ -1,6 +1,7 @@
 -- The sentences that define width, branches and settling through calls, as equations: the lists that the definitions
 -- grow are their solution where the rules hold.
 --     branches-call    "the openings of a call are those of the definition called"
+--     branches-guarded  the same, from the one rule that it rests on
 --     resolve-call      "call the settled body"
 --     width-level      "call to its own level 1, to a lower level that level's hands"; "the largest among its bodies"
 --     resolve-count     a term resolves in as many ways as it has branches
@@ -30,9 +31,14 @@ use Rattle.table.specs.Resolve.{Memory, noMemory, Residual, leaf, pair, 
 abbrev Below : ℕ → Context → Term → Type 0
 Below n c = OfCall (λ e. c .prefixes ≡ 0 → e < n)
 
-below-body : (t : Table) → Rules t → (d : ℕ) → d < length (t .definitions) → Throughout (Below d) outermost (bodyIn (t .definitions) d)
+-- so in every body
+abbrev pub Guarded : Table → Type 0
+Guarded t = AllFrom (λ own x. Throughout (Below own) outermost (x .body)) 0 (t .definitions)
+
+below-body : (t : Table) → Guarded t → (d : ℕ) → d < length (t .definitions)
+    → Throughout (Below d) outermost (bodyIn (t .definitions) d)
 unfolding bodyIn
-below-body t r d b = from-at (λ own x. Throughout (Below own) outermost (x .body)) _ 0 (t .definitions) (r .calls-guarded) d d (omega arith) b
+below-body t g d b = from-at (λ own x. Throughout (Below own) outermost (x .body)) _ 0 (t .definitions) g d d (omega arith) b
 
 -- ---- branches
 module _ (f g : ℕ → ℕ) (n : ℕ) (same : (e : ℕ) → e < n → f e ≡ g e) where
@@ -45,9 +51,10 @@ module _ (f g : ℕ → ℕ) (n : ℕ) (same : (e : ℕ) → e < n → f e ≡ g
   branches-agree c (par r p q) z h = ap₂ _*_ (branches-agree (underParallel c) p z (h .1)) (branches-agree (underParallel c) q z (h .2))
   branches-agree c (call e) z h = same e (h z)
 
-pub branches-call : (t : Table) → Rules t → (d : ℕ) → d < length (t .definitions) → branches t (call d) ≡ branches t (bodyIn (t .definitions) d)
+pub branches-guarded : (t : Table) → Guarded t → (d : ℕ) → d < length (t .definitions)
+    → branches t (call d) ≡ branches t (bodyIn (t .definitions) d)
 unfolding branches branchesWith lookup allBranches
-branches-call t r d b =
+branches-guarded t g d b =
     let ds = t .definitions in
     let f = nextBranches ds in
     getD-grow f 0 (length ds) d b
@@ -55,7 +62,10 @@ branches-call t r d b =
     ap (λ (k : ℕ). branchesWith (lookup (grow f d)) (bodyIn ds k)) (length-grow f d)
     ∙ branches-agree (lookup (grow f d)) (lookup (grow f (length ds))) d
     (λ e h. unfold lookup in grow-stable f 0 d (length ds) e h (omega arith))
-    outermost (bodyIn ds d) refl (below-body t r d b)
+    outermost (bodyIn ds d) refl (below-body t g d b)
+
+pub branches-call : (t : Table) → Rules t → (d : ℕ) → d < length (t .definitions) → branches t (call d) ≡ branches t (bodyIn (t .definitions) d)
+branches-call t r d b = branches-guarded t (r .calls-guarded) d b
 
 -- ---- settling
 module _ (f g : ℕ → List Residual) (n : ℕ) (same : (e : ℕ) → e < n → f e ≡ g e) where
@@ -79,14 +89,14 @@ resolve-call t r m d b =
     ap (λ (k : ℕ). resolveWith (resolved (grow f d)) noMemory (bodyIn ds k)) (length-grow f d)
     ∙ resolve-agree (resolved (grow f d)) (resolved (grow f (length ds))) d
     (λ e h. unfold resolved in grow-stable f [] d (length ds) e h (omega arith))
-    noMemory outermost (bodyIn ds d) refl (below-body t r d b)
+    noMemory outermost (bodyIn ds d) refl (below-body t (r .calls-guarded) d b)
 
 -- ---- width
 -- what a call counts in level l: 1 for its own level, a lower level's width
 unfoldable pub callCount : Table → ℕ → ℕ → ℕ
 callCount t l e = cond (eqb (levelIn (t .definitions) e) l) 1 (levelWidth t (levelIn (t .definitions) e))
 
-abbrev Lower : List Definition → ℕ → Context → Term → Type 0
+abbrev pub Lower : List Definition → ℕ → Context → Term → Type 0
 Lower ds l c = OfCall (λ e. levelIn ds e ≤ l)
 
 module _ (ds : List Definition) (f g : ℕ → ℕ) (l : ℕ) (same : (e : ℕ) → levelIn ds e ≤ l → f e ≡ g e) where
@@ -99,7 +109,7 @@ module _ (ds : List Definition) (f g : ℕ → ℕ) (l : ℕ) (same : (e : ℕ) 
   width-agree c (par r p q) h = ap₂ _+_ (width-agree (underParallel c) p (h .1)) (width-agree (underParallel c) q (h .2))
   width-agree c (call e) h = same e h
 
-  widest-agree : (i : ℕ) (xs : List Definition) → AllFrom (λ own d. Throughout (Lower ds (d .level)) outermost (d .body)) i xs
+  pub widest-agree : (i : ℕ) (xs : List Definition) → AllFrom (λ own d. Throughout (Lower ds (d .level)) outermost (d .body)) i xs
       → widest (widthWith f) l xs ≡ widest (widthWith g) l xs
   unfolding widest
   widest-agree i [] h = refl

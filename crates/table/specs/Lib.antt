@@ -18,5 +18,12 @@ pub mod Marks
 pub mod Refusals
 pub mod BytesRefused
 pub mod Operations
+pub mod Answers
+pub mod Node
+pub mod Member
+pub mod Index
+pub mod Parse
+pub mod Judging
+pub mod Filling
 pub mod Examples
 pub mod Claims

@@ -11,6 +11,7 @@ use Rattle.table.specs.Tokens.{Tokens, token, ended, broken}
 pub mod Laws
 pub mod Local
 pub mod Sees
+pub mod Steps
 
 pub data Result (A : Type 0) : Type 0 where
   got : A → Tokens → Result A

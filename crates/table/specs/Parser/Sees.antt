@@ -149,7 +149,11 @@ module _ (ok : ℕ → Bool) (form : ℕ → Type 0) where
           let p = r .0 in
           let z : i + 1 ≡ suc i = omega arith in
           record {
-            marks = mark v (ok v) ∷ []; more = l; writes = (rw p (f v k), rw p refl); pass = (k, tt); list = refl;
+            marks = mark v (ok v) ∷ [];
+            more = l;
+            writes = (rw p (f v k), rw p refl);
+            pass = (k, tt);
+            list = refl;
             stream = rw z (r .1);
           }
       go false k = let x = number-off i v l k in let z : _≡_ {A = ℕ} 0 1 = cc in absurd (omega arith)
@@ -194,8 +198,14 @@ module _ (ok : ℕ → Bool) (form : ℕ → Type 0) where
   pub sees-number : (v : ℕ) → form v → ((v : ℕ) → ok v ≡ true → form v) → Sees (NumberR ok form) (number ok)
   sees-number v f g =
       record {
-        value = v; marks = mark v (ok v) ∷ []; writes = (f, refl);
-        got-out = n-got-out g; cut-out = n-cut-out v f; got-in = n-got-in; cut-in = n-cut-in; off-in = n-off-in;
+        value = v;
+        marks = mark v (ok v) ∷ [];
+        writes = (f, refl);
+        got-out = n-got-out g;
+        cut-out = n-cut-out v f;
+        got-in = n-got-in;
+        cut-in = n-cut-in;
+        off-in = n-off-in;
       }
 
 -- ---- nothing
@@ -207,7 +217,9 @@ module _ {A : Type 0} where
   unfolding pure
   sees-pure x =
       record {
-        value = x; marks = []; writes = (refl, refl);
+        value = x;
+        marks = [];
+        writes = (refl, refl);
         got-out = λ i l a rest e.
             let p : a ≡ x = cc in
             let q : rest ≡ listTokens i l = cc in
@@ -267,9 +279,16 @@ module _ {A B : Type 0} (R : A → List Mark → Type 0) (S : A → B → List M
             let w = s .cut-out i l at (subst (λ (m : ℕ). p (listTokens i l) ≡ refused m at) z q) in
             let x = u (w .what) _ (w .writes) in
             record {
-              what = x .value; front = w .front; at = w .at; back = w .back ++ x .marks;
+              what = x .value;
+              front = w .front;
+              at = w .at;
+              back = w .back ++ x .marks;
               writes = record {
-                first = w .what; one = w .front ++ (w .at ∷ w .back); two = x .marks; writes-one = w .writes; writes-two = x .writes;
+                first = w .what;
+                one = w .front ++ (w .at ∷ w .back);
+                two = x .marks;
+                writes-one = w .writes;
+                writes-two = x .writes;
                 whole = sym (append-assoc (w .front) (w .at ∷ w .back) (x .marks));
               };
               pass = w .pass;
@@ -280,9 +299,16 @@ module _ {A B : Type 0} (R : A → List Mark → Type 0) (S : A → B → List M
             let h' : f a mid ≡ refused 3 k = unfold next in h in
             let x = u a (w .marks) (w .writes) .cut-out (i + length (w .marks)) (w .more) k (subst (λ (us : Tokens). f a us ≡ refused 3 k) (w .stream) h') in
             record {
-              what = x .what; front = w .marks ++ x .front; at = x .at; back = x .back;
+              what = x .what;
+              front = w .marks ++ x .front;
+              at = x .at;
+              back = x .back;
               writes = record {
-                first = a; one = w .marks; two = x .front ++ (x .at ∷ x .back); writes-one = w .writes; writes-two = x .writes;
+                first = a;
+                one = w .marks;
+                two = x .front ++ (x .at ∷ x .back);
+                writes-one = w .writes;
+                writes-two = x .writes;
                 whole = append-assoc (w .marks) (x .front) (x .at ∷ x .back);
               };
               pass = all-append (λ m. m .passes ≡ true) (w .marks) (x .front) (w .pass) (x .pass);
@@ -310,7 +336,7 @@ module _ {A B : Type 0} (R : A → List Mark → Type 0) (S : A → B → List M
         subst (λ (L : List Mark). andThen p f (listTokens i (numbers L ++ more)) ≡ got b (listTokens (i + length L) more)) (sym (r .whole))
         (ap (λ (y : List ℕ). andThen p f (listTokens i y)) (ap (λ (y : List ℕ). y ++ more) (numbers-append X Y) ∙ append-assoc (numbers X) (numbers Y) more)
         ∙ t-after i (r .first) X (numbers Y ++ more) _ (r .writes-one) (pass-left X Y h')
-          (u (r .first) X (r .writes-one) .got-in (i + length X) b Y more (r .writes-two) (pass-right X Y h'))
+        (u (r .first) X (r .writes-one) .got-in (i + length X) b Y more (r .writes-two) (pass-right X Y h'))
         ∙ ap (λ (k : ℕ). got b (listTokens k more)) z)
 
     t-cut-in : (i : ℕ) (b : B) (M : List Mark) (m : Mark) (N : List Mark) → ThenR b (M ++ (m ∷ N)) → Pass M → andThen p f (listTokens i (numbers M)) ≡ refused 3 (i + length M)
@@ -327,7 +353,7 @@ module _ {A B : Type 0} (R : A → List Mark → Type 0) (S : A → B → List M
             subst (λ (L : List Mark). andThen p f (listTokens i (numbers L)) ≡ refused 3 (i + length L)) (sym e)
             (ap (λ (y : List ℕ). andThen p f (listTokens i y)) (numbers-append X E)
             ∙ t-after i (r .first) X (numbers E) _ (r .writes-one) (pass-left X E h')
-              (u (r .first) X (r .writes-one) .cut-in (i + length X) b E m N (subst (λ (L : List Mark). S (r .first) b L) d (r .writes-two)) (pass-right X E h'))
+            (u (r .first) X (r .writes-one) .cut-in (i + length X) b E m N (subst (λ (L : List Mark). S (r .first) b L) d (r .writes-two)) (pass-right X E h'))
             ∙ ap (λ (k : ℕ). refused 3 k) z)
 
     t-off-in : (i : ℕ) (b : B) (M : List Mark) (m : Mark) (N : List Mark) (more : List ℕ) → ThenR b (M ++ (m ∷ N)) → Pass M → m .passes ≡ false
@@ -345,7 +371,7 @@ module _ {A B : Type 0} (R : A → List Mark → Type 0) (S : A → B → List M
             subst (λ (L : List Mark). andThen p f (listTokens i (numbers L ++ (m .number ∷ more))) ≡ refused 5 (i + length L)) (sym e)
             (ap (λ (y : List ℕ). andThen p f (listTokens i y)) (ap (λ (y : List ℕ). y ++ (m .number ∷ more)) (numbers-append X E) ∙ append-assoc (numbers X) (numbers E) (m .number ∷ more))
             ∙ t-after i (r .first) X (numbers E ++ (m .number ∷ more)) _ (r .writes-one) (pass-left X E h')
-              (u (r .first) X (r .writes-one) .off-in (i + length X) b E m N more (subst (λ (L : List Mark). S (r .first) b L) d (r .writes-two)) (pass-right X E h') q)
+            (u (r .first) X (r .writes-one) .off-in (i + length X) b E m N more (subst (λ (L : List Mark). S (r .first) b L) d (r .writes-two)) (pass-right X E h') q)
             ∙ ap (λ (k : ℕ). refused 5 k) z)
 
     pub sees-then : Sees ThenR (andThen p f)
@@ -355,5 +381,9 @@ module _ {A B : Type 0} (R : A → List Mark → Type 0) (S : A → B → List M
           value = x .value;
           marks = s .marks ++ x .marks;
           writes = record { first = s .value; one = s .marks; two = x .marks; writes-one = s .writes; writes-two = x .writes; whole = refl };
-          got-out = t-got-out; cut-out = t-cut-out; got-in = t-got-in; cut-in = t-cut-in; off-in = t-off-in;
+          got-out = t-got-out;
+          cut-out = t-cut-out;
+          got-in = t-got-in;
+          cut-in = t-cut-in;
+          off-in = t-off-in;
         }

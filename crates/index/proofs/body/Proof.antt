@@ -1,0 +1,21 @@
+-- `table::index::body` meets its contract: word 7,232 + d holds what the table has.
+-- Assumes nothing.
+use native.Mathlib.Omega.{arith}
+use Rattle.index.specs.Facts.{definitions-few, body-is}
+use Rattle.index.proofs.body.Statement.{statement}
+use Rattle.index.proofs.body.Tie as tie
+
+add-result : tie.Need-add-result
+add-result c = omega (arith, definitions-few (c .pre .0))
+
+mul-result : tie.Need-mul-result
+mul-result c = omega (arith, definitions-few (c .pre .0))
+
+shared-slice-read-result : tie.Need-shared-slice-read-result
+shared-slice-read-result c = omega (arith, definitions-few (c .before .pre .0))
+
+returns : tie.Need-returns
+returns c = body-is (c .before .pre .0) (c .before .args .d) (c .before .pre .1)
+
+pub body-spec : {M : Type 1} → statement M
+body-spec = tie.close (tie.spec add-result mul-result shared-slice-read-result returns)

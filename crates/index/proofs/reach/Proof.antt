@@ -1,0 +1,21 @@
+-- `table::index::reach` meets its contract: word 5,120 + n holds what the table has.
+-- Assumes nothing.
+use native.Mathlib.Omega.{arith}
+use Rattle.index.specs.Facts.{terms-few, reach-is}
+use Rattle.index.proofs.reach.Statement.{statement}
+use Rattle.index.proofs.reach.Tie as tie
+
+add-result : tie.Need-add-result
+add-result c = omega (arith, terms-few (c .pre .0))
+
+mul-result : tie.Need-mul-result
+mul-result c = omega (arith, terms-few (c .pre .0))
+
+shared-slice-read-result : tie.Need-shared-slice-read-result
+shared-slice-read-result c = omega (arith, terms-few (c .before .pre .0))
+
+returns : tie.Need-returns
+returns c = reach-is (c .before .pre .0) (c .before .args .n) (c .before .pre .1)
+
+pub reach-spec : {M : Type 1} → statement M
+reach-spec = tie.close (tie.spec add-result mul-result shared-slice-read-result returns)

@@ -1,0 +1,3 @@
+-- What the accessors of an accepted table's index rest on: its rows as masks, and a law for each accessor.
+pub mod Rows
+pub mod Facts

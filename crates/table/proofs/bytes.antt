@@ -1,0 +1,4 @@
+-- The lemmas of `bytes.rt`. Assumes nothing.
+pub mod Listed
+pub mod Read
+pub mod Written

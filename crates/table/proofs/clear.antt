@@ -1,0 +1,2 @@
+-- The lemmas of `clear.rt`. Assumes nothing.
+pub mod Tail

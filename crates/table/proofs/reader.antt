@@ -1,0 +1,2 @@
+-- The lemmas of `reader.rt`. Assumes nothing.
+pub mod Outcomes

@@ -1,0 +1,2 @@
+-- The lemmas of `writer.rt`. Assumes nothing.
+pub mod Outcomes

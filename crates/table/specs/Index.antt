@@ -1,0 +1,129 @@
+-- The index of a table in the work area (ours; 01 leaves the work area's use open).
+--     maskOf, setMasks, firstRow, setWord    a row as a mask; a set's masks; the row at which a set begins; a set's word
+--     wordOf                                 a term's word
+--     SetsIndexed, Structured                the sets, and also the terms and definitions, stand in the work area
+--     Placed, Reaching, Branching            so do places, reach and branches of the terms
+--     Indexed                                the index of an accepted number list
+-- Words: rows 0 to 4,095, terms from 4,096, reach (places while judging) from 5,120, branches from 6,144, sets from 7,168,
+-- bodies from 7,232, levels from 7,265, widths of levels from 7,297, counts from 7,305.
+-- The laws are in `Index/Laws.antt`, `Index/Places.antt` and `Index/Sets.antt`. Assumes nothing.
+use Prim.Native.Nat.{ℕ, zero, suc, _+_, _*_, _^_, _<_, _≤_, min}
+use mathlib.Core.Path.{_≡_}
+use mathlib.Core.List.{List, [], _∷_, _++_, flatMap, map}
+use lib.ListN.{length, getD, take}
+use lib.Dec.{leb}
+use mathlib.Core.Bool.{_&&_}
+use Rattle.table.specs.declared.terms.Spot.{Spot}
+use Rattle.table.specs.Table.{SetRef, Term, stop, fail, prefix, choice, par, call, SetDef, one, each}
+use Rattle.table.specs.Table.{Definition, Table, size, termCount, bodyNumber}
+use Rattle.table.specs.Tokens.{listTokens}
+use Rattle.table.specs.Parser.{Result, got, refused, number, andThen, times}
+use Rattle.table.specs.Grammar.{set, table}
+use Rattle.table.specs.References.{levelIn}
+use Rattle.table.specs.Width.{reach}
+use Rattle.table.specs.Branches.{branches}
+use Rattle.table.specs.Branches.Capped.{capped}
+use Rattle.table.specs.Judge.{Judgement, accepted, judgeList}
+use Rattle.table.specs.Node.{Node, nodeAt, termOf, kindOf, leftSize, refOf, setOf, parameterOf}
+pub mod Laws
+pub mod Places
+pub mod Sets
+
+-- ---- sets
+
+-- a row as a word: bit e is 1 where the row has e
+unfoldable pub maskOf : List ℕ → ℕ
+maskOf [] = 0
+maskOf (e ∷ es) = 2 ^ e + maskOf es
+
+unfoldable pub setMasks : SetDef → List ℕ
+setMasks (one r) = maskOf r ∷ []
+setMasks (each rs) = map maskOf rs
+
+-- "A set is kind 0 and one row, or kind 1 and A rows"
+unfoldable pub kindOfSet : SetDef → ℕ
+kindOfSet (one r) = 0
+kindOfSet (each rs) = 1
+
+unfoldable pub firstRow : List SetDef → ℕ → ℕ
+firstRow sets s = length (flatMap setMasks (take s sets))
+
+unfoldable pub setWord : List SetDef → ℕ → ℕ
+setWord sets s = firstRow sets s * 2 + kindOfSet (getD sets s (one []))
+
+pub record SetsIndexed (sets : List SetDef) (w : List ℕ) : Type 0 where
+  pub few : length sets ≤ 64
+  pub rows-few : length (flatMap setMasks sets) ≤ 4096
+  pub rows : (i : ℕ) → i < length (flatMap setMasks sets) → getD w i 0 ≡ getD (flatMap setMasks sets) i 0
+  pub words : (s : ℕ) → s < length sets → getD w (7168 + s) 0 ≡ setWord sets s
+
+-- ---- terms
+
+unfoldable pub targetOf : List SetDef → Term → ℕ
+targetOf sets stop = 0
+targetOf sets fail = 0
+targetOf sets (prefix r p) = firstRow sets (setOf r)
+targetOf sets (choice p q) = 0
+targetOf sets (par r p q) = firstRow sets (setOf r)
+targetOf sets (call d) = d
+
+-- the digits of a term's word
+unfoldable pub packed : Spot → ℕ → ℕ → ℕ → ℕ → ℕ
+packed s kind parameter right target =
+    kind + parameter * 8 + s .parallel * 64 + s .entry * 128 + s .prefixes * 256 + s .own * 16384 + right * 524288
+    + target * 1073741824
+
+unfoldable pub wordOf : List SetDef → ℕ → Node → ℕ
+wordOf sets n x =
+    packed (x .spot) (kindOf (x .term)) (parameterOf (refOf (x .term))) (n + 1 + leftSize (x .term))
+    (targetOf sets (x .term))
+
+pub record Structured (t : Table) (w : List ℕ) : Type 0 where
+  pub whole : length w ≡ 8192
+  pub sets : SetsIndexed (t .sets) w
+  pub words : (n : ℕ) → n < termCount t → getD w (4096 + n) 0 ≡ wordOf (t .sets) n (nodeAt t n)
+  pub roots : (d : ℕ) → d ≤ length (t .definitions) → getD w (7232 + d) 0 ≡ bodyNumber t d
+  pub levels : (d : ℕ) → d < length (t .definitions) → getD w (7265 + d) 0 ≡ levelIn (t .definitions) d
+  pub alphabet : getD w 7305 0 ≡ t .alphabet
+  pub definitions : getD w 7306 0 ≡ length (t .definitions)
+  pub terms : getD w 7307 0 ≡ termCount t
+
+-- while judging: the index of each term's kind among the numbers
+abbrev pub Placed : Table → List ℕ → Type 0
+Placed t w = (n : ℕ) → n < termCount t → getD w (5120 + n) 0 ≡ nodeAt t n .place
+
+abbrev pub Reaching : Table → List ℕ → Type 0
+Reaching t w = (n : ℕ) → n < termCount t → getD w (5120 + n) 0 ≡ reach t (termOf t n)
+
+abbrev pub Branching : Table → List ℕ → Type 0
+Branching t w = (n : ℕ) → n < termCount t → getD w (6144 + n) 0 ≡ capped (branches t (termOf t n))
+
+-- ---- the table of a number list
+
+abbrev pub noTable : Table
+noTable = record { alphabet = 0; sets = []; definitions = [] }
+
+abbrev pub tableGot : Result Table → Table
+tableGot (got t rest) = t
+tableGot (refused n at) = noTable
+
+-- the table that a number list begins with; without meaning where it begins with none
+unfoldable pub tableIn : List ℕ → Table
+tableIn l = tableGot (table (listTokens 0 l))
+
+abbrev pub setsGot : Result (List SetDef) → List SetDef
+setsGot (got ss rest) = ss
+setsGot (refused n at) = []
+
+-- the sets that a number list begins with, after the alphabet size
+unfoldable pub setsIn : List ℕ → List SetDef
+setsIn l =
+    setsGot (andThen (number (λ a. leb 1 a && leb a 64)) (λ a. andThen (number (λ c. leb c 64)) (λ c. times c (set a)))
+    (listTokens 0 l))
+
+-- the table of a number list is accepted, and its index stands in the work area
+pub record Indexed (l w : List ℕ) : Type 0 where
+  pub taken : judgeList l ≡ accepted l (tableIn l)
+  pub structure : Structured (tableIn l) w
+  pub reaches : Reaching (tableIn l) w
+  pub branching : Branching (tableIn l) w

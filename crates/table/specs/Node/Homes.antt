@@ -1,0 +1,156 @@
+-- Which node stands where over definitions: what `nodesFrom` lists, as a relation to go by (ours).
+--     Stands                   x is the node of number n over definitions
+--     stands-in, stands-out    it is the list's element
+--     stands-body, stands-home    each body stands at its number; each node in a definition's body
+-- Assumes nothing.
+use Prim.Native.Nat.{ℕ, zero, suc, _+_, _-_, _<_, _≤_}
+use native.Mathlib.Omega.{arith}
+use native.Mathlib.Decide.{decLt}
+use mathlib.Core.Path.{_≡_, refl, ap, _∙_}
+use mathlib.Core.List.{List, [], _∷_}
+use lib.ListN.{length, getD, take, length-append}
+use Rattle.numbers.specs.Every.{All}
+use Rattle.table.specs.Table.{Definition, size, sizes}
+use Rattle.table.specs.Writing.{definitionNumbers}
+use Rattle.table.specs.Branches.{bodyIn}
+use Rattle.table.specs.Node.{Node, node, nodesFrom, noNode, bodySpot}
+use Rattle.table.specs.Node.Parts.{Part, here, length-nodes, left-at, right-at}
+use Rattle.table.specs.Node.Parts.{part-fits, part-below, part-trans, part-in, part-out, part-own}
+
+-- over the definitions from number `own` on, whose first number has index i: x is in definition own + h
+pub data Stands : ℕ → ℕ → List Definition → ℕ → ℕ → Node → Type 0 where
+  first : {own i n : ℕ} {d : Definition} {ds : List Definition} {x : Node}
+      → Part (bodySpot own) (suc i) (d .body) n x → Stands own i (d ∷ ds) 0 n x
+  later : {own i h n : ℕ} {d : Definition} {ds : List Definition} {x : Node}
+      → Stands (suc own) (i + length (definitionNumbers d)) ds h n x
+      → Stands own i (d ∷ ds) (suc h) (size (d .body) + n) x
+
+pub length-nodesFrom : (own i : ℕ) (ds : List Definition) → length (nodesFrom own i ds) ≡ sizes ds
+unfolding nodesFrom sizes
+length-nodesFrom own i [] = refl
+length-nodesFrom own i (d ∷ ds) =
+    let a = length-nodes (bodySpot own) (suc i) (d .body) in
+    let b = length-nodesFrom (suc own) (i + length (definitionNumbers d)) ds in
+    rw (length-append, a, b) refl
+
+-- ---- over definitions
+
+pub stands-in : {own i h n : ℕ} {ds : List Definition} {x : Node} → Stands own i ds h n x
+    → getD (nodesFrom own i ds) n noNode ≡ x
+unfolding nodesFrom
+stands-in (first {own = own} {i = i} {n = n} {d = d} {ds = ds} y) =
+    let more = nodesFrom (suc own) (i + length (definitionNumbers d)) ds in
+    left-at (bodySpot own) (suc i) (d .body) more n (part-below y) ∙ part-in y
+stands-in (later {own = own} {i = i} {n = n} {d = d} {ds = ds} y) =
+    let more = nodesFrom (suc own) (i + length (definitionNumbers d)) ds in
+    right-at (bodySpot own) (suc i) (d .body) more n ∙ stands-in y
+
+pub stands-at : {own i h n m : ℕ} {ds : List Definition} {x : Node} → n ≡ m → Stands own i ds h n x
+    → Stands own i ds h m x
+stands-at e y = rw (← e) y
+
+abbrev pub StandsAt : ℕ → ℕ → List Definition → ℕ → Type 0
+StandsAt own i ds n = (h : ℕ) × (x : Node) × Stands own i ds h n x
+
+pub stands-out : (own i : ℕ) (ds : List Definition) (n : ℕ) → n < sizes ds → StandsAt own i ds n
+unfolding sizes
+stands-out own i [] n h = absurd (omega arith)
+stands-out own i (d ∷ ds) n h =
+    elim (decLt n (size (d .body))) [
+      | yes l ↦ let (x, y) = part-out (bodySpot own) (suc i) (d .body) n l in (0, x, first y)
+      | no l ↦
+          let j = i + length (definitionNumbers d) in
+          let (k, x, y) = stands-out (suc own) j ds (n - size (d .body)) (omega arith) in
+          (suc k, x, stands-at (omega arith) (later y))
+    ]
+
+pub stands-part : {own i h n k : ℕ} {ds : List Definition} {x y : Node} → Stands own i ds h n x
+    → Part (x .spot) (x .place) (x .term) k y → Stands own i ds h (n + k) y
+stands-part (first a) b = first (part-trans a b)
+stands-part (later a) b = stands-at (omega arith) (later (stands-part a b))
+
+pub stands-fits : {own i h n : ℕ} {ds : List Definition} {x : Node} → Stands own i ds h n x
+    → n + size (x .term) ≤ sizes ds
+unfolding sizes
+stands-fits (first y) = omega (arith, part-fits y)
+stands-fits (later y) = omega (arith, stands-fits y)
+
+-- ---- the definition of a node
+
+pub stands-own : {own i h n : ℕ} {ds : List Definition} {x : Node} → Stands own i ds h n x → x .spot .own ≡ own + h
+stands-own (first y) = omega (arith, part-own y)
+stands-own (later y) = omega (arith, stands-own y)
+
+pub record Within (ds : List Definition) (h n m : ℕ) : Type 0 where
+  pub known : h < length ds
+  pub from : sizes (take h ds) ≤ n
+  pub until : n + m ≤ sizes (take (suc h) ds)
+
+pub stands-within : {own i h n : ℕ} {ds : List Definition} {x : Node} → Stands own i ds h n x
+    → Within ds h n (size (x .term))
+unfolding sizes
+stands-within (first y) =
+    let k = part-fits y in record { known = omega arith; from = omega arith; until = omega arith }
+stands-within (later y) =
+    let k = stands-within y in
+    record { known = omega (arith, k .known); from = omega (arith, k .from); until = omega (arith, k .until) }
+
+-- a number is in one definition only
+pub within-one : (ds : List Definition) (d h n : ℕ) → Within ds d n 1 → Within ds h n 1 → d ≡ h
+unfolding sizes
+within-one [] d h n a b = absurd (omega (arith, a .known))
+within-one (x ∷ ds) zero zero n a b = refl
+within-one (x ∷ ds) zero (suc h) n a b = absurd (omega (arith, a .until, b .from))
+within-one (x ∷ ds) (suc d) zero n a b = absurd (omega (arith, b .until, a .from))
+within-one (x ∷ ds) (suc d) (suc h) n a b =
+    let af = a .from in
+    let bf = b .from in
+    ap suc (within-one ds d h (n - size (x .body))
+    (record { known = omega (arith, a .known); from = omega arith; until = omega (arith, a .until) })
+    (record { known = omega (arith, b .known); from = omega arith; until = omega (arith, b .until) }))
+
+-- the node is a part of a body that is as all are
+pub record PartOf (Y : Definition → Type 0) (x : Node) : Type 0 where
+  pub home : Definition
+  pub is : Y home
+  pub number : ℕ
+  pub index : ℕ
+  pub into : ℕ
+  pub part : Part (bodySpot number) index (home .body) into x
+
+pub stands-home : (Y : Definition → Type 0) {own i h n : ℕ} {ds : List Definition} {x : Node} → All Y ds
+    → Stands own i ds h n x → PartOf Y x
+stands-home Y f (first {own = own} {i = i} {n = n} {d = d} y) =
+    record { home = d; is = f .0; number = own; index = suc i; into = n; part = y }
+stands-home Y f (later y) = stands-home Y (f .1) y
+
+-- ---- bodies
+
+pub sizes-next : (ds : List Definition) (d : ℕ) → d < length ds
+    → sizes (take (suc d) ds) ≡ sizes (take d ds) + size (bodyIn ds d)
+unfolding sizes bodyIn
+sizes-next [] d h = absurd (omega arith)
+sizes-next (x ∷ ds) zero h = omega arith
+sizes-next (x ∷ ds) (suc d) h = omega (arith, sizes-next ds d (omega arith))
+
+pub sizes-inside : (ds : List Definition) (d : ℕ) → sizes (take d ds) ≤ sizes ds
+unfolding sizes
+sizes-inside ds zero = omega arith
+sizes-inside [] (suc d) = omega arith
+sizes-inside (x ∷ ds) (suc d) = omega (arith, sizes-inside ds d)
+
+pub sizes-all : (ds : List Definition) → sizes (take (length ds) ds) ≡ sizes ds
+unfolding sizes
+sizes-all [] = refl
+sizes-all (x ∷ ds) = ap (λ (n : ℕ). size (x .body) + n) (sizes-all ds)
+
+abbrev pub BodyAt : ℕ → ℕ → List Definition → ℕ → ℕ → Type 0
+BodyAt own i ds d m = (j : ℕ) × Stands own i ds d (sizes (take d ds)) (node (bodySpot m) j (bodyIn ds d))
+
+pub stands-body : (own i : ℕ) (ds : List Definition) (d m : ℕ) → d < length ds → own + d ≡ m → BodyAt own i ds d m
+unfolding sizes bodyIn
+stands-body own i [] d m h e = absurd (omega arith)
+stands-body own i (x ∷ ds) zero m h e = let o : own ≡ m = omega arith in (suc i, rw (← o) (first here))
+stands-body own i (x ∷ ds) (suc d) m h e =
+    let (j, y) = stands-body (suc own) (i + length (definitionNumbers x)) ds d m (omega arith) (omega arith) in
+    (j, later y)

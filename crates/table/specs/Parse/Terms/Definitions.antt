@@ -1,0 +1,275 @@
+-- How definitions are read one after another.
+--     Defined                        some definitions, and where reading stands after them
+--     defined-first, defined-next, defined-done, defined-stop    the turns of a loop over them
+--     defined-ready                  the sets stay where they are
+-- Assumes nothing.
+use Prim.Native.Nat.{ℕ, suc, _+_, _-_, _<_, _≤_}
+use native.Mathlib.Omega.{arith}
+use mathlib.Core.Path.{_≡_, refl, sym, ap, _∙_, subst}
+use mathlib.Core.List.{List, [], _∷_, _++_, flatMap, append-assoc}
+use lib.ListN.{length, getD, take, length-append, List·getD-append}
+use lib.Seq.{getD-at, take-append-le, take-length}
+use Rattle.table.specs.declared.answer.Refusal.{Refusal}
+use Rattle.table.specs.Table.{fail, SetDef, one, size, Definition, sizes}
+use Rattle.table.specs.Tokens.{tokensAt}
+use Rattle.table.specs.Parser.Steps.{Reads, none, reads-snoc, Repeats, all-done, all-stop}
+use Rattle.table.specs.Grammar.{definition, definitionsOf}
+use Rattle.table.specs.Writing.{definitionNumbers}
+use Rattle.table.specs.Node.{Node, nodes, nodesFrom, noNode, bodySpot}
+use Rattle.table.specs.Index.{wordOf, setsIn}
+use Rattle.table.specs.Parse.{Stops, SetsReady, DefinitionsFound}
+use Rattle.table.specs.Parse.Terms.{DefinitionFound}
+use Rattle.table.specs.Parse.Terms.Stored.{size-nodes, ready-kept, right-node}
+use native.Mathlib.Decide.{decLt}
+use Rattle.table.specs.References.{levelIn}
+
+-- ---- one definition more
+
+sizes-snoc : (ds : List Definition) (v : Definition) → sizes (ds ++ (v ∷ [])) ≡ sizes ds + size (v .body)
+unfolding sizes
+sizes-snoc [] v = omega arith
+sizes-snoc (d ∷ ds) v = let h = sizes-snoc ds v in omega arith
+
+numbers-snoc : (ds : List Definition) (v : Definition)
+    → length (flatMap definitionNumbers (ds ++ (v ∷ [])))
+    ≡ length (flatMap definitionNumbers ds) + length (definitionNumbers v)
+unfolding flatMap
+numbers-snoc [] v = let e = length-append (definitionNumbers v) [] in omega arith
+numbers-snoc (d ∷ ds) v =
+    let h = numbers-snoc ds v in
+    let a = length-append (definitionNumbers d) (flatMap definitionNumbers (ds ++ (v ∷ []))) in
+    let b = length-append (definitionNumbers d) (flatMap definitionNumbers ds) in
+    omega arith
+
+append-nil : (xs : List Node) → xs ++ [] ≡ xs
+append-nil [] = refl
+append-nil (x ∷ xs) = ap (λ (l : List Node). x ∷ l) (append-nil xs)
+
+nodes-snoc : (own i : ℕ) (ds : List Definition) (v : Definition)
+    → nodesFrom own i (ds ++ (v ∷ []))
+    ≡ nodesFrom own i ds
+    ++ nodes (bodySpot (own + length ds)) (suc (i + length (flatMap definitionNumbers ds))) (v .body)
+unfolding nodesFrom flatMap
+nodes-snoc own i [] v =
+    let a : own + 0 ≡ own = omega arith in
+    let b : i + 0 ≡ i = omega arith in
+    rw (a, b) (append-nil (nodes (bodySpot own) (suc i) (v .body)))
+nodes-snoc own i (d ∷ ds) v =
+    let i' = i + length (definitionNumbers d) in
+    let one = nodes (bodySpot own) (suc i) (d .body) in
+    let a : own + suc (length ds) ≡ suc own + length ds = omega arith in
+    let rest = flatMap definitionNumbers ds in
+    let b : i + length (definitionNumbers d ++ rest) ≡ i' + length rest =
+    omega (arith, length-append (definitionNumbers d) rest) in
+    rw (a, b)
+    (ap (λ (l : List Node). one ++ l) (nodes-snoc (suc own) i' ds v)
+    ∙ sym (append-assoc one (nodesFrom (suc own) i' ds)
+    (nodes (bodySpot (suc own + length ds)) (suc (i' + length (flatMap definitionNumbers ds))) (v .body))))
+
+sizes-nodes : (own i : ℕ) (ds : List Definition) → length (nodesFrom own i ds) ≡ sizes ds
+unfolding nodesFrom sizes
+sizes-nodes own i [] = refl
+sizes-nodes own i (d ∷ ds) =
+    let i' = i + length (definitionNumbers d) in
+    let a = length-append (nodes (bodySpot own) (suc i) (d .body)) (nodesFrom (suc own) i' ds) in
+    let b = size-nodes (bodySpot own) (suc i) (d .body) in
+    let c = sizes-nodes (suc own) i' ds in
+    omega arith
+
+levels-old : (ds : List Definition) (v : Definition) (k : ℕ) → k < length ds → levelIn (ds ++ (v ∷ [])) k ≡ levelIn ds k
+unfolding levelIn
+levels-old ds v k h =
+    ap (λ (x : Definition). x .level) (List·getD-append ds (v ∷ []) (record { level = 0; body = fail }) k h)
+
+levels-new : (ds : List Definition) (v : Definition) (k : ℕ) → length ds ≡ k → levelIn (ds ++ (v ∷ [])) k ≡ v .level
+unfolding levelIn
+levels-new ds v k h = ap (λ (x : Definition). x .level) (getD-at ds v [] (record { level = 0; body = fail }) k h)
+
+roots-old : (ds : List Definition) (v : Definition) (k : ℕ) → k ≤ length ds
+    → sizes (take k (ds ++ (v ∷ []))) ≡ sizes (take k ds)
+roots-old ds v k h = ap sizes (take-append-le k ds (v ∷ []) h)
+
+-- ---- the definitions read so far
+
+-- one definition moves the number of the next term on
+abbrev nextTerm : ℕ → Definition → ℕ
+nextTerm n v = n + size (v .body)
+
+-- d definitions stand from place i to place p; the next term has number n; w₀ was the work area before them
+pub record Defined (sets : List SetDef) (l : List ℕ) (i : ℕ) (w₀ w : List ℕ) (d p n : ℕ) : Type 0 where
+  pub definitions : List Definition
+  pub parsed : Reads (definition sets) nextTerm 0 (tokensAt l i) definitions n (tokensAt l p)
+  pub counted : length definitions ≡ d
+  pub terms : n ≡ sizes definitions
+  pub few : n ≤ 1024
+  pub ends : p ≡ i + length (flatMap definitionNumbers definitions)
+  pub same : length w ≡ length w₀
+  pub words : (k : ℕ) → k < n → getD w (4096 + k) 0 ≡ wordOf sets k (getD (nodesFrom 0 i definitions) k noNode)
+  pub places : (k : ℕ) → k < n → getD w (5120 + k) 0 ≡ getD (nodesFrom 0 i definitions) k noNode .place
+  pub roots : (k : ℕ) → k < d → getD w (7232 + k) 0 ≡ sizes (take k definitions)
+  pub levels : (k : ℕ) → k < d → getD w (7265 + k) 0 ≡ levelIn definitions k
+  pub kept : (x : ℕ) → ((4096 ≤ x) × (x < 6144) → ⊥) → ((7232 ≤ x) × (x < 7297) → ⊥) → getD w x 0 ≡ getD w₀ x 0
+  pub within : p ≤ length l
+
+module _ (sets : List SetDef) (l : List ℕ) (i : ℕ) (w₀ : List ℕ) where
+  pub defined-first : i ≤ length l → Defined sets l i w₀ w₀ 0 i 0
+  unfolding sizes flatMap
+  defined-first h =
+      record {
+        definitions = [];
+        parsed = none;
+        counted = refl;
+        terms = refl;
+        few = omega arith;
+        ends = omega arith;
+        same = refl;
+        words = λ k h. absurd (omega arith);
+        places = λ k h. absurd (omega arith);
+        roots = λ k h. absurd (omega arith);
+        levels = λ k h. absurd (omega arith);
+        kept = λ x a b. refl;
+        within = h;
+      }
+
+  module _ (w w' : List ℕ) (d p n j m : ℕ) (small : d < 32) (a : Defined sets l i w₀ w d p n)
+      (b : DefinitionFound sets l d n p w w' j m) where
+    abbrev old : List Definition
+    old = a .definitions
+
+    abbrev more : List Definition
+    more = old ++ (b .value ∷ [])
+
+    split : nodesFrom 0 i more ≡ nodesFrom 0 i old ++ nodes (bodySpot d) (suc p) (b .value .body)
+    split =
+        let at' = i + length (flatMap definitionNumbers old) in
+        let u = a .counted in
+        let c : 0 + length old ≡ d = omega arith in
+        nodes-snoc 0 i old (b .value)
+        ∙ ap (λ (k : ℕ). nodesFrom 0 i old ++ nodes (bodySpot k) (suc at') (b .value .body)) c
+        ∙ ap (λ (k : ℕ). nodesFrom 0 i old ++ nodes (bodySpot d) (suc k) (b .value .body)) (sym (a .ends))
+
+    here : length (nodesFrom 0 i old) ≡ n
+    here = sizes-nodes 0 i old ∙ sym (a .terms)
+
+    old-node : (k : ℕ) → k < n → getD (nodesFrom 0 i more) k noNode ≡ getD (nodesFrom 0 i old) k noNode
+    old-node k h =
+        let e = here in
+        ap (λ (x : List Node). getD x k noNode) split
+        ∙ List·getD-append (nodesFrom 0 i old) (nodes (bodySpot d) (suc p) (b .value .body)) noNode k (omega arith)
+
+    new-node : (k : ℕ) → n ≤ k
+        → getD (nodesFrom 0 i more) k noNode ≡ getD (nodes (bodySpot d) (suc p) (b .value .body)) (k - n) noNode
+    new-node k h =
+        let e = here in
+        ap (λ (x : List Node). getD x k noNode) split
+        ∙ right-node (nodesFrom 0 i old) (nodes (bodySpot d) (suc p) (b .value .body)) k (omega arith)
+        ∙ ap (λ (x : ℕ). getD (nodes (bodySpot d) (suc p) (b .value .body)) (k - x) noNode) e
+
+    next-words : (k : ℕ) → k < m → Dec (k < n)
+        → getD w' (4096 + k) 0 ≡ wordOf sets k (getD (nodesFrom 0 i more) k noNode)
+    next-words k h (yes c) =
+        let f = b .few in
+        b .stored .kept (4096 + k) (λ z. omega arith) (λ z. omega arith) (λ z. omega arith) (λ z. omega arith)
+        ∙ a .words k c ∙ ap (wordOf sets k) (sym (old-node k c))
+    next-words k h (no c) =
+        let le : n ≤ k = omega arith in
+        let z : n + (k - n) ≡ k = omega arith in
+        let f = b .counted in
+        rw (new-node k le) (rw z at (b .stored .words (k - n) (omega arith)))
+
+    next-places : (k : ℕ) → k < m → Dec (k < n) → getD w' (5120 + k) 0 ≡ getD (nodesFrom 0 i more) k noNode .place
+    next-places k h (yes c) =
+        let f = b .few in
+        b .stored .kept (5120 + k) (λ z. omega arith) (λ z. omega arith) (λ z. omega arith) (λ z. omega arith)
+        ∙ a .places k c ∙ ap (λ (x : Node). x .place) (sym (old-node k c))
+    next-places k h (no c) =
+        let le : n ≤ k = omega arith in
+        let z : n + (k - n) ≡ k = omega arith in
+        let f = b .counted in
+        rw (new-node k le) (rw z at (b .stored .places (k - n) (omega arith)))
+
+    next-roots : (k : ℕ) → k < d + 1 → Dec (k < d) → getD w' (7232 + k) 0 ≡ sizes (take k more)
+    next-roots k h (yes c) =
+        let e = a .counted in
+        let f = b .few in
+        let g = b .counted in
+        b .stored .kept (7232 + k) (λ z. omega arith) (λ z. omega arith) (λ z. omega arith) (λ z. omega arith)
+        ∙ a .roots k c ∙ sym (roots-old old (b .value) k (omega arith))
+    next-roots k h (no c) =
+        let e = a .counted in
+        let z : k ≡ length old = omega arith in
+        let y : d ≡ k = omega arith in
+        (rw y at (b .stored .root)) ∙ a .terms
+        ∙ sym (roots-old old (b .value) k (omega arith) ∙ ap (λ (x : ℕ). sizes (take x old)) z
+        ∙ ap sizes (take-length old))
+
+    next-levels : (k : ℕ) → k < d + 1 → Dec (k < d) → getD w' (7265 + k) 0 ≡ levelIn more k
+    next-levels k h (yes c) =
+        let e = a .counted in
+        let f = b .few in
+        let g = b .counted in
+        b .stored .kept (7265 + k) (λ z. omega arith) (λ z. omega arith) (λ z. omega arith) (λ z. omega arith)
+        ∙ a .levels k c ∙ sym (levels-old old (b .value) k (omega arith))
+    next-levels k h (no c) =
+        let e = a .counted in
+        let y : d ≡ k = omega arith in
+        (rw y at (b .stored .level)) ∙ sym (levels-new old (b .value) k (omega arith))
+
+    pub defined-next : (d' : ℕ) → d' ≡ d + 1 → Defined sets l i w₀ w' d' j m
+    defined-next d' e =
+        let f = b .few in
+        let g = b .counted in
+        let t = a .terms in
+        let u = a .counted in
+        let q = a .ends in
+        let r = b .ends in
+        record {
+          definitions = more;
+          parsed = subst (λ (x : ℕ). Reads (definition sets) nextTerm 0 (tokensAt l i) more x (tokensAt l j)) (sym g)
+              (reads-snoc (definition sets) nextTerm (a .parsed) (b .parsed));
+          counted = length-append old (b .value ∷ []) ∙ omega arith;
+          terms = omega (arith, sizes-snoc old (b .value));
+          few = f;
+          ends = omega (arith, numbers-snoc old (b .value));
+          same = b .stored .same ∙ a .same;
+          words = λ k h. next-words k h (decLt k n);
+          places = λ k h. next-places k h (decLt k n);
+          roots = λ k h. next-roots k (omega arith) (decLt k d);
+          levels = λ k h. next-levels k (omega arith) (decLt k d);
+          kept = λ x y z. b .stored .kept x (λ h. y (omega arith)) (λ h. y (omega arith)) (λ h. z (omega arith))
+              (λ h. z (omega arith)) ∙ a .kept x y z;
+          within = b .within;
+        }
+
+  repeats : Repeats (definition sets) nextTerm (definitionsOf sets)
+  unfolding definitionsOf
+  repeats = record { nothing = λ s. refl; again = λ n s. refl }
+
+  module _ (w : List ℕ) (d p n count : ℕ) (a : Defined sets l i w₀ w d p n) where
+    pub defined-done : d ≡ count → DefinitionsFound sets l count i w₀ w p n
+    defined-done e =
+        record {
+          definitions = a .definitions;
+          parsed = rw (← e, ← a .counted)
+              (all-done (definition sets) nextTerm (definitionsOf sets) repeats (a .parsed));
+          counted = a .counted ∙ e;
+          terms = a .terms;
+          few = a .few;
+          same = a .same;
+          words = a .words;
+          places = a .places;
+          roots = λ k h. a .roots k (omega arith);
+          levels = λ k h. a .levels k (omega arith);
+          kept = a .kept;
+          within = a .within;
+        }
+
+    pub defined-stop : (r : Refusal) → d < count → Stops (definition sets n (tokensAt l p)) r
+        → Stops (definitionsOf sets count 0 (tokensAt l i)) r
+    defined-stop r h e =
+        let c = a .counted in
+        all-stop (definition sets) nextTerm (definitionsOf sets) repeats count (a .parsed) (omega arith) e
+
+pub defined-ready : (l w₀ w : List ℕ) (count i d p n : ℕ) → SetsReady l w₀ count → Defined (setsIn l) l i w₀ w d p n
+    → SetsReady l w count
+defined-ready l w₀ w count i d p n ready a = ready-kept l w₀ w count ready (a .same) (a .kept)
