@@ -1,4 +1,4 @@
--- A proof of each claim of `specs/Claims.antt`. Assumes nothing.
+-- A proof of each claim of `specs/Claims.antt`, in its order and under its name. Assumes nothing.
 use mathlib.Core.List.{List}
 use lib.ListN.{length}
 use Rattle.table.specs.Table.{Table}
@@ -9,14 +9,16 @@ use Rattle.table.specs.Writing.{numbersOf}
 use Rattle.table.specs.Grammar.Whole.{table-ok-sound, table-ok-complete}
 use Rattle.table.specs.Fields.Laws.{fields-in, fields-out}
 use Rattle.table.specs.Branches.Capped.{capped-all}
-use Rattle.table.specs.Resolve.Laws.{resolve-reach, reach-most}
+use Rattle.table.specs.Resolve.Laws as residuals
 use Rattle.table.specs.Judge.Laws.{AcceptedList, list-out, list-in, AcceptedBytes, bytes-out, bytes-in}
-use Rattle.table.specs.Marks.Whole.{table-numbers}
-use Rattle.table.specs.Refusals.AtNumbers.{refused-out, refused-in, marks-out, marks-in}
-use Rattle.table.specs.BytesRefused.Exact.{refused-bytes-out, refused-bytes-in}
+use Rattle.table.specs.Marks.Written.{table-numbers}
+use Rattle.table.specs.Refusals.AtNumbers.{refused-out, refused-in}
+use Rattle.table.specs.Marks.Exact.{marks-out, marks-in}
+use Rattle.table.specs.BytesRefused.Exact.{refused-bytes-out}
+use Rattle.table.specs.BytesRefused.Given.{refused-bytes-in}
 use Rattle.table.specs.Equations.{branches-call, resolve-call, width-level, resolve-count}
-use Rattle.table.specs.Examples.{numbers-hold, tables-hold, counts-hold, longs-hold, operations-hold}
-use Rattle.table.specs.Operations.Laws.{writes-back, reads-back, read-fills}
+use Rattle.table.specs.Examples.Laws.{numbers-hold, tables-hold, counts-hold, longs-hold, operations-hold}
+use Rattle.table.specs.Operations.Laws as operations
 use Rattle.table.specs.Claims.{NumberReadsBack, NumberCanonical, TableReadsBack, TableCanonical}
 use Rattle.table.specs.Claims.{AcceptedExactly, AcceptedBytesExactly, AcceptedWritesBack, WrittenReadsBack}
 use Rattle.table.specs.Claims.{RefusedExactly, RefusedBytesExactly, FieldsAreMarks}
@@ -70,19 +72,19 @@ fields-are-marks t = ((marks-out t, λ h. marks-in t (h .0) (h .1)), table-numbe
 
 pub accepted-writes-back : AcceptedWritesBack
 unfolding AcceptedWritesBack
-accepted-writes-back = writes-back
+accepted-writes-back = operations.writes-back
 
 pub written-reads-back : WrittenReadsBack
 unfolding WrittenReadsBack
-written-reads-back = reads-back
+written-reads-back = operations.reads-back
 
 pub resolved-reach : ResolvedReach
 unfolding ResolvedReach
-resolved-reach t r m p = resolve-reach t r m p
+resolved-reach t r m p = residuals.resolve-reach t r m p
 
-pub reach-most-8 : ReachMost
+pub reach-most : ReachMost
 unfolding ReachMost
-reach-most-8 t r d b = reach-most t r d b
+reach-most t r d b = residuals.reach-most t r d b
 
 pub capped-branches : CappedBranches
 unfolding CappedBranches
@@ -104,9 +106,9 @@ pub resolved-count : ResolvedCount
 unfolding ResolvedCount
 resolved-count = resolve-count
 
-pub read-keeps-length : ReadFills
+pub read-fills : ReadFills
 unfolding ReadFills
-read-keeps-length = read-fills
+read-fills = operations.read-fills
 
 pub examples : Examples
 unfolding Examples

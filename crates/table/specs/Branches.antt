@@ -1,8 +1,8 @@
--- Branches (01, "Openings"), in ℕ and without a cap.
---     branchesWith        of a term, where a call counts as given
---     allBranches      of each definition;  branches: of a term of a table
---     tooManyBranches  the lowest body or follower above 256 (refusal 9)
--- Assumes nothing.
+-- Branches, in ℕ and without a cap (01, "Openings"): in how many ways a term can go on.
+--     branchesWith       of a term, where a call counts as given
+--     allBranches        of each definition;  branches: of a term of a table
+--     tooManyBranches    the lowest body or follower above 256 (refusal 9)
+-- The laws are in `Branches/Laws.antt`. Assumes nothing.
 use Prim.Native.Nat.{ℕ, zero, suc, _+_, _*_}
 use mathlib.Core.Bool.{Bool, true, false}
 use mathlib.Core.List.{List, [], _∷_}

@@ -1,7 +1,7 @@
 -- Each refusal of bytes by its condition (01, "When the monitor declines"): that of the numbers written in them, at
 -- their byte places, and 4 and 6 by what stands after those numbers.
 --     bytePlace      the place of the i-th number: its first byte
---     Decoded        the numbers written in bytes from the start, and the bytes after, in which no number is well written
+--     Decoded        the numbers written in bytes from the start, and the bytes after them, which begin with no number
 --     RefusedBytes   the refusals
 -- Assumes nothing.
 use Prim.Native.Nat.{ℕ, _≤_, _<_}
@@ -15,7 +15,9 @@ use Rattle.numbers.specs.Number.{truncated, malformed, readNumber, listBytes}
 use Rattle.table.specs.Writing.{numbersOf}
 use Rattle.table.specs.Fields.{Fields}
 use Rattle.table.specs.Refusals.{Truncated, OutOfRange, TrailingInput, BadReference, TooWide, TooManyBranches}
+pub mod Stream
 pub mod Laws
+pub mod Given
 pub mod Exact
 pub mod Judged
 
@@ -28,25 +30,27 @@ pub record Decoded (s ns tail : List ℕ) : Type 0 where
   pub ends : (readNumber tail ≡ truncated) ⊎ (readNumber tail ≡ malformed)
 
 pub data RefusedBytes (s : List ℕ) (n at : ℕ) : Type 0 where
-  -- "2 long table", before the others
+  -- 2, "long table": "over 16,384 bytes", before the others
   long-bytes : n ≡ 2 → at ≡ 0 → 16384 < length s → RefusedBytes s n at
-  -- "3 cut short: input ends within the table", "input length"
+  -- 3, "cut short": "input ends within the table", at "input length"
   short-bytes : (ns tail : List ℕ) (k : ℕ) → n ≡ 3 → length s ≤ 16384 → Decoded s ns tail → Truncated ns k
       → readNumber tail ≡ truncated → at ≡ length s → RefusedBytes s n at
-  -- "4 loose number: a number not written as above", "its first byte"
+  -- 4, "loose number": "a number not written as above", at "its first byte"
   malformed-number : (ns tail : List ℕ) (k : ℕ) → n ≡ 4 → length s ≤ 16384 → Decoded s ns tail → Truncated ns k
       → readNumber tail ≡ malformed → at ≡ length (listBytes ns) → RefusedBytes s n at
-  -- "5 off scale"
+  -- 5, "off scale": "a field, order or term bound broken", at "that number, a term's kind"
   off-bytes : (ns tail : List ℕ) (i : ℕ) → n ≡ 5 → length s ≤ 16384 → Decoded s ns tail → OutOfRange ns i
       → at ≡ bytePlace ns i → RefusedBytes s n at
-  -- "6 left over: input after the table", a number or not, "first such"
+  -- 6, "left over": "input after the table", a number or not, at "first such"
   over-number : (ns tail : List ℕ) (i : ℕ) → n ≡ 6 → length s ≤ 16384 → Decoded s ns tail → TrailingInput ns i
       → at ≡ bytePlace ns i → RefusedBytes s n at
   over-bytes : (ns : List ℕ) (b : ℕ) (tail : List ℕ) (t : Table) → n ≡ 6 → length s ≤ 16384 → Decoded s ns (b ∷ tail)
       → Fields t → ns ≡ numbersOf t → at ≡ length (listBytes ns) → RefusedBytes s n at
-  -- "7 wrong reference"
+  -- 7, "wrong reference": "a reference rule broken", at "that number"
   wrong-bytes : (ns : List ℕ) (i : ℕ) → n ≡ 7 → length s ≤ 16384 → Decoded s ns [] → BadReference ns i
       → at ≡ bytePlace ns i → RefusedBytes s n at
-  -- "8 too many hands", "9 too many openings"
+  -- 8, "too many hands": "a level above 8", at "lowest level"
   wide-bytes : (ns : List ℕ) → n ≡ 8 → length s ≤ 16384 → Decoded s ns [] → TooWide ns at → RefusedBytes s n at
-  branches-bytes : (ns : List ℕ) → n ≡ 9 → length s ≤ 16384 → Decoded s ns [] → TooManyBranches ns at → RefusedBytes s n at
+  -- 9, "too many openings": "above 256", at "lowest such term"
+  branches-bytes : (ns : List ℕ) → n ≡ 9 → length s ≤ 16384 → Decoded s ns [] → TooManyBranches ns at
+      → RefusedBytes s n at

@@ -9,7 +9,7 @@
 --     FieldsAreMarks                      the field rules hold where each number keeps its own bound
 --     AcceptedWritesBack                  what Read accepts, Write writes back byte for byte
 --     WrittenReadsBack                    what Write writes, Read reads back number for number
---     ResolvedReach, ReachMost             a residual's leaves together have at most its term's reach, at most 8
+--     ResolvedReach, ReachMost            a residual's leaves together have at most its term's reach, at most 8
 --     CappedBranches                      branches counted to 257 only
 --     BranchesOfCall, ResolvedCall, WidthOfLevel, ResolvedCount    01's sentences on calls, as equations
 --     ReadFills                           Read's output keeps its length
@@ -40,7 +40,7 @@ use Rattle.table.specs.Equations.{callCount}
 use Rattle.table.specs.Examples.{every, numberRows, tableRows, countRows, longRows, operationRows}
 use Rattle.table.specs.Rules.{Rules}
 use Rattle.table.specs.Marks.{tableMarks, Shape}
-use Rattle.table.specs.Parser.Sees.{Mark, numbers, Pass}
+use Rattle.table.specs.Parser.Mark.{Mark, numbers, Pass}
 use Rattle.table.specs.Refusals.{Refused}
 use Rattle.table.specs.BytesRefused.{RefusedBytes}
 use Rattle.table.specs.Judge.{accepted, declined, judgeList, judgeBytes}
@@ -95,14 +95,18 @@ unfoldable pub ResolvedReach : Type 0
 ResolvedReach = (t : Table) → Rules t → (m : Memory) (p : Term) → All (λ r. reachSum t r ≤ reach t p) (resolve t m p)
 
 unfoldable pub ReachMost : Type 0
-ReachMost = (t : Table) → Rules t → (d : ℕ) → d < length (t .definitions) → Each (λ p. reach t p ≤ 8) (bodyIn (t .definitions) d)
+ReachMost =
+    (t : Table) → Rules t → (d : ℕ) → d < length (t .definitions)
+    → Each (λ p. reach t p ≤ 8) (bodyIn (t .definitions) d)
 
 unfoldable pub CappedBranches : Type 0
 CappedBranches = (ds : List Definition) → grow (nextCapped ds) (length ds) ≡ map capped (allBranches ds)
 
 -- "the openings of a call are those of the definition called"
 unfoldable pub BranchesOfCall : Type 0
-BranchesOfCall = (t : Table) → Rules t → (d : ℕ) → d < length (t .definitions) → branches t (call d) ≡ branches t (bodyIn (t .definitions) d)
+BranchesOfCall =
+    (t : Table) → Rules t → (d : ℕ) → d < length (t .definitions)
+    → branches t (call d) ≡ branches t (bodyIn (t .definitions) d)
 
 -- "call the settled body"
 unfoldable pub ResolvedCall : Type 0
@@ -111,7 +115,8 @@ ResolvedCall = (t : Table) → Rules t → (m : Memory) (d : ℕ) → d < length
 
 -- "call to its own level 1, to a lower level that level's hands. A level's hands are the largest among its bodies"
 unfoldable pub WidthOfLevel : Type 0
-WidthOfLevel = (t : Table) → Rules t → (l : ℕ) → l ≤ 7 → levelWidth t l ≡ widest (widthWith (callCount t l)) l (t .definitions)
+WidthOfLevel =
+    (t : Table) → Rules t → (l : ℕ) → l ≤ 7 → levelWidth t l ≡ widest (widthWith (callCount t l)) l (t .definitions)
 
 -- ours: branches are how many ways a term resolves
 unfoldable pub ResolvedCount : Type 0
@@ -122,4 +127,5 @@ unfoldable pub ReadFills : Type 0
 ReadFills = (s out work : List ℕ) → Bytes s → length (readOf s out work .output) ≡ length out
 
 unfoldable pub Examples : Type 0
-Examples = T (every numberRows) × T (every tableRows) × T (every countRows) × T (every longRows) × T (every operationRows)
+Examples =
+    T (every numberRows) × T (every tableRows) × T (every countRows) × T (every longRows) × T (every operationRows)

@@ -1,10 +1,10 @@
--- The sentences that define width, branches and settling through calls, as equations: the lists that the definitions
--- grow are their solution where the rules hold.
+-- The sentences that define width, branches and residuals through calls, as equations: the lists that the definitions
+-- grow are their solution where the rules hold (01, "Hands of a term", "Openings", "Residuals").
 --     branches-call    "the openings of a call are those of the definition called"
 --     branches-guarded  the same, from the one rule that it rests on
 --     resolve-call      "call the settled body"
 --     width-level      "call to its own level 1, to a lower level that level's hands"; "the largest among its bodies"
---     resolve-count     a term resolves in as many ways as it has branches
+--     resolve-count    a term has as many residuals as branches
 -- Assumes nothing.
 use Prim.Native.Nat.{ℕ, zero, suc, _+_, _*_, _≤_, _<_, max}
 use native.Mathlib.Omega.{arith}
@@ -17,7 +17,8 @@ use lib.ListN.{length, getD, length-append, length-map}
 use lib.Dec.{eqb}
 use borrow.Author.Tests.{eq-eqb, ne-eqb, eqb-true}
 use Rattle.numbers.specs.Every.{All, AllFrom, from-at}
-use Rattle.table.specs.Grow.{grow, length-grow, getD-grow, grow-stable}
+use Rattle.table.specs.Grow.{grow}
+use Rattle.table.specs.Grow.Laws.{length-grow, getD-grow, grow-stable}
 use Rattle.table.specs.Table.{SetRef, Term, stop, fail, prefix, choice, par, call, Definition, Table}
 use Rattle.table.specs.Context.{Context, outermost, underPrefix, underParallel, Throughout}
 use Rattle.table.specs.Fields.{OfCall, Fields}
@@ -25,7 +26,8 @@ use Rattle.table.specs.References.{levelIn}
 use Rattle.table.specs.Width.{widthWith, widest, callWidth, nextWidth, allWidths, levelWidth}
 use Rattle.table.specs.Branches.{branchesWith, lookup, bodyIn, nextBranches, allBranches, branches}
 use Rattle.table.specs.Rules.{InBodies, Rules}
-use Rattle.table.specs.Resolve.{Memory, noMemory, Residual, leaf, pair, pairs, resolveWith, resolved, nextResolved, allResolved, resolve}
+use Rattle.table.specs.Resolve.{Memory, noMemory, Residual, leaf, pair, pairs, resolveWith, resolved}
+use Rattle.table.specs.Resolve.{nextResolved, allResolved, resolve}
 
 -- a call with no prefix around it names a number below n
 abbrev Below : ℕ → Context → Term → Type 0
@@ -38,17 +40,20 @@ Guarded t = AllFrom (λ own x. Throughout (Below own) outermost (x .body)) 0 (t 
 below-body : (t : Table) → Guarded t → (d : ℕ) → d < length (t .definitions)
     → Throughout (Below d) outermost (bodyIn (t .definitions) d)
 unfolding bodyIn
-below-body t g d b = from-at (λ own x. Throughout (Below own) outermost (x .body)) _ 0 (t .definitions) g d d (omega arith) b
+below-body t g d b =
+    from-at (λ own x. Throughout (Below own) outermost (x .body)) _ 0 (t .definitions) g d d (omega arith) b
 
 -- ---- branches
 module _ (f g : ℕ → ℕ) (n : ℕ) (same : (e : ℕ) → e < n → f e ≡ g e) where
-  branches-agree : (c : Context) (p : Term) → c .prefixes ≡ 0 → Throughout (Below n) c p → branchesWith f p ≡ branchesWith g p
+  branches-agree : (c : Context) (p : Term) → c .prefixes ≡ 0 → Throughout (Below n) c p
+      → branchesWith f p ≡ branchesWith g p
   unfolding branchesWith
   branches-agree c stop z h = refl
   branches-agree c fail z h = refl
   branches-agree c (prefix r p) z h = refl
   branches-agree c (choice p q) z h = ap₂ _+_ (branches-agree c p z (h .1)) (branches-agree c q z (h .2))
-  branches-agree c (par r p q) z h = ap₂ _*_ (branches-agree (underParallel c) p z (h .1)) (branches-agree (underParallel c) q z (h .2))
+  branches-agree c (par r p q) z h =
+      ap₂ _*_ (branches-agree (underParallel c) p z (h .1)) (branches-agree (underParallel c) q z (h .2))
   branches-agree c (call e) z h = same e (h z)
 
 pub branches-guarded : (t : Table) → Guarded t → (d : ℕ) → d < length (t .definitions)
@@ -64,18 +69,21 @@ branches-guarded t g d b =
     (λ e h. unfold lookup in grow-stable f 0 d (length ds) e h (omega arith))
     outermost (bodyIn ds d) refl (below-body t g d b)
 
-pub branches-call : (t : Table) → Rules t → (d : ℕ) → d < length (t .definitions) → branches t (call d) ≡ branches t (bodyIn (t .definitions) d)
+pub branches-call : (t : Table) → Rules t → (d : ℕ) → d < length (t .definitions)
+    → branches t (call d) ≡ branches t (bodyIn (t .definitions) d)
 branches-call t r d b = branches-guarded t (r .calls-guarded) d b
 
--- ---- settling
+-- ---- resolve
 module _ (f g : ℕ → List Residual) (n : ℕ) (same : (e : ℕ) → e < n → f e ≡ g e) where
-  resolve-agree : (m : Memory) (c : Context) (p : Term) → c .prefixes ≡ 0 → Throughout (Below n) c p → resolveWith f m p ≡ resolveWith g m p
+  resolve-agree : (m : Memory) (c : Context) (p : Term) → c .prefixes ≡ 0 → Throughout (Below n) c p
+      → resolveWith f m p ≡ resolveWith g m p
   unfolding resolveWith
   resolve-agree m c stop z h = refl
   resolve-agree m c fail z h = refl
   resolve-agree m c (prefix r p) z h = refl
   resolve-agree m c (choice p q) z h = ap₂ _++_ (resolve-agree m c p z (h .1)) (resolve-agree m c q z (h .2))
-  resolve-agree m c (par r p q) z h = ap₂ (pairs m r) (resolve-agree m (underParallel c) p z (h .1)) (resolve-agree m (underParallel c) q z (h .2))
+  resolve-agree m c (par r p q) z h =
+      ap₂ (pairs m r) (resolve-agree m (underParallel c) p z (h .1)) (resolve-agree m (underParallel c) q z (h .2))
   resolve-agree m c (call e) z h = same e (h z)
 
 pub resolve-call : (t : Table) → Rules t → (m : Memory) (d : ℕ) → d < length (t .definitions)
@@ -92,6 +100,7 @@ resolve-call t r m d b =
     noMemory outermost (bodyIn ds d) refl (below-body t (r .calls-guarded) d b)
 
 -- ---- width
+
 -- what a call counts in level l: 1 for its own level, a lower level's width
 unfoldable pub callCount : Table → ℕ → ℕ → ℕ
 callCount t l e = cond (eqb (levelIn (t .definitions) e) l) 1 (levelWidth t (levelIn (t .definitions) e))
@@ -106,10 +115,12 @@ module _ (ds : List Definition) (f g : ℕ → ℕ) (l : ℕ) (same : (e : ℕ) 
   width-agree c fail h = refl
   width-agree c (prefix r p) h = width-agree (underPrefix c) p (h .1)
   width-agree c (choice p q) h = ap₂ max (width-agree c p (h .1)) (width-agree c q (h .2))
-  width-agree c (par r p q) h = ap₂ _+_ (width-agree (underParallel c) p (h .1)) (width-agree (underParallel c) q (h .2))
+  width-agree c (par r p q) h =
+      ap₂ _+_ (width-agree (underParallel c) p (h .1)) (width-agree (underParallel c) q (h .2))
   width-agree c (call e) h = same e h
 
-  pub widest-agree : (i : ℕ) (xs : List Definition) → AllFrom (λ own d. Throughout (Lower ds (d .level)) outermost (d .body)) i xs
+  pub widest-agree : (i : ℕ) (xs : List Definition)
+      → AllFrom (λ own d. Throughout (Lower ds (d .level)) outermost (d .body)) i xs
       → widest (widthWith f) l xs ≡ widest (widthWith g) l xs
   unfolding widest
   widest-agree i [] h = refl
@@ -120,7 +131,8 @@ module _ (ds : List Definition) (f g : ℕ → ℕ) (l : ℕ) (same : (e : ℕ) 
           ≡ cond b (max (widthWith g (d .body)) (widest (widthWith g) l xs)) (widest (widthWith g) l xs)
       go ih true e =
           let q : d .level ≡ l = eqb-true _ _ e in
-          ap₂ max (width-agree outermost (d .body) (subst (λ (k : ℕ). Throughout (Lower ds k) outermost (d .body)) q (h .0))) ih
+          ap₂ max (width-agree outermost (d .body)
+          (subst (λ (k : ℕ). Throughout (Lower ds k) outermost (d .body)) q (h .0))) ih
       go ih false e = ih
 
 call-agree : (t : Table) (l : ℕ) → l ≤ 7 → (e : ℕ) → levelIn (t .definitions) e ≤ l
@@ -128,19 +140,22 @@ call-agree : (t : Table) (l : ℕ) → l ≤ 7 → (e : ℕ) → levelIn (t .def
 unfolding callWidth callCount levelWidth allWidths
 call-agree t l b e h = go (decLt (levelIn (t .definitions) e) l)
   where
-    go : Dec (levelIn (t .definitions) e < l) → callWidth (t .definitions) (grow (nextWidth (t .definitions)) l) e ≡ callCount t l e
+    go : Dec (levelIn (t .definitions) e < l)
+        → callWidth (t .definitions) (grow (nextWidth (t .definitions)) l) e ≡ callCount t l e
     go (yes k) =
         let n = length-grow (nextWidth (t .definitions)) l in
         let x : (levelIn (t .definitions) e ≡ length (grow (nextWidth (t .definitions)) l) → ⊥) = λ q. omega arith in
         let y : (levelIn (t .definitions) e ≡ l → ⊥) = λ q. omega arith in
-        simp (ne-eqb _ _ x, ne-eqb _ _ y) (grow-stable (nextWidth (t .definitions)) 0 l 8 (levelIn (t .definitions) e) k (omega arith))
+        simp (ne-eqb _ _ x, ne-eqb _ _ y)
+        (grow-stable (nextWidth (t .definitions)) 0 l 8 (levelIn (t .definitions) e) k (omega arith))
     go (no k) =
         let n = length-grow (nextWidth (t .definitions)) l in
         let x : levelIn (t .definitions) e ≡ length (grow (nextWidth (t .definitions)) l) = omega arith in
         let y : levelIn (t .definitions) e ≡ l = omega arith in
         simp (eq-eqb _ _ x, eq-eqb _ _ y)
 
-pub width-level : (t : Table) → Rules t → (l : ℕ) → l ≤ 7 → levelWidth t l ≡ widest (widthWith (callCount t l)) l (t .definitions)
+pub width-level : (t : Table) → Rules t → (l : ℕ) → l ≤ 7
+    → levelWidth t l ≡ widest (widthWith (callCount t l)) l (t .definitions)
 unfolding levelWidth allWidths nextWidth
 width-level t r l b =
     let ds = t .definitions in
@@ -149,7 +164,7 @@ width-level t r l b =
     ∙ ap (λ (n : ℕ). widest (widthWith (callWidth ds (grow f l))) n ds) (length-grow f l)
     ∙ widest-agree ds (callWidth ds (grow f l)) (callCount t l) l (call-agree t l b) 0 ds (r .calls-level)
 
--- ---- how many ways
+-- ---- how many residuals
 length-pairs : (m : Memory) (r : SetRef) (ps qs : List Residual) → length (pairs m r ps qs) ≡ length ps * length qs
 unfolding pairs flatMap
 length-pairs m r [] qs = sym (zero-mul (length qs))
@@ -158,14 +173,18 @@ length-pairs m r (a ∷ ps) qs =
     ∙ ap₂ _+_ (length-map qs (pair m r a)) (length-pairs m r ps qs)
     ∙ let e = native.Mathlib.Nat.suc-mul (length ps) (length qs) in omega arith
 
-resolveWith-count : (calls : ℕ → List Residual) (m : Memory) (p : Term) → length (resolveWith calls m p) ≡ branchesWith (λ d. length (calls d)) p
+resolveWith-count : (calls : ℕ → List Residual) (m : Memory) (p : Term)
+    → length (resolveWith calls m p) ≡ branchesWith (λ d. length (calls d)) p
 unfolding resolveWith branchesWith
 resolveWith-count calls m stop = refl
 resolveWith-count calls m fail = refl
 resolveWith-count calls m (prefix r p) = refl
-resolveWith-count calls m (choice p q) = length-append (resolveWith calls m p) (resolveWith calls m q) ∙ ap₂ _+_ (resolveWith-count calls m p) (resolveWith-count calls m q)
+resolveWith-count calls m (choice p q) =
+    length-append (resolveWith calls m p) (resolveWith calls m q)
+    ∙ ap₂ _+_ (resolveWith-count calls m p) (resolveWith-count calls m q)
 resolveWith-count calls m (par r p q) =
-    length-pairs m r (resolveWith calls m p) (resolveWith calls m q) ∙ ap₂ _*_ (resolveWith-count calls m p) (resolveWith-count calls m q)
+    length-pairs m r (resolveWith calls m p) (resolveWith calls m q)
+    ∙ ap₂ _*_ (resolveWith-count calls m p) (resolveWith-count calls m q)
 resolveWith-count calls m (call d) = refl
 
 branches-same : (f g : ℕ → ℕ) → ((d : ℕ) → f d ≡ g d) → (p : Term) → branchesWith f p ≡ branchesWith g p

@@ -1,23 +1,18 @@
--- Worked inputs and what they are judged to be: 01's own, and the cases at its edges. Rows of one theorem, by computing.
--- Assumes nothing.
-use Prim.Native.Nat.{ℕ, zero, suc, _+_, _*_}
-use mathlib.Core.Bool.{Bool, true, false, cond, _&&_}
-use mathlib.Core.List.{List, [], _∷_, _++_, flatMap}
-use lib.ListN.{length, replicate}
-use lib.Dec.{T, eqb}
-use Rattle.table.specs.Table.{Table, size, sizes, termCount}
-use Rattle.numbers.specs.Number.{bytesOf, Scan, readNumber, listBytes, scanWith, carry, later, groups}
-use Rattle.table.specs.Tokens.{listTokens, byteToken, byteTokensWith, byteTokens, trailing, placeOf}
-use Rattle.table.specs.Parser.{number, pure, next, andThen, times}
-use Rattle.table.specs.Grammar.{events, row, setOfKind, set, refOfKind, setRef, termOfKind, termWith, definition, definitionsOf, table}
-use Rattle.table.specs.Writing.{rowNumbers, setNumbers, refNumbers, termNumbers, definitionNumbers, numbersOf}
-use Rattle.table.specs.First.{orElse, unless}
-use Rattle.table.specs.References.{levelIn, paramFits, callFits, wrongRef, wrongIn, wrongFrom, firstWrong}
-use Rattle.table.specs.Grow.{grow}
-use Rattle.table.specs.Width.{widthWith, widest, callWidth, nextWidth, allWidths, levelWidth, reach, firstAbove, tooWide}
-use Rattle.table.specs.Branches.{branchesWith, lookup, bodyIn, nextBranches, allBranches, branches, followerAbove, bodyAbove, tooManyBranches}
-use Rattle.table.specs.Operations.{Answer, done, refusal, Outcome, zeros, measured, readJudged, readOf, writeJudged, writeOf}
-use Rattle.table.specs.Judge.{Judgement, accepted, declined, unlessMet, placed, judgeRead, judge, judgeBytes, sized, judgeList}
+-- Worked inputs and what they are judged to be: 01's own and the cases at its edges, as rows of computed tests.
+--     verdict, bytesAre, listIs    a judgement as two numbers; what bytes, a number list are judged to be
+--     numberRows, tableRows        numbers and whole tables
+--     countRows                    width, branches and the number of terms
+--     longRows, operationRows      "long table" on a list; Read and Write
+-- That every row holds is in `Examples/Laws.antt`. Assumes nothing.
+use Prim.Native.Nat.{ℕ, zero, suc}
+use mathlib.Core.Bool.{Bool, true, _&&_}
+use mathlib.Core.List.{List, [], _∷_, _++_}
+use lib.ListN.{length}
+use lib.Dec.{eqb}
+use Rattle.numbers.specs.Number.{bytesOf}
+use Rattle.table.specs.Judge.{Judgement, accepted, declined, judgeBytes, judgeList}
+use Rattle.table.specs.Operations.{Answer, done, refusal, Outcome, zeros, readOf, writeOf}
+pub mod Laws
 
 -- a judgement as two numbers: refusal and place, or 0 and how many numbers the table has
 pub record Verdict : Type 0 where
@@ -41,7 +36,9 @@ abbrev pub every : List Bool → Bool
 every [] = true
 every (b ∷ bs) = b && every bs
 
--- Table B of 01
+-- ---- numbers and tables
+
+-- 01, "The program and its lines": "Table B"
 abbrev pub tableB : List ℕ
 tableB = 3 ∷ 2 ∷ 0 ∷ 1 ∷ 0 ∷ 0 ∷ 1 ∷ 1 ∷ 1 ∷ 0 ∷ 2 ∷ 0 ∷ 2 ∷ 1 ∷ 5 ∷ 0 ∷ []
 
@@ -64,6 +61,8 @@ abbrev pub beside : ℕ → List ℕ → List ℕ
 beside zero p = p
 beside (suc n) p = 4 ∷ 0 ∷ 0 ∷ beside n p
 
+-- 01, "Numbers and table": "127 is `7F`, 128 is `80 01`, 65,535 is `FF FF 03`; `80 00` and `FF FF 04` are loose, as is
+-- a third byte above `03` even at the input's end"
 unfoldable pub numberRows : List Bool
 numberRows =
     bytesAre (128 ∷ []) 3 1
@@ -80,6 +79,7 @@ numberRows =
     ∷ eqb (length (bytesOf 65535)) 3
     ∷ []
 
+-- 01, "Drawings on the wall": "a body nested 32 deep is read, 33 deep is 5"; refusals 5, 6 and 7 at their places
 unfoldable pub tableRows : List Bool
 tableRows =
     bytesAre tableB 0 16
@@ -103,11 +103,14 @@ tableRows =
     ∷ bytesAre (S0 ++ (1 ∷ 0 ∷ deep 32)) 5 71
     ∷ []
 
--- a choice of 2^n STOPs; n parallel STOPs over set 0 beside a term; eight calls of d in a choice
+-- ---- width, branches and the number of terms
+
+-- a choice of 2^n STOPs
 abbrev pub balanced : ℕ → List ℕ
 balanced zero = 0 ∷ []
 balanced (suc n) = let b = balanced n in 3 ∷ (b ++ b)
 
+-- eight calls of d in a choice
 abbrev pub eightCalls : ℕ → List ℕ
 eightCalls d =
     let c : List ℕ = 5 ∷ d ∷ [] in 3 ∷ 3 ∷ 3 ∷ (c ++ c ++ (3 ∷ (c ++ c)) ++ (3 ∷ 3 ∷ (c ++ c)) ++ (3 ∷ (c ++ c)))
@@ -117,12 +120,12 @@ abbrev pub callsBeside : ℕ → List ℕ
 callsBeside zero = 5 ∷ 0 ∷ []
 callsBeside (suc n) = 4 ∷ 0 ∷ 5 ∷ 0 ∷ callsBeside n
 
--- def i = choice of eight calls of i - 1, for i from d on
+-- n definitions from number d + 1 on, each a choice of eight calls of the one before it
 abbrev pub tower : ℕ → ℕ → List ℕ
 tower d zero = []
 tower d (suc n) = 0 ∷ (eightCalls d ++ tower (suc d) n)
 
--- width and branches (01, "Hands of a term", "Openings"; "256 openings stand, 257 is 9")
+-- 01, "Hands of a term", "at most 8"; "256 openings stand, 257 is 9"; "at most 1,024"
 unfoldable pub countRows : List Bool
 countRows =
     listIs (S0 ++ (1 ∷ 2 ∷ beside 8 (1 ∷ []))) 8 2
@@ -139,23 +142,14 @@ countRows =
     ∷ listIs (S0 ++ (3 ∷ 0 ∷ balanced 9) ++ (0 ∷ 0 ∷ 0 ∷ 0 ∷ [])) 5 1033
     ∷ []
 
-pub numbers-hold : T (every numberRows)
-unfolding numberRows bytesAre judgeBytes judge judgeRead byteTokens byteTokensWith byteToken readNumber scanWith carry later table number andThen next bytesOf groups
-numbers-hold = tt
+-- ---- the order of 2 on a list
 
-pub tables-hold : T (every tableRows)
-unfolding tableRows bytesAre listIs judgeBytes judge judgeRead byteTokens byteTokensWith byteToken readNumber scanWith carry later table number andThen next pure times events row setOfKind set refOfKind setRef termOfKind termWith definition definitionsOf size listTokens unlessMet placed placeOf trailing firstWrong wrongFrom wrongIn wrongRef paramFits callFits levelIn orElse unless rowNumbers setNumbers refNumbers termNumbers definitionNumbers flatMap numbersOf widthWith widest callWidth nextWidth allWidths grow firstAbove tooWide branchesWith lookup bodyIn nextBranches allBranches followerAbove bodyAbove tooManyBranches judgeList sized listBytes bytesOf groups
-tables-hold = tt
-
-pub counts-hold : T (every countRows)
-unfolding countRows bytesAre listIs judgeBytes judge judgeRead byteTokens byteTokensWith byteToken readNumber scanWith carry later table number andThen next pure times events row setOfKind set refOfKind setRef termOfKind termWith definition definitionsOf size listTokens unlessMet placed placeOf trailing firstWrong wrongFrom wrongIn wrongRef paramFits callFits levelIn orElse unless rowNumbers setNumbers refNumbers termNumbers definitionNumbers flatMap numbersOf widthWith widest callWidth nextWidth allWidths grow firstAbove tooWide branchesWith lookup bodyIn nextBranches allBranches followerAbove bodyAbove tooManyBranches judgeList sized listBytes bytesOf groups
-counts-hold = tt
-
--- the events 0 to n - 1 before a list; so many copies of a list
+-- the events 0 to n - 1 before a list
 abbrev pub upTo : ℕ → List ℕ → List ℕ
 upTo zero l = l
 upTo (suc n) l = upTo n (n ∷ l)
 
+-- so many copies of a list
 abbrev pub copies : ℕ → List ℕ → List ℕ
 copies zero l = []
 copies (suc n) l = l ++ copies n l
@@ -164,22 +158,21 @@ copies (suc n) l = l ++ copies n l
 abbrev pub fullSets : ℕ → List ℕ
 fullSets n = 64 ∷ n ∷ copies n (1 ∷ copies 64 (64 ∷ upTo 64 []))
 
--- 3 to 9 come before 2 on a list
+-- 01, "When the monitor declines": "2 (its bytes would be too many) stands right after 9"
 unfoldable pub longRows : List Bool
 longRows =
     listIs (fullSets 4 ++ (1 ∷ 0 ∷ 0 ∷ [])) 2 0
     ∷ listIs (fullSets 4 ++ (1 ∷ 0 ∷ 5 ∷ 9 ∷ [])) 7 16649
     ∷ []
 
-pub longs-hold : T (every longRows)
-unfolding longRows listIs judge judgeRead table number andThen next pure times events row setOfKind set refOfKind setRef termOfKind termWith definition definitionsOf size listTokens unlessMet placed placeOf trailing firstWrong wrongFrom wrongIn wrongRef paramFits callFits levelIn orElse unless rowNumbers setNumbers refNumbers termNumbers definitionNumbers flatMap numbersOf widthWith widest callWidth nextWidth allWidths grow firstAbove tooWide branchesWith lookup bodyIn nextBranches allBranches followerAbove bodyAbove tooManyBranches judgeList sized listBytes bytesOf groups
-longs-hold = tt
+-- ---- Read and Write
 
--- "Write's short output is 1, last of all"; lent lengths first (01, "When the monitor declines")
+-- an answer as two numbers: refusal and place, or 0 and the count
 abbrev pub answers : Answer → ℕ → ℕ → Bool
 answers (done n) m at = eqb m 0 && eqb n at
 answers (refusal n p) m at = eqb n m && eqb p at
 
+-- 01, "When the monitor declines": "Write's short output is 1, last of all"; lent lengths come first
 unfoldable pub operationRows : List Bool
 operationRows =
     answers (writeOf tableB [] (zeros 8192) .answer) 1 0
@@ -191,7 +184,3 @@ operationRows =
     ∷ answers (readOf (128 ∷ 0 ∷ []) (zeros 16384) (zeros 8192) .answer) 4 0
     ∷ answers (readOf (zeros 16385) (zeros 16384) (zeros 8192) .answer) 2 0
     ∷ []
-
-pub operations-hold : T (every operationRows)
-unfolding operationRows readOf writeOf measured readJudged writeJudged judgeBytes byteTokens byteTokensWith byteToken readNumber scanWith carry later judge judgeRead table number andThen next pure times events row setOfKind set refOfKind setRef termOfKind termWith definition definitionsOf size listTokens unlessMet placed placeOf trailing firstWrong wrongFrom wrongIn wrongRef paramFits callFits levelIn orElse unless rowNumbers setNumbers refNumbers termNumbers definitionNumbers flatMap numbersOf widthWith widest callWidth nextWidth allWidths grow firstAbove tooWide branchesWith lookup bodyIn nextBranches allBranches followerAbove bodyAbove tooManyBranches judgeList sized listBytes bytesOf groups
-operations-hold = tt

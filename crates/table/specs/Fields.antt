@@ -1,13 +1,14 @@
 -- The rules that a single number breaks (01, "Numbers and table"; refusal 5): bounds, order, terms.
 --     Ascending, EachRow, RefExists, ParamSmall, depthOf   what the rules speak of
 --     Fields                                               the rules
--- Assumes nothing.
+-- The laws are in `Fields/Laws.antt`. Assumes nothing.
 use Prim.Native.Nat.{ℕ, suc, _≤_, _<_, max}
 use mathlib.Core.Path.{_≡_}
 use mathlib.Core.List.{List, [], _∷_}
 use lib.ListN.{length, getD}
 use Rattle.numbers.specs.Every.{All}
-use Rattle.table.specs.Table.{SetRef, fixed, family, Term, stop, fail, prefix, choice, par, call, SetDef, one, each, Definition, Table, termCount}
+use Rattle.table.specs.Table.{SetRef, fixed, family, Term, stop, fail, prefix, choice, par, call, SetDef, one}
+use Rattle.table.specs.Table.{each, Definition, Table, termCount}
 use Rattle.table.specs.Context.{Each}
 pub mod Laws
 

@@ -1,7 +1,7 @@
 -- Refusals 2 to 9 in their order (01, "When the monitor declines"): what a list of numbers, or of bytes, is.
 --     Judgement     accepted, with its numbers and its table, or refused with number and place
 --     judgeBytes    of bytes (Read);  judgeList: of a number list (Write, Start, Feed, Offer)
--- Assumes nothing.
+-- The laws are in `Judge/Laws.antt`. Assumes nothing.
 use Prim.Native.Nat.{ℕ}
 use mathlib.Core.Bool.{Bool, true, false, cond}
 use mathlib.Core.List.{List}
@@ -42,7 +42,7 @@ judgeRead ts (got t rest) =
 unfoldable pub judge : Tokens → Judgement
 judge ts = judgeRead ts (table ts)
 
--- "2 long table: over 16,384 bytes", before all the others on bytes
+-- refusal 2, "long table": "over 16,384 bytes", before all the others on bytes
 unfoldable pub judgeBytes : List ℕ → Judgement
 judgeBytes s = cond (ltb 16384 (length s)) (declined 2 0) (judge (byteTokens s))
 

@@ -1,10 +1,12 @@
-pub mod Grow
+-- The table layer, in reading order: the table, its inputs and its grammar; the rules and the refusals; Read and Write;
+-- then the contracts of the code; then the examples and what is proved. The laws of each file stand below it.
 pub mod Table
 pub mod Tokens
 pub mod Parser
 pub mod Grammar
 pub mod Writing
 pub mod First
+pub mod Grow
 pub mod Context
 pub mod Fields
 pub mod References

@@ -1,9 +1,9 @@
 -- A table's writing with, beside each number, whether it keeps its own bound (01, "Numbers and table"; refusal 5).
 --     eventMarks .. tableMarks   the marked writings, beside `Writing`'s
---     Shape                      what no single number shows: how many rows a kind 1 set has, and that a set reference has
---                                a parameter just when its set is of kind 1
+--     Shape                      what no single number shows: how many rows a kind 1 set has, and that a set reference
+--                                has a parameter just when its set is of kind 1
 --     Open, Fits                 numbers that begin a writing and pass; and that do not, or do, make it whole
--- Assumes nothing.
+-- That the grammar sees them so is in `Marks/Whole.antt`. Assumes nothing.
 use Prim.Native.Nat.{ℕ, zero, suc, _+_, _<_}
 use mathlib.Core.Path.{_≡_}
 use mathlib.Core.Bool.{Bool, true, false, _&&_}
@@ -11,13 +11,20 @@ use mathlib.Core.List.{List, [], _∷_, _++_, flatMap}
 use lib.ListN.{length, getD}
 use lib.Dec.{ltb, leb}
 use Rattle.numbers.specs.Every.{All}
-use Rattle.table.specs.Table.{SetRef, fixed, family, Term, stop, fail, prefix, choice, par, call, SetDef, one, each, Definition, Table, size}
+use Rattle.table.specs.Table.{SetRef, fixed, family, Term, stop, fail, prefix, choice, par, call, SetDef, one}
+use Rattle.table.specs.Table.{each, Definition, Table, size}
 use Rattle.table.specs.Context.{Each}
 use Rattle.table.specs.Fields.{FamilyRows, IsOne, IsEach, OfRef}
-use Rattle.table.specs.Parser.Sees.{Mark, mark, numbers, Pass}
+use Rattle.table.specs.Parser.Mark.{Mark, mark, numbers, Pass}
+pub mod Sequence
 pub mod Sets
+pub mod References
+pub mod TooDeep
 pub mod Terms
+pub mod Definitions
 pub mod Whole
+pub mod Written
+pub mod Exact
 
 -- "events are 0 to A-1", "strictly ascending"
 unfoldable pub eventMarks : ℕ → ℕ → List ℕ → List Mark
@@ -49,9 +56,11 @@ oneLess (suc deep) = deep
 unfoldable pub termMarks : List SetDef → ℕ → ℕ → Term → List Mark
 termMarks sets deep n stop = mark 0 (kindOk deep n) ∷ []
 termMarks sets deep n fail = mark 1 (kindOk deep n) ∷ []
-termMarks sets deep n (prefix r p) = mark 2 (kindOk deep n) ∷ (refMarks sets r ++ termMarks sets (oneLess deep) (suc n) p)
+termMarks sets deep n (prefix r p) =
+    mark 2 (kindOk deep n) ∷ (refMarks sets r ++ termMarks sets (oneLess deep) (suc n) p)
 termMarks sets deep n (choice p q) =
-    mark 3 (kindOk deep n) ∷ (termMarks sets (oneLess deep) (suc n) p ++ termMarks sets (oneLess deep) (suc n + size p) q)
+    mark 3 (kindOk deep n)
+    ∷ (termMarks sets (oneLess deep) (suc n) p ++ termMarks sets (oneLess deep) (suc n + size p) q)
 termMarks sets deep n (par r p q) =
     mark 4 (kindOk deep n)
     ∷ (refMarks sets r ++ (termMarks sets (oneLess deep) (suc n) p ++ termMarks sets (oneLess deep) (suc n + size p) q))

@@ -1,7 +1,7 @@
 -- Read and Write, whole: answer, output and work words on every input (01, "Operations"; refusals 1 to 9).
 --     Answer, Outcome   a count, or a refusal with its place; and what stands in the lent areas afterwards
 --     readOf, writeOf   what Read and Write give
--- Assumes nothing.
+-- The laws are in `Operations/Laws.antt`. Assumes nothing.
 use Prim.Native.Nat.{ℕ, _-_}
 use mathlib.Core.Bool.{Bool, true, false, cond, _&&_}
 use mathlib.Core.List.{List, [], _∷_, _++_}
@@ -35,7 +35,7 @@ readJudged (accepted ns t) =
     record { answer = done (length ns); output = ns ++ zeros (16384 - length ns); work = zeros 8192 }
 readJudged (declined n at) = record { answer = refusal n at; output = zeros 16384; work = zeros 8192 }
 
--- "wrong measure: a lent length is not as above", place 0, all kept
+-- refusal 1, "wrong measure": "a lent length is not as above", place 0, all kept
 unfoldable pub readOf : List ℕ → List ℕ → List ℕ → Outcome
 readOf s out work =
     let judged = readJudged (judgeBytes s) in

@@ -1,4 +1,4 @@
--- Scan from a stream of numbers, with refusals 3 to 5 at each number (01, "When the monitor declines").
+-- Parsers over a stream of numbers, with refusals 3 to 5 at each number (01, "When the monitor declines").
 --     Result, Parser     what was read and the rest of the stream, or a refusal with its place
 --     number             one number that passes a test
 --     pure, andThen      nothing; one thing and then another that depends on it
@@ -10,7 +10,9 @@ use mathlib.Core.List.{List, [], _∷_}
 use Rattle.table.specs.Tokens.{Tokens, token, ended, broken}
 pub mod Laws
 pub mod Local
+pub mod Mark
 pub mod Sees
+pub mod SeesThen
 pub mod Steps
 
 pub data Result (A : Type 0) : Type 0 where

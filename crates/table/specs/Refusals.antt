@@ -1,10 +1,12 @@
--- Each refusal by its condition (01, "When the monitor declines"), in terms of tables and not of the parser.
---     links        for each number of a table's writing: whether it keeps the rules on references
---     fewTerms     for each term, in reading order: whether it is no body or follower, or has at most 256 branches
---     narrowLevels     for each level: whether its width are at most 8
---     Truncated, OutOfRange           conditions 3 and 5 of a number list
---     TrailingInput, BadReference, TooWide, TooManyBranches, TooLong     conditions 6, 7, 8, 9, 2 of a number list
--- Assumes nothing.
+-- Each refusal of a number list by its condition (01, "When the monitor declines"), in terms of tables and not of the
+-- parser.
+--     links           for each number of a table's writing: whether it keeps the rules on references
+--     fewTerms        for each term, in reading order: whether it is no body or follower, or has at most 256 branches
+--     narrowLevels    for each level: whether its width is at most 8
+--     Truncated, OutOfRange, TrailingInput                conditions 3, 5 and 6
+--     BadReference, TooWide, TooManyBranches, TooLong     conditions 7, 8, 9 and 2
+--     Refused         all of them
+-- The laws are in `Refusals/Laws.antt`, `Exact.antt` and `AtNumbers.antt`. Assumes nothing.
 use Prim.Native.Nat.{ℕ, suc, _+_, _≤_, _<_}
 use mathlib.Core.Path.{_≡_}
 use mathlib.Core.Bool.{Bool, true, false}
@@ -12,7 +14,8 @@ use mathlib.Core.List.{List, [], _∷_, _++_, flatMap, map}
 use lib.ListN.{length, replicate}
 use lib.Dec.{leb}
 use Rattle.table.specs.First.{FirstAt, AllPass}
-use Rattle.table.specs.Table.{SetRef, fixed, family, Term, stop, fail, prefix, choice, par, call, Definition, Table}
+use Rattle.table.specs.Table.{SetRef, fixed, family, Term, stop, fail, prefix, choice, par, call, Definition}
+use Rattle.table.specs.Table.{Table}
 use Rattle.numbers.specs.Number.{listBytes}
 use Rattle.table.specs.Context.{Context, outermost, underPrefix, underParallel}
 use Rattle.table.specs.Writing.{setNumbers, numbersOf}
@@ -23,9 +26,13 @@ use Rattle.table.specs.Branches.{branchesWith, lookup, allBranches}
 use Rattle.table.specs.Rules.{Rules}
 use Rattle.table.specs.Marks.{Open, Fits}
 pub mod Laws
+pub mod Judged
+pub mod Stops
 pub mod Exact
 pub mod AtNumbers
 pub mod Terms
+
+-- ---- tests, number by number, term by term and level by level
 
 -- beside `refNumbers`, `termNumbers`, `numbersOf`
 unfoldable pub refLinks : Context → SetRef → List Bool
@@ -67,13 +74,15 @@ fewTerms t = fewFrom (lookup (allBranches (t .definitions))) (t .definitions)
 unfoldable pub narrowLevels : Table → List Bool
 narrowLevels t = map (λ n. leb n 8) (allWidths (t .definitions))
 
--- "cut short: input ends within the table", "input length"
+-- ---- conditions
+
+-- 3, "cut short": "input ends within the table", at "input length"
 pub record Truncated (l : List ℕ) (at : ℕ) : Type 0 where
   pub within : Open l
   pub place : at ≡ length l
 
--- "off scale: a field, order or term bound broken", "that number, a term's kind": the numbers before it begin a table, and
--- with it they do not
+-- 5, "off scale": "a field, order or term bound broken", at "that number, a term's kind": the numbers before it begin a
+-- table, and with it they do not
 pub record OutOfRange (l : List ℕ) (at : ℕ) : Type 0 where
   pub front : List ℕ
   pub number : ℕ
@@ -83,7 +92,7 @@ pub record OutOfRange (l : List ℕ) (at : ℕ) : Type 0 where
   pub broken : Fits (front ++ (number ∷ [])) → ⊥
   pub place : at ≡ length front
 
--- "left over: input after the table", "first such"
+-- 6, "left over": "input after the table", at "first such"
 pub record TrailingInput (l : List ℕ) (at : ℕ) : Type 0 where
   pub table : Table
   pub first : ℕ
@@ -92,14 +101,14 @@ pub record TrailingInput (l : List ℕ) (at : ℕ) : Type 0 where
   pub numbers : l ≡ numbersOf table ++ (first ∷ more)
   pub place : at ≡ length (numbersOf table)
 
--- "wrong reference: a reference rule broken", "that number", "from the left"
+-- 7, "wrong reference": "a reference rule broken", at "that number", "from the left"
 pub record BadReference (l : List ℕ) (at : ℕ) : Type 0 where
   pub table : Table
   pub fields : Fields table
   pub numbers : l ≡ numbersOf table
   pub wrong : FirstAt at (links table)
 
--- "too many hands: a level above 8", "lowest level"
+-- 8, "too many hands": "a level above 8", at "lowest level"
 pub record TooWide (l : List ℕ) (at : ℕ) : Type 0 where
   pub table : Table
   pub fields : Fields table
@@ -107,7 +116,7 @@ pub record TooWide (l : List ℕ) (at : ℕ) : Type 0 where
   pub linked : AllPass (links table)
   pub wrong : FirstAt at (narrowLevels table)
 
--- "too many openings: above 256", "lowest such term"
+-- 9, "too many openings": "above 256", at "lowest such term"
 pub record TooManyBranches (l : List ℕ) (at : ℕ) : Type 0 where
   pub table : Table
   pub fields : Fields table
@@ -116,7 +125,7 @@ pub record TooManyBranches (l : List ℕ) (at : ℕ) : Type 0 where
   pub narrow : AllPass (narrowLevels table)
   pub wrong : FirstAt at (fewTerms table)
 
--- "2 (its bytes would be too many) stands right after 9"
+-- 2, "long table", of a list: "2 (its bytes would be too many) stands right after 9"
 pub record TooLong (l : List ℕ) (at : ℕ) : Type 0 where
   pub table : Table
   pub numbers : l ≡ numbersOf table

@@ -1,8 +1,8 @@
--- Settling (01, "Residuals"), on terms.
+-- The residuals of a term (01, "Residuals", where resolving is called settling).
 --     Memory, Residual    four events; a tree of resolved terms with their memories
---     resolveWith          of a term, where a call resolves as given;  resolve: of a term of a table
+--     resolveWith         of a term, where a call resolves as given;  resolve: of a term of a table
 --     reachSum            the reach of a residual's leaves
--- Assumes nothing.
+-- The laws are in `Resolve/Laws.antt`. Assumes nothing.
 use Prim.Native.Nat.{ℕ, _+_}
 use mathlib.Core.List.{List, [], _∷_, _++_, map, flatMap}
 use lib.ListN.{length, getD}

@@ -17,7 +17,8 @@ pub data SetRef : Type 0 where
   fixed : ℕ → SetRef
   family : ℕ → ℕ → SetRef
 
--- "Term kinds by number: 0 STOP, 1 FAIL, 2 prefix, 3 choice, 4 parallel, 5 call"
+-- "Term kinds by number: 0 STOP, 1 FAIL, 2 prefix (set reference, term), 3 choice (two terms), 4 parallel (set
+-- reference, two terms), 5 call (definition number)"
 pub data Term : Type 0 where
   stop fail : Term
   prefix : SetRef → Term → Term
@@ -39,7 +40,9 @@ pub record Table : Type 0 where
   pub sets : List SetDef
   pub definitions : List Definition
 
--- The number of terms in a term, itself included.
+-- ---- the number of terms
+
+-- the number of terms in a term, itself included
 unfoldable pub size : Term → ℕ
 size stop = 1
 size fail = 1
@@ -58,11 +61,13 @@ termCount t = sizes (t .definitions)
 unfoldable pub bodyOf : Table → ℕ → Term
 bodyOf t d = (getD (t .definitions) d (record { level = 0; body = fail })) .body
 
--- "Terms are numbered from 0 in reading order over the table": the number of definition d's body.
+-- "Terms are numbered from 0 in reading order over the table": the number of definition d's body
 unfoldable pub bodyNumber : Table → ℕ → ℕ
 bodyNumber t d = sizes (take d (t .definitions))
 
--- The term that stands n terms into a term, in reading order.
+-- ---- the term of a number
+
+-- the term that stands n terms into a term, in reading order
 unfoldable pub termIn : Term → ℕ → Option Term
 termIn stop n = elim (eqb n 0) [ true ↦ some stop | false ↦ none ]
 termIn fail n = elim (eqb n 0) [ true ↦ some fail | false ↦ none ]
@@ -79,7 +84,7 @@ termIn (par r p q) n =
     ]
 termIn (call d) n = elim (eqb n 0) [ true ↦ some (call d) | false ↦ none ]
 
--- The term of a number; none from the term count on.
+-- the term of a number; none from the term count on
 unfoldable pub termOfDefs : List Definition → ℕ → Option Term
 termOfDefs [] n = none
 termOfDefs (d ∷ ds) n =
@@ -88,7 +93,9 @@ termOfDefs (d ∷ ds) n =
 unfoldable pub termAt : Table → ℕ → Option Term
 termAt t n = termOfDefs (t .definitions) n
 
--- The number of prefixes around the term that stands n terms into a term, d of them outside it.
+-- ---- the prefixes around it, and its definition
+
+-- the number of prefixes around the term that stands n terms into a term, d of them outside it
 unfoldable pub prefixesIn : Term → ℕ → ℕ → ℕ
 prefixesIn stop d n = d
 prefixesIn fail d n = d
@@ -113,7 +120,7 @@ enclosingIn (d ∷ ds) n =
 unfoldable pub enclosing : Table → ℕ → ℕ
 enclosing t n = enclosingIn (t .definitions) n
 
--- The definition in which the term of a number stands.
+-- the definition in which the term of a number stands
 unfoldable pub homeIn : List Definition → ℕ → ℕ
 homeIn [] n = 0
 homeIn (d ∷ ds) n = elim (ltb n (size (d .body))) [ true ↦ 0 | false ↦ suc (homeIn ds (n - size (d .body))) ]

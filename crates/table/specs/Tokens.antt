@@ -1,10 +1,10 @@
 -- Both inputs as one stream of numbers with their places (01, "When the monitor declines": "Place").
 --     Tokens       numbers with places, and why there are no more
 --     tokensAt     of a number list from a place on
---     byteTokens   of bytes, at byte places;  listTokens   of a number list, at list places, never loose
+--     byteTokens   of bytes, at byte places;  listTokens: of a number list, at list places
 --     trailing     the place of the first input after this point, if there is any
 --     placeOf      the place of the i-th number of a stream
--- Assumes nothing.
+-- The laws are in `Tokens/Laws.antt`. Assumes nothing.
 use Prim.Native.Nat.{ℕ, zero, suc, _+_}
 use mathlib.Core.Bool.{Bool, true, false, cond}
 use mathlib.Core.List.{List, [], _∷_}
@@ -43,7 +43,7 @@ byteTokensWith (suc f) at s = byteToken (readNumber s) at (length s) (λ next re
 unfoldable pub byteTokens : List ℕ → Tokens
 byteTokens s = byteTokensWith (length s) 0 s
 
--- "left over: input after the table", "first such"
+-- refusal 6, "left over": "input after the table", "first such"
 unfoldable pub trailing : Tokens → Option ℕ
 trailing (token v at ts) = some at
 trailing (ended at end) = cond (eqb at end) none (some at)

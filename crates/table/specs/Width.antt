@@ -1,8 +1,8 @@
--- Width and reach (01, "Hands of a term"), in ℕ and without a cap.
+-- Width and reach, in ℕ and without a cap (01, "Hands of a term").
 --     widthWith     of a term, where a call counts as given
 --     levelWidth    of a level;  reach: of a term
---     tooWide  the lowest level above 8 (refusal 8)
--- Assumes nothing.
+--     tooWide       the lowest level above 8 (refusal 8)
+-- The laws are in `Width/Laws.antt` and `Width/Reach.antt`. Assumes nothing.
 use Prim.Native.Nat.{ℕ, zero, suc, _+_, max}
 use mathlib.Core.Bool.{Bool, true, false, cond}
 use mathlib.Core.List.{List, [], _∷_}
@@ -31,14 +31,14 @@ widest width level [] = 0
 widest width level (d ∷ ds) =
     cond (eqb (d .level) level) (max (width (d .body)) (widest width level ds)) (widest width level ds)
 
--- "call to its own level 1, to a lower level that level's hands": of a call in level l, the lower levels' width given
+-- "call to its own level 1, to a lower level that level's hands": of a call in level l, the lower levels' widths given
 unfoldable pub callWidth : List Definition → List ℕ → ℕ → ℕ
 callWidth ds lower d = cond (eqb (levelIn ds d) (length lower)) 1 (getD lower (levelIn ds d) 0)
 
 unfoldable pub nextWidth : List Definition → List ℕ → ℕ
 nextWidth ds lower = widest (widthWith (callWidth ds lower)) (length lower) ds
 
--- the width of levels 0 to 7
+-- the widths of levels 0 to 7
 unfoldable pub allWidths : List Definition → List ℕ
 allWidths ds = grow (nextWidth ds) 8
 

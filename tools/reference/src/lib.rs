@@ -8,7 +8,7 @@
 //     random       a seeded generator                      generate    accepted tables
 //     role         what each number of a table is          damage      tables with one known fault
 //     worked       cases worked by hand                    case        a case of test data
-//     cases        the test data file
+//     cases        the test data file                      summary     what its test prints
 
 pub mod case;
 pub mod cases;
@@ -21,6 +21,7 @@ pub mod random;
 pub mod reader;
 pub mod refusal;
 pub mod role;
+pub mod summary;
 pub mod table;
 pub mod worked;
 

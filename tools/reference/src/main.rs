@@ -1,4 +1,5 @@
-// The command line of the reference: judge a file of table bytes, or write test data.
+// The command line of the reference: judge a file of table bytes, write test data, or say what
+// the test program prints of it.
 
 use reference::operations::table_of_bytes;
 use reference::refusal::word;
@@ -16,6 +17,10 @@ reference: another implementation of the CSP_E line monitor's tables, for test a
         Writes test data to standard output: the cases worked by hand, the cases at each limit,
         and about M cases drawn at random. The same seed and count give the same file.
 
+    reference summary FILE
+        Prints what the test program prints of a file of test data when every answer is the
+        stored one: a line `NAME CASES` for each group, then `ok`.
+
     reference --help
         Prints this text.
 ";
@@ -30,6 +35,8 @@ fn main() -> ExitCode {
         ["check", file] => check(file),
         ["check", ..] => Err("check takes one file".to_string()),
         ["cases", options @ ..] => cases(options),
+        ["summary", file] => summary(file),
+        ["summary", ..] => Err("summary takes one file".to_string()),
         [] => Err("a command is missing".to_string()),
         [command, ..] => Err(format!("`{command}` is not a command")),
     };
@@ -57,6 +64,12 @@ fn check(file: &str) -> Result<ExitCode, String> {
             ExitCode::from(1)
         }
     })
+}
+
+fn summary(file: &str) -> Result<ExitCode, String> {
+    let text =
+        std::fs::read_to_string(file).map_err(|error| format!("cannot read {file}: {error}"))?;
+    Ok(print(&reference::summary::summary(&text).map_err(|error| format!("{file}: {error}"))?))
 }
 
 fn cases(options: &[&str]) -> Result<ExitCode, String> {

@@ -1,6 +1,7 @@
--- (3): branches counted up to 257 only: the same recursion, capped at each step, gives the capped branches, and the
--- test against 256 is the same. So code may count with small numbers.
---     capped, cappedWith, nextCapped     min 257; a term's branches so counted; a definition's
+-- Branches counted up to 257 only: the same recursion, capped at each step, gives the capped branches, and the test
+-- against 256 is the same. So code may count with small numbers.
+--     capped, cappedWith, nextCapped     at most 257; a term's branches so counted; a definition's
+--     capped-few, capped-all             the test against 256; all definitions
 -- Assumes nothing.
 use Prim.Native.Nat.{ℕ, zero, suc, _+_, _*_, _≤_, _<_, min}
 use native.Mathlib.Omega.{arith}
@@ -67,15 +68,18 @@ capped-mul a b = go (decLe 257 a) (decLe 257 b)
         let f : min 257 b ≡ b = omega arith in
         rw (e, f) refl
 
-pub capped-branches : (calls cut : ℕ → ℕ) → ((d : ℕ) → cut d ≡ capped (calls d)) → (p : Term) → cappedWith cut p ≡ capped (branchesWith calls p)
+pub capped-branches : (calls cut : ℕ → ℕ) → ((d : ℕ) → cut d ≡ capped (calls d)) → (p : Term)
+    → cappedWith cut p ≡ capped (branchesWith calls p)
 unfolding cappedWith branchesWith
 capped-branches calls cut f stop = unfold capped in omega arith
 capped-branches calls cut f fail = unfold capped in omega arith
 capped-branches calls cut f (prefix r p) = unfold capped in omega arith
 capped-branches calls cut f (choice p q) =
-    ap (λ (n : ℕ). capped n) (rw (capped-branches calls cut f p, capped-branches calls cut f q) refl) ∙ sym (capped-add (branchesWith calls p) (branchesWith calls q))
+    ap (λ (n : ℕ). capped n) (rw (capped-branches calls cut f p, capped-branches calls cut f q) refl)
+    ∙ sym (capped-add (branchesWith calls p) (branchesWith calls q))
 capped-branches calls cut f (par r p q) =
-    ap (λ (n : ℕ). capped n) (rw (capped-branches calls cut f p, capped-branches calls cut f q) refl) ∙ sym (capped-mul (branchesWith calls p) (branchesWith calls q))
+    ap (λ (n : ℕ). capped n) (rw (capped-branches calls cut f p, capped-branches calls cut f q) refl)
+    ∙ sym (capped-mul (branchesWith calls p) (branchesWith calls q))
 capped-branches calls cut f (call d) = f d
 
 capped-lookup : (l : List ℕ) (d : ℕ) → lookup (map capped l) d ≡ capped (lookup l d)
@@ -87,7 +91,8 @@ capped-lookup (x ∷ l) (suc d) = unfold lookup in capped-lookup l d
 capped-next : (ds : List Definition) (l : List ℕ) → nextCapped ds (map capped l) ≡ capped (nextBranches ds l)
 unfolding nextCapped nextBranches
 capped-next ds l =
-    rw (length-map l capped) (capped-branches (lookup l) (lookup (map capped l)) (capped-lookup l) (bodyIn ds (length l)))
+    rw (length-map l capped)
+    (capped-branches (lookup l) (lookup (map capped l)) (capped-lookup l) (bodyIn ds (length l)))
 
 pub capped-grow : (ds : List Definition) (n : ℕ) → grow (nextCapped ds) n ≡ map capped (grow (nextBranches ds) n)
 unfolding grow

@@ -20,7 +20,7 @@ use Rattle.numbers.specs.Number.{truncated, malformed, readNumber, listBytes}
 use Rattle.table.specs.declared.answer.Refusal.{Refusal}
 use Rattle.table.specs.declared.answer.Judged.{Judged}
 use Rattle.table.specs.declared.answer.Judged.the-variants.{Accepted, Declined}
-use Rattle.table.specs.First.{first-short}
+use Rattle.table.specs.First.Laws.{first-short}
 use Rattle.table.specs.Table.{Table}
 use Rattle.table.specs.Tokens.{ended, listTokens}
 use Rattle.table.specs.Tokens.Laws.{Follows, whole-list, list-whole, nothing-left}
@@ -35,7 +35,7 @@ use Rattle.table.specs.Refusals.Laws.{length-links}
 use Rattle.table.specs.Refusals.AtNumbers.{refused-out}
 use Rattle.table.specs.BytesRefused.{bytePlace, Decoded, short-bytes, malformed-number, off-bytes}
 use Rattle.table.specs.BytesRefused.{over-number, over-bytes, wrong-bytes, wide-bytes, branches-bytes}
-use Rattle.table.specs.BytesRefused.Exact.{refused-bytes-in}
+use Rattle.table.specs.BytesRefused.Given.{refused-bytes-in}
 use Rattle.table.specs.Index.{tableIn}
 use Rattle.table.specs.Judging.{Decoding}
 

@@ -1,117 +1,33 @@
--- Bytes are refused exactly on those conditions. Assumes nothing.
-use Prim.Native.Nat.{ℕ, zero, suc, _+_, _≤_, _<_}
+-- The grammar and the judgement on a stream that ends, from those on the list of its numbers.
+--     IsEnd                                  no number stands next
+--     stream-cut, stream-off, stream-got     what the grammar says of the stream, by what it says of the list
+--     judge-no, judge-got                    the judgement of a stream from its reading
+-- Assumes nothing.
+use Prim.Native.Nat.{ℕ, zero, suc, _+_}
 use native.Mathlib.Omega.{arith}
 use mathlib.Core.Path.{_≡_, refl, sym, ap, _∙_, subst}
-use mathlib.Core.Bool.{Bool, true, false, cond}
-use mathlib.Core.Logic.{_⊎_, inl, inr}
-use mathlib.Core.List.{List, [], _∷_, _++_, append-nil, append-assoc}
+use mathlib.Core.Bool.{Bool, false}
+use mathlib.Core.List.{List, [], _∷_, _++_, append-nil}
 use mathlib.Core.Option.{Option, none, some}
-use lib.ListN.{length, take, length-append}
-use lib.Dec.{ltb, eqb}
-use borrow.Author.Tests.{le-ltb, lt-ltb, ltb-true, ltb-false, eq-eqb, ne-eqb}
-use Rattle.numbers.specs.Every.{All, all-right}
-use Rattle.table.specs.First.{FirstAt, AllPass, firstFalse, first-out, pass-out, first-in, pass-in, first-short}
+use lib.ListN.{length}
 use Rattle.table.specs.Table.{Table}
-use Rattle.numbers.specs.Number.{bytesOf, Scan, value, truncated, malformed, readNumber, listBytes, scanWith}
-use Rattle.numbers.specs.Number.{Bytes}
-use Rattle.numbers.specs.Number.Laws.{Written, read-written, read-is-written, bytes-some}
-use Rattle.table.specs.Tokens.{Tokens, token, ended, broken, listTokens, byteToken, byteTokensWith, byteTokens, trailing, placeOf}
-use Rattle.table.specs.Tokens.Laws.{Follows, Cut, follows-list}
+use Rattle.table.specs.Tokens.{Tokens, token, ended, broken, listTokens, trailing, placeOf}
+use Rattle.table.specs.Tokens.Laws.{Follows}
 use Rattle.table.specs.Parser.{Result, got, refused}
-use Rattle.table.specs.Parser.Local.{Placed, prepend, prepend-append, values, values-append, Parted, parted, Stuck, refusalOf, Ran, finished, stopped}
+use Rattle.table.specs.Parser.Local.{Placed, prepend, prepend-append, values, Parted, parted}
+use Rattle.table.specs.Parser.Local.{Stuck, refusalOf, Ran, finished, stopped}
 use Rattle.table.specs.Grammar.{table}
-use Rattle.table.specs.Grammar.Whole.{TableOk, table-ok-sound, table-ok-complete}
+use Rattle.table.specs.Grammar.Whole.{table-ok-complete}
 use Rattle.table.specs.Grammar.Local.{table-runs}
 use Rattle.table.specs.Fields.{Fields}
-use Rattle.table.specs.Fields.Laws.{fields-in, fields-out}
+use Rattle.table.specs.Fields.Laws.{fields-in}
 use Rattle.table.specs.Writing.{numbersOf}
 use Rattle.table.specs.References.{firstWrong}
 use Rattle.table.specs.Width.{tooWide}
 use Rattle.table.specs.Branches.{tooManyBranches}
-use Rattle.table.specs.Judge.{Judgement, accepted, declined, unlessMet, placed, judgeRead, judge, judgeBytes}
-use Rattle.table.specs.Refusals.{links, narrowLevels, fewTerms, Truncated, OutOfRange, TrailingInput, BadReference, TooWide, TooManyBranches}
-use Rattle.table.specs.Refusals.Laws.{length-links, wrong-first, width-first, branches-first}
-use Rattle.table.specs.Refusals.Exact.{Halves, prepend-list, places, list-prepend, Stops, cut, off, stops}
-use Rattle.table.specs.Refusals.AtNumbers.{cut-exact-out, cut-exact-in, off-exact-out, off-exact-in}
-use Rattle.table.specs.BytesRefused.{bytePlace, Decoded, RefusedBytes, long-bytes, short-bytes, malformed-number, off-bytes, over-number, over-bytes, wrong-bytes, wide-bytes, branches-bytes}
-
--- ---- bytes as a stream
-abbrev pub bytePlaces : ℕ → List ℕ → List Placed
-bytePlaces at [] = []
-bytePlaces at (n ∷ ns) = record { number = n; place = at } ∷ bytePlaces (at + length (bytesOf n)) ns
-
-pub values-bytes : (at : ℕ) (ns : List ℕ) → values (bytePlaces at ns) ≡ ns
-values-bytes at [] = refl
-values-bytes at (n ∷ ns) = ap (λ (l : List ℕ). n ∷ l) (values-bytes (at + length (bytesOf n)) ns)
-
--- what a stream of bytes ends with
-pub data Ends (tail : List ℕ) (at : ℕ) (E : Tokens) : Type 0 where
-  short : readNumber tail ≡ truncated → E ≡ ended at (at + length tail) → Ends tail at E
-  loose : readNumber tail ≡ malformed → E ≡ broken at → Ends tail at E
-
-pub record Stream (at : ℕ) (s : List ℕ) (ts : Tokens) : Type 0 where
-  pub ns : List ℕ
-  pub tail : List ℕ
-  pub E : Tokens
-  pub bytes : s ≡ listBytes ns ++ tail
-  pub small : All (λ n. n ≤ 65535) ns
-  pub stream : ts ≡ prepend (bytePlaces at ns) E
-  pub ends : Ends tail (at + length (listBytes ns)) E
-
-empty-of : (s : List ℕ) → length s ≤ 0 → s ≡ []
-empty-of [] h = refl
-empty-of (b ∷ s) h = absurd (omega arith)
-
-nothing-there : (at : ℕ) → Stream at [] (ended at at)
-unfolding listBytes readNumber scanWith
-nothing-there at =
-    let z : at + 0 ≡ at = omega arith in
-    record { ns = []; tail = []; E = ended at at; bytes = refl; small = tt; stream = refl; ends = short refl (rw z (rw z refl)) }
-
-stream-number : (f at : ℕ) (s : List ℕ) → Bytes s → length s ≤ suc f → (v j : ℕ) (u : List ℕ) → readNumber s ≡ value v j u
-    → (Bytes u → length u ≤ f → Stream (at + j) u (byteTokensWith f (at + j) u)) → Stream at s (token v at (byteTokensWith f (at + j) u))
-unfolding listBytes
-stream-number f at s w l v j u e ih =
-    let x = read-is-written s v j u w e in
-    let whole' = x .whole in
-    let b = bytes-some v in
-    let n = ap (λ (y : List ℕ). length y) whole' ∙ length-append (bytesOf v) u in
-    let r = ih (all-right (λ y. y < 256) (bytesOf v) u (subst Bytes whole' w)) (omega arith) in
-    let k = length-append (bytesOf v) (listBytes (r .ns)) in
-    let t = x .taken in
-    let z : at + j + length (listBytes (r .ns)) ≡ at + length (bytesOf v ++ listBytes (r .ns)) = omega arith in
-    record {
-      ns = v ∷ r .ns;
-      tail = r .tail;
-      E = r .E;
-      bytes = whole' ∙ ap (λ (y : List ℕ). bytesOf v ++ y) (r .bytes) ∙ sym (append-assoc (bytesOf v) (listBytes (r .ns)) (r .tail));
-      small = (x .small, r .small);
-      stream =
-          ap (λ (us : Tokens). token v at us)
-          (subst (λ (m : ℕ). byteTokensWith f (at + j) u ≡ prepend (bytePlaces (at + m) (r .ns)) (r .E)) t (r .stream));
-      ends = subst (λ (m : ℕ). Ends (r .tail) m (r .E)) z (r .ends);
-    }
-
-stream-end : (at : ℕ) (s : List ℕ) (E : Tokens) → Ends s at E → Stream at s E
-unfolding listBytes
-stream-end at s E h =
-    let z : at ≡ at + 0 = omega arith in
-    record { ns = []; tail = s; E = E; bytes = refl; small = tt; stream = refl; ends = subst (λ (m : ℕ). Ends s m E) z h }
-
-stream-with : (f at : ℕ) (s : List ℕ) → Bytes s → length s ≤ f → Stream at s (byteTokensWith f at s)
-unfolding byteTokensWith byteToken
-stream-with zero at s w l = rw (empty-of s l) (nothing-there at)
-stream-with (suc f) at s w l = go (λ m u b c. stream-with f m u b c) (readNumber s) refl
-  where
-    go : ((m : ℕ) (u : List ℕ) → Bytes u → length u ≤ f → Stream m u (byteTokensWith f m u)) → (r : Scan) → readNumber s ≡ r
-        → Stream at s (byteToken r at (length s) (λ next rest. byteTokensWith f next rest))
-    go ih (value v j u) e = stream-number f at s w l v j u e (ih (at + j) u)
-    go ih truncated e = stream-end at s _ (short e refl)
-    go ih malformed e = stream-end at s _ (loose e refl)
-
-pub decode : (s : List ℕ) → Bytes s → Stream 0 s (byteTokens s)
-unfolding byteTokens
-decode s w = stream-with (length s) 0 s w (omega arith)
+use Rattle.table.specs.Judge.{Judgement, accepted, declined, unlessMet, placed, judgeRead, judge}
+use Rattle.table.specs.Refusals.Stops.{Halves, prepend-list, places, list-prepend}
+use Rattle.table.specs.BytesRefused.Stream.{Ends, short, loose}
 
 -- ---- a stream that ends, and the list of its numbers
 abbrev pub IsEnd : Tokens → Type 0
@@ -132,7 +48,8 @@ values-places : (i : ℕ) (l : List ℕ) → values (places i l) ≡ l
 values-places i [] = refl
 values-places i (n ∷ l) = ap (λ (x : List ℕ). n ∷ x) (values-places (suc i) l)
 
-pub place-after : (a b : List Placed) (q : Placed) (E : Tokens) → placeOf (prepend (a ++ (q ∷ b)) E) (length (values a)) ≡ q .place
+pub place-after : (a b : List Placed) (q : Placed) (E : Tokens)
+    → placeOf (prepend (a ++ (q ∷ b)) E) (length (values a)) ≡ q .place
 unfolding placeOf
 place-after [] b q E = refl
 place-after (x ∷ a) b q E = place-after a b q E
@@ -154,12 +71,15 @@ module _ (P : List Placed) (E : Tokens) (end : IsEnd E) where
   pub stream-cut : (k : ℕ) → table (listTokens 0 (values P)) ≡ refused 3 k → table (prepend P E) ≡ refusalOf E
   stream-cut k said = go (table-runs (listTokens 0 (values P)))
     where
-      at-end : (ok : ℕ → Bool) (front : List Placed) (a b : List ℕ) → values P ≡ a ++ b → front ≡ places 0 a → Stuck ok (listTokens (0 + length a) b)
-          → ((Q : List Placed) → values Q ≡ values front → (us : Tokens) → Stuck ok us → table (prepend Q us) ≡ refusalOf us) → table (prepend P E) ≡ refusalOf E
+      at-end : (ok : ℕ → Bool) (front : List Placed) (a b : List ℕ) → values P ≡ a ++ b → front ≡ places 0 a
+          → Stuck ok (listTokens (0 + length a) b)
+          → ((Q : List Placed) → values Q ≡ values front → (us : Tokens) → Stuck ok us
+          → table (prepend Q us) ≡ refusalOf us) → table (prepend P E) ≡ refusalOf E
       at-end ok front a [] w f s g =
           g P (w ∙ append-nil a ∙ sym (values-places 0 a) ∙ ap values (sym f)) E (end-stuck ok E end)
       at-end ok front a (x ∷ b) w f s g =
-          let e = ap (λ (m : List ℕ). table (listTokens 0 m)) w ∙ ap table (list-prepend 0 a (x ∷ b)) ∙ g (places 0 a) (ap values (sym f)) _ s in
+          let e = ap (λ (m : List ℕ). table (listTokens 0 m)) w ∙ ap table (list-prepend 0 a (x ∷ b))
+          ∙ g (places 0 a) (ap values (sym f)) _ s in
           let h = sym said ∙ e in
           let h' : _≡_ {A = Result Table} (refused 3 k) (refused 5 (0 + length a)) = h ∙ five (0 + length a) x b in
           let z : _≡_ {A = ℕ} 3 5 = cc in
@@ -175,25 +95,33 @@ module _ (P : List Placed) (E : Tokens) (end : IsEnd E) where
           at-end ok front (h .a) (h .b) (h .whole) (h .before) (subst (Stuck ok) (h .after) s) g
 
   -- 5 on the list: 5 at that number's place
-  pub stream-off : (i : ℕ) → table (listTokens 0 (values P)) ≡ refused 5 i → table (prepend P E) ≡ refused 5 (placeOf (prepend P E) i)
+  pub stream-off : (i : ℕ) → table (listTokens 0 (values P)) ≡ refused 5 i
+      → table (prepend P E) ≡ refused 5 (placeOf (prepend P E) i)
   stream-off i said = go (table-runs (listTokens 0 (values P)))
     where
-      at-number : (ok : ℕ → Bool) (front : List Placed) (a b : List ℕ) → values P ≡ a ++ b → front ≡ places 0 a → Stuck ok (listTokens (0 + length a) b)
-          → ((Q : List Placed) → values Q ≡ values front → (us : Tokens) → Stuck ok us → table (prepend Q us) ≡ refusalOf us)
+      at-number : (ok : ℕ → Bool) (front : List Placed) (a b : List ℕ) → values P ≡ a ++ b → front ≡ places 0 a
+          → Stuck ok (listTokens (0 + length a) b)
+          → ((Q : List Placed) → values Q ≡ values front → (us : Tokens) → Stuck ok us
+          → table (prepend Q us) ≡ refusalOf us)
           → table (prepend P E) ≡ refused 5 (placeOf (prepend P E) i)
       at-number ok front a [] w f s g =
-          let e = ap (λ (m : List ℕ). table (listTokens 0 m)) w ∙ ap table (list-prepend 0 a []) ∙ g (places 0 a) (ap values (sym f)) _ s in
-          let h : _≡_ {A = Result Table} (refused 5 i) (refused 3 (0 + length a)) = sym said ∙ e ∙ three (0 + length a) in
+          let e = ap (λ (m : List ℕ). table (listTokens 0 m)) w ∙ ap table (list-prepend 0 a [])
+          ∙ g (places 0 a) (ap values (sym f)) _ s in
+          let h : _≡_ {A = Result Table} (refused 5 i) (refused 3 (0 + length a)) = sym said ∙ e
+          ∙ three (0 + length a) in
           let z : _≡_ {A = ℕ} 5 3 = cc in
           absurd (omega arith)
       at-number ok front a (x ∷ b) w f s g =
-          let e = ap (λ (m : List ℕ). table (listTokens 0 m)) w ∙ ap table (list-prepend 0 a (x ∷ b)) ∙ g (places 0 a) (ap values (sym f)) _ s in
-          let h : _≡_ {A = Result Table} (refused 5 i) (refused 5 (0 + length a)) = sym said ∙ e ∙ five (0 + length a) x b in
+          let e = ap (λ (m : List ℕ). table (listTokens 0 m)) w ∙ ap table (list-prepend 0 a (x ∷ b))
+          ∙ g (places 0 a) (ap values (sym f)) _ s in
+          let h : _≡_ {A = Result Table} (refused 5 i) (refused 5 (0 + length a)) = sym said ∙ e
+          ∙ five (0 + length a) x b in
           let i' : i ≡ 0 + length a = cc in
           let r = parted P a (x ∷ b) w in
           cutting (r .one) (r .two) (r .whole) (r .first) (r .second) (omega arith) (unfold listTokens in s)
         where
-          cutting : (one two : List Placed) → P ≡ one ++ two → values one ≡ a → values two ≡ x ∷ b → i ≡ length a → ok x ≡ false
+          cutting : (one two : List Placed) → P ≡ one ++ two → values one ≡ a → values two ≡ x ∷ b → i ≡ length a
+              → ok x ≡ false
               → table (prepend P E) ≡ refused 5 (placeOf (prepend P E) i)
           cutting one [] p u v j q = let z : _≡_ {A = ℕ} 0 1 = cc in absurd (omega arith)
           cutting one (y ∷ two) p u v j q =
@@ -201,9 +129,13 @@ module _ (P : List Placed) (E : Tokens) (end : IsEnd E) where
               let st : ok (y .number) ≡ false = ap ok same ∙ q in
               let m = ap (λ (c : List ℕ). length c) u in
               let k : i ≡ length (values one) = j ∙ sym m in
-              let e = g one (u ∙ sym (values-places 0 a) ∙ ap values (sym f)) (token (y .number) (y .place) (prepend two E)) st in
-              ap (λ (c : List Placed). table (prepend c E)) p ∙ ap table (prepend-append one (y ∷ two) E) ∙ e ∙ five-token (y .number) (y .place) (prepend two E)
-              ∙ ap (λ (c : ℕ). refused 5 c) (sym (ap (λ (c : List Placed). placeOf (prepend c E) i) p ∙ ap (λ (c : ℕ). placeOf (prepend (one ++ (y ∷ two)) E) c) k ∙ place-after one two y E))
+              let e = g one (u ∙ sym (values-places 0 a) ∙ ap values (sym f))
+              (token (y .number) (y .place) (prepend two E)) st in
+              ap (λ (c : List Placed). table (prepend c E)) p ∙ ap table (prepend-append one (y ∷ two) E) ∙ e
+              ∙ five-token (y .number) (y .place) (prepend two E)
+              ∙ ap (λ (c : ℕ). refused 5 c)
+              (sym (ap (λ (c : List Placed). placeOf (prepend c E) i) p
+              ∙ ap (λ (c : ℕ). placeOf (prepend (one ++ (y ∷ two)) E) c) k ∙ place-after one two y E))
 
       go : Ran table (listTokens 0 (values P)) → table (prepend P E) ≡ refused 5 (placeOf (prepend P E) i)
       go (finished front rest a e g) =
@@ -219,20 +151,13 @@ module _ (P : List Placed) (E : Tokens) (end : IsEnd E) where
   follows-prepend [] us = refl
   follows-prepend (q ∷ one) us = (refl, follows-prepend one us)
 
-  pub stream-got : (t : Table) → Fields t → (one two : List Placed) → P ≡ one ++ two → values one ≡ numbersOf t → table (prepend P E) ≡ got t (prepend two E)
+  pub stream-got : (t : Table) → Fields t → (one two : List Placed) → P ≡ one ++ two → values one ≡ numbersOf t
+      → table (prepend P E) ≡ got t (prepend two E)
   stream-got t f one two p v =
       ap (λ (c : List Placed). table (prepend c E)) p ∙ ap table (prepend-append one two E)
-      ∙ table-ok-complete (prepend one (prepend two E)) (prepend two E) t (fields-in t f) (subst (λ (n : List ℕ). Follows n (prepend one (prepend two E)) (prepend two E)) v (follows-prepend one (prepend two E)))
-
--- ---- places
-pub place-bytes : (at : ℕ) (ns : List ℕ) (E : Tokens) (i : ℕ) → i < length ns → placeOf (prepend (bytePlaces at ns) E) i ≡ at + bytePlace ns i
-unfolding placeOf bytePlace listBytes
-place-bytes at [] E i h = absurd (omega arith)
-place-bytes at (n ∷ ns) E zero h = omega arith
-place-bytes at (n ∷ ns) E (suc i) h =
-    let k = length-append (bytesOf n) (listBytes (take i ns)) in
-    let z : at + length (bytesOf n ++ listBytes (take i ns)) ≡ at + length (bytesOf n) + length (listBytes (take i ns)) = omega arith in
-    place-bytes (at + length (bytesOf n)) ns E i (omega arith) ∙ (unfold bytePlace in sym z)
+      ∙ table-ok-complete (prepend one (prepend two E)) (prepend two E) t (fields-in t f)
+      (subst (λ (n : List ℕ). Follows n (prepend one (prepend two E)) (prepend two E)) v
+      (follows-prepend one (prepend two E)))
 
 -- ---- the judgement of a stream from its reading
 pub judge-no : (ts : Tokens) (n at : ℕ) → table ts ≡ refused n at → judge ts ≡ declined n at
@@ -240,7 +165,9 @@ unfolding judge judgeRead
 judge-no ts n at e = rw e refl
 
 pub judge-got : (ts rest : Tokens) (t : Table) → table ts ≡ got t rest
-    → judge ts ≡ unlessMet 6 (trailing rest) (unlessMet 7 (placed ts (firstWrong t)) (unlessMet 8 (tooWide t) (unlessMet 9 (tooManyBranches t) (accepted (numbersOf t) t))))
+    → judge ts ≡ unlessMet 6 (trailing rest)
+    (unlessMet 7 (placed ts (firstWrong t))
+    (unlessMet 8 (tooWide t) (unlessMet 9 (tooManyBranches t) (accepted (numbersOf t) t))))
 unfolding judge judgeRead
 judge-got ts rest t e = rw e refl
 
@@ -259,16 +186,3 @@ placed-some ts o i e = rw e refl
 pub placed-none : (ts : Tokens) (o : Option ℕ) → o ≡ none → placed ts o ≡ none
 unfolding placed
 placed-none ts o e = rw e refl
-
--- what is left over at an end
-pub end-none : (at : ℕ) (E : Tokens) → Ends [] at E → trailing E ≡ none
-unfolding trailing readNumber scanWith
-end-none at E (short a e) = let z : at + 0 ≡ at = omega arith in rw (e, z, eq-eqb at at refl) refl
-end-none at E (loose a e) = let z : _≡_ {A = ℕ} 0 1 = cc in absurd (omega arith)
-
-pub end-some : (b : ℕ) (tail : List ℕ) (at : ℕ) (E : Tokens) → Ends (b ∷ tail) at E → trailing E ≡ some at
-unfolding trailing
-end-some b tail at E (short a e) =
-    let z : (at ≡ at + suc (length tail) → ⊥) = λ q. omega arith in
-    rw (e, ne-eqb _ _ z) refl
-end-some b tail at E (loose a e) = rw e refl

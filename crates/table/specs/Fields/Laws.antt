@@ -1,4 +1,8 @@
--- The field rules are the parser's bounds. Assumes nothing.
+-- The field rules are the bounds that the parser has: `Fields` against `TableOk`.
+--     ofRef-imp, ofRef-and, ofCall-imp    of a term's own reference
+--     run-out, run-in, set-out, set-in    rows and sets
+--     fields-out, fields-in               tables
+-- Assumes nothing.
 use Prim.Native.Nat.{ℕ, zero, suc, _+_, _≤_, _<_}
 use native.Mathlib.Omega.{arith}
 use native.Mathlib.Nat.{le-trans}
@@ -6,14 +10,17 @@ use mathlib.Core.Path.{_≡_, refl}
 use mathlib.Core.List.{List, [], _∷_}
 use lib.ListN.{length}
 use Rattle.numbers.specs.Every.{All, all-imp, all-and}
-use Rattle.table.specs.Table.{SetRef, fixed, family, Term, stop, fail, prefix, choice, par, call, SetDef, one, each, Definition, Table}
+use Rattle.table.specs.Table.{SetRef, fixed, family, Term, stop, fail, prefix, choice, par, call, SetDef, one}
+use Rattle.table.specs.Table.{each, Definition, Table}
 use Rattle.table.specs.Context.{Each}
 use Rattle.table.specs.Context.Laws.{each-imp, each-and}
-use Rattle.table.specs.Fields.{RefExists, ParamSmall, OfRef, OfCall, depthOf, Ascending, EachRow, FamilyRows, Fields}
+use Rattle.table.specs.Fields.{RefExists, ParamSmall, OfRef, OfCall, depthOf, Ascending, EachRow, FamilyRows}
+use Rattle.table.specs.Fields.{Fields}
 use Rattle.table.specs.Grammar.Sets.{Run, RowOk, SetOk}
 use Rattle.table.specs.Grammar.Terms.{RefOk}
 use Rattle.table.specs.Grammar.Whole.{DefinitionOk, TableOk}
 
+-- ---- references
 module _ (X Y : SetRef → Type 0) where
   pub ofRef-imp : ((r : SetRef) → X r → Y r) → (p : Term) → OfRef X p → OfRef Y p
   ofRef-imp f stop h = tt
@@ -58,8 +65,15 @@ run-out A low (e ∷ es) h =
 
 pub run-in : (A low : ℕ) (es : List ℕ) → RunIs A low es → Run A low es
 run-in A low [] r = tt
-run-in A low (e ∷ es) r =
-    (r .above .0, r .below .0, run-in A (suc e) es (record { above = r .order .0; below = r .below .1; order = r .order .1 }))
+run-in A low (e ∷ es) r = (
+  r .above .0,
+  r .below .0,
+  run-in A (suc e) es (record {
+    above = r .order .0;
+    below = r .below .1;
+    order = r .order .1;
+  }),
+)
 
 all-least : (es : List ℕ) → All (λ e. 0 ≤ e) es
 all-least [] = tt
@@ -73,7 +87,8 @@ pub record SetIs (A : ℕ) (s : SetDef) : Type 0 where
   pub order : EachRow Ascending s
 
 pub set-out : (A : ℕ) (s : SetDef) → SetOk A s → SetIs A s
-set-out A (one r) h = let i = run-out A 0 r (h .1) in record { family-rows = tt; counts = h .0; events = i .below; order = i .order }
+set-out A (one r) h =
+    let i = run-out A 0 r (h .1) in record { family-rows = tt; counts = h .0; events = i .below; order = i .order }
 set-out A (each rs) h =
     record {
       family-rows = h .0;
@@ -89,16 +104,19 @@ pub set-in : (A : ℕ) (s : SetDef) → SetIs A s → SetOk A s
 set-in A (one r) i = row-in A r (i .counts) (i .events) (i .order)
 set-in A (each rs) i = (
   i .family-rows,
-  all-imp (λ r. (length r ≤ A) × (All (λ e. e < A) r × Ascending r)) (RowOk A) (λ r k. row-in A r (k .0) (k .1 .0) (k .1 .1)) rs
+  all-imp (λ r. (length r ≤ A) × (All (λ e. e < A) r × Ascending r)) (RowOk A)
+      (λ r k. row-in A r (k .0) (k .1 .0) (k .1 .1)) rs
       (all-and (λ r. length r ≤ A) (λ r. All (λ e. e < A) r × Ascending r) rs (i .counts)
       (all-and (All (λ e. e < A)) Ascending rs (i .events) (i .order))),
 )
 
 -- ---- tables
-of-sets : (t : Table) (w : TableOk t) (X : SetDef → Type 0) → ((s : SetDef) → SetIs (t .alphabet) s → X s) → All X (t .sets)
+of-sets : (t : Table) (w : TableOk t) (X : SetDef → Type 0) → ((s : SetDef) → SetIs (t .alphabet) s → X s)
+    → All X (t .sets)
 of-sets t w X f = all-imp (SetOk (t .alphabet)) X (λ s h. f s (set-out (t .alphabet) s h)) (t .sets) (w .sets)
 
-of-bodies : (t : Table) (w : TableOk t) (X : Definition → Type 0) → ((d : Definition) → DefinitionOk (t .sets) d → X d) → All X (t .definitions)
+of-bodies : (t : Table) (w : TableOk t) (X : Definition → Type 0) → ((d : Definition) → DefinitionOk (t .sets) d → X d)
+    → All X (t .definitions)
 of-bodies t w X f = all-imp (DefinitionOk (t .sets)) X f (t .definitions) (w .bodies)
 
 pub fields-out : (t : Table) → TableOk t → Fields t
@@ -117,30 +135,50 @@ fields-out t w =
       levels = of-bodies t w (λ d. d .level ≤ 7) (λ d k. k .level);
       references =
           of-bodies t w (λ d. Each (OfRef (RefExists (t .sets))) (d .body))
-          (λ d k. each-imp (OfRef (RefOk (t .sets))) (OfRef (RefExists (t .sets))) (ofRef-imp (RefOk (t .sets)) (RefExists (t .sets)) (λ r x. x .0)) (d .body) (k .references));
+          (λ d k. each-imp (OfRef (RefOk (t .sets))) (OfRef (RefExists (t .sets)))
+          (ofRef-imp (RefOk (t .sets)) (RefExists (t .sets)) (λ r x. x .0)) (d .body) (k .references));
       parameters =
           of-bodies t w (λ d. Each (OfRef ParamSmall) (d .body))
-          (λ d k. each-imp (OfRef (RefOk (t .sets))) (OfRef ParamSmall) (ofRef-imp (RefOk (t .sets)) ParamSmall (λ r x. x .1)) (d .body) (k .references));
+          (λ d k. each-imp (OfRef (RefOk (t .sets))) (OfRef ParamSmall)
+          (ofRef-imp (RefOk (t .sets)) ParamSmall (λ r x. x .1)) (d .body) (k .references));
       terms-most = w .terms-most;
       nesting = of-bodies t w (λ d. depthOf (d .body) ≤ 32) (λ d k. k .nesting);
     }
 
-refs-in : (sets : List SetDef) (p : Term) → Each (OfRef (RefExists sets)) p → Each (OfRef ParamSmall) p → Each (OfRef (RefOk sets)) p
+refs-in : (sets : List SetDef) (p : Term) → Each (OfRef (RefExists sets)) p → Each (OfRef ParamSmall) p
+    → Each (OfRef (RefOk sets)) p
 refs-in sets p h k =
-    each-imp (λ q. OfRef (RefExists sets) q × OfRef ParamSmall q) (OfRef (RefOk sets)) (λ q x. ofRef-and (RefExists sets) ParamSmall q (x .0) (x .1)) p
+    each-imp (λ q. OfRef (RefExists sets) q × OfRef ParamSmall q) (OfRef (RefOk sets))
+    (λ q x. ofRef-and (RefExists sets) ParamSmall q (x .0) (x .1)) p
     (each-and (OfRef (RefExists sets)) (OfRef ParamSmall) p h k)
 
-sets-in : (A : ℕ) (ss : List SetDef) → All (FamilyRows A) ss → All (EachRow (λ r. length r ≤ A)) ss → All (EachRow (All (λ e. e < A))) ss
+sets-in : (A : ℕ) (ss : List SetDef) → All (FamilyRows A) ss → All (EachRow (λ r. length r ≤ A)) ss
+    → All (EachRow (All (λ e. e < A))) ss
     → All (EachRow Ascending) ss → All (SetOk A) ss
 sets-in A [] f c e o = tt
-sets-in A (s ∷ ss) f c e o =
-    (set-in A s (record { family-rows = f .0; counts = c .0; events = e .0; order = o .0 }), sets-in A ss (f .1) (c .1) (e .1) (o .1))
+sets-in A (s ∷ ss) f c e o = (
+  set-in A s (record {
+    family-rows = f .0;
+    counts = c .0;
+    events = e .0;
+    order = o .0;
+  }),
+  sets-in A ss (f .1) (c .1) (e .1) (o .1),
+)
 
-bodies-in : (sets : List SetDef) (ds : List Definition) → All (λ d. d .level ≤ 7) ds → All (λ d. Each (OfRef (RefExists sets)) (d .body)) ds
-    → All (λ d. Each (OfRef ParamSmall) (d .body)) ds → All (λ d. depthOf (d .body) ≤ 32) ds → All (DefinitionOk sets) ds
+bodies-in : (sets : List SetDef) (ds : List Definition) → All (λ d. d .level ≤ 7) ds
+    → All (λ d. Each (OfRef (RefExists sets)) (d .body)) ds
+    → All (λ d. Each (OfRef ParamSmall) (d .body)) ds → All (λ d. depthOf (d .body) ≤ 32) ds
+    → All (DefinitionOk sets) ds
 bodies-in sets [] l r k n = tt
-bodies-in sets (d ∷ ds) l r k n =
-    (record { level = l .0; references = refs-in sets (d .body) (r .0) (k .0); nesting = n .0 }, bodies-in sets ds (l .1) (r .1) (k .1) (n .1))
+bodies-in sets (d ∷ ds) l r k n = (
+  record {
+    level = l .0;
+    references = refs-in sets (d .body) (r .0) (k .0);
+    nesting = n .0;
+  },
+  bodies-in sets ds (l .1) (r .1) (k .1) (n .1),
+)
 
 pub fields-in : (t : Table) → Fields t → TableOk t
 fields-in t f =

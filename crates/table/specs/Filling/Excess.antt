@@ -15,7 +15,8 @@ use lib.Dec.{leb, ltb}
 use borrow.Author.Tests.{eq-eqb, ne-eqb, le-leb, lt-leb, lt-ltb, le-ltb, not-true, not-false}
 use Rattle.table.specs.declared.answer.First.the-variants.{Nowhere, Broken}
 use Rattle.table.specs.declared.terms.Spot.{Spot}
-use Rattle.table.specs.First.{orElse, unless, orElse-assoc, firstFalse, firstFalse-append, first-in, pass-in}
+use Rattle.table.specs.First.{orElse, unless, firstFalse}
+use Rattle.table.specs.First.Laws.{orElse-assoc, firstFalse-append, first-in, pass-in}
 use Rattle.table.specs.Table.{Term, stop, fail, prefix, choice, par, call, Definition, Table, size, termCount}
 use Rattle.table.specs.Fields.{Fields}
 use Rattle.table.specs.Writing.{refNumbers, termNumbers, definitionNumbers}

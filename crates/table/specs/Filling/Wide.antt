@@ -16,7 +16,8 @@ use lib.Seq.{getD-set-same, getD-set-other}
 use lib.Dec.{eqb}
 use borrow.Author.Tests.{eq-eqb, ne-eqb, le-leb, lt-leb}
 use Rattle.table.specs.declared.answer.First.the-variants.{Nowhere, Broken}
-use Rattle.table.specs.Grow.{grow, length-grow, getD-grow, grow-stable}
+use Rattle.table.specs.Grow.{grow}
+use Rattle.table.specs.Grow.Laws.{length-grow, getD-grow, grow-stable}
 use Rattle.table.specs.First.{orElse, unless}
 use Rattle.table.specs.Table.{Table}
 use Rattle.table.specs.Fields.{Fields}

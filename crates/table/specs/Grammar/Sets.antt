@@ -1,4 +1,8 @@
--- Sets: what `set` reads is what would be written, within its bounds, and the other way. Assumes nothing.
+-- The grammar of sets: what `set` reads is what would be written, within its bounds, and the other way.
+--     Run, RowOk, SetOk           events, a row, a set within the bounds
+--     row-sound, row-complete     a row
+--     set-sound, set-complete     a set
+-- Assumes nothing.
 use Prim.Native.Nat.{ℕ, zero, suc, _+_, _≤_, _<_}
 use native.Mathlib.Omega.{arith}
 use mathlib.Core.Path.{_≡_, refl, sym, ap, _∙_, subst}
@@ -12,9 +16,12 @@ use Rattle.table.specs.Table.{SetDef, one, each}
 use Rattle.table.specs.Tokens.{Tokens}
 use Rattle.table.specs.Tokens.Laws.{Follows, Between, follows-split, follows-join}
 use Rattle.table.specs.Parser.{Result, got, refused, Parser, number, pure, andThen, times}
-use Rattle.table.specs.Parser.Laws.{pure-out, Split, then-out, then-in, number-out, number-in, Sound, Complete, Read, times-sound, times-complete}
+use Rattle.table.specs.Parser.Laws.{pure-out, Split, then-out, then-in, number-out, number-in, Sound, Complete}
+use Rattle.table.specs.Parser.Laws.{Read, times-sound, times-complete}
 use Rattle.table.specs.Grammar.{events, row, setOfKind, set}
 use Rattle.table.specs.Writing.{rowNumbers, setNumbers}
+
+-- ---- rows
 
 -- events below A, ascending, none below low
 abbrev pub Run : ℕ → ℕ → List ℕ → Type 0
@@ -26,7 +33,8 @@ pub record ReadEvents (A n low : ℕ) (es : List ℕ) (ts rest : Tokens) : Type 
   pub run : Run A low es
   pub follows : Follows es ts rest
 
-pub events-sound : (A n low : ℕ) (ts rest : Tokens) (es : List ℕ) → events A n low ts ≡ got es rest → ReadEvents A n low es ts rest
+pub events-sound : (A n low : ℕ) (ts rest : Tokens) (es : List ℕ) → events A n low ts ≡ got es rest
+    → ReadEvents A n low es ts rest
 unfolding events
 events-sound A zero low ts rest es h =
     pure-out (λ x us. ReadEvents A zero low x ts us) [] es ts rest h (record { count = refl; run = tt; follows = refl })
@@ -44,7 +52,8 @@ events-sound A (suc n) low ts rest es h =
       follows = follows-join (e ∷ []) (b .first) ts (a .middle) (b .middle) (one .1) (more .follows);
     })
 
-pub events-complete : (A low : ℕ) (ts rest : Tokens) (es : List ℕ) → Run A low es → Follows es ts rest → events A (length es) low ts ≡ got es rest
+pub events-complete : (A low : ℕ) (ts rest : Tokens) (es : List ℕ) → Run A low es → Follows es ts rest
+    → events A (length es) low ts ≡ got es rest
 unfolding events pure
 events-complete A low ts rest [] h k = rw k refl
 events-complete A low ts rest (e ∷ es) h k =
@@ -64,7 +73,8 @@ row-sound A ts rest r h =
     let one = number-out _ ts (a .middle) c (a .before) in
     let more = events-sound A c 0 (a .middle) rest r (a .after) in (
       (rw (more .count) (leb→le c A (one .0)), more .run),
-      subst (λ (n : ℕ). Follows (n ∷ r) ts rest) (sym (more .count)) (follows-join (c ∷ []) r ts (a .middle) rest (one .1) (more .follows)),
+      subst (λ (n : ℕ). Follows (n ∷ r) ts rest) (sym (more .count))
+          (follows-join (c ∷ []) r ts (a .middle) rest (one .1) (more .follows)),
     )
 
 pub row-complete : (A : ℕ) → Complete (row A) (RowOk A) rowNumbers
@@ -75,11 +85,13 @@ row-complete A ts rest r h k =
     (number-in _ ts (s .middle) (length r) (le→leb (length r) A (h .0)) (s .front))
     (events-complete A 0 (s .middle) rest r (h .1) (s .back))
 
+-- ---- sets
 abbrev pub SetOk : ℕ → SetDef → Type 0
 SetOk A (one r) = RowOk A r
 SetOk A (each rs) = (length rs ≡ A) × All (RowOk A) rs
 
-kind-sound : (A k : ℕ) → k ≤ 1 → (ts mid rest : Tokens) (s : SetDef) → Follows (k ∷ []) ts mid → setOfKind A k mid ≡ got s rest
+kind-sound : (A k : ℕ) → k ≤ 1 → (ts mid rest : Tokens) (s : SetDef) → Follows (k ∷ []) ts mid
+    → setOfKind A k mid ≡ got s rest
     → SetOk A s × Follows (setNumbers s) ts rest
 unfolding setOfKind setNumbers
 kind-sound A zero b ts mid rest s f h =
@@ -91,8 +103,11 @@ kind-sound A (suc k) b ts mid rest s f h =
     let e : suc k ≡ 1 = omega arith in
     let a = then-out _ _ mid s rest h in
     let r = times-sound (row A) (RowOk A) rowNumbers (row-sound A) A mid (a .middle) (a .first) (a .before) in
-    pure-out (λ x us. SetOk A x × Follows (setNumbers x) ts us) _ s (a .middle) rest (a .after)
-    ((r .count, r .within), follows-join (1 ∷ []) (flatMap rowNumbers (a .first)) ts mid (a .middle) (subst (λ (n : ℕ). Follows (n ∷ []) ts mid) e f) (r .follows))
+    pure-out (λ x us. SetOk A x × Follows (setNumbers x) ts us) _ s (a .middle) rest (a .after) (
+      (r .count, r .within),
+      follows-join (1 ∷ []) (flatMap rowNumbers (a .first)) ts mid (a .middle)
+          (subst (λ (n : ℕ). Follows (n ∷ []) ts mid) e f) (r .follows),
+    )
 
 pub set-sound : (A : ℕ) → Sound (set A) (SetOk A) setNumbers
 unfolding set

@@ -1,4 +1,6 @@
--- (b) and (c): what `table` reads is what would be written, within the field bounds, and the other way.
+-- The grammar of a table: what `table` reads is what would be written, within the field bounds, and the other way.
+--     DefinitionOk, TableOk               a definition, a table within the bounds
+--     table-ok-sound, table-ok-complete   a table
 -- Assumes nothing.
 use Prim.Native.Nat.{ℕ, zero, suc, _+_, _≤_, _<_}
 use native.Mathlib.Omega.{arith}
@@ -16,11 +18,14 @@ use Rattle.table.specs.Fields.{RefExists, ParamSmall, OfRef, depthOf, As
 use Rattle.table.specs.Tokens.{Tokens}
 use Rattle.table.specs.Tokens.Laws.{Follows, Between, follows-split, follows-join}
 use Rattle.table.specs.Parser.{Result, got, refused, Parser, number, pure, andThen, times}
-use Rattle.table.specs.Parser.Laws.{pure-out, Split, then-out, then-in, number-out, number-in, Sound, Complete, Read, times-sound, times-complete}
+use Rattle.table.specs.Parser.Laws.{pure-out, Split, then-out, then-in, number-out, number-in, Sound, Complete}
+use Rattle.table.specs.Parser.Laws.{Read, times-sound, times-complete}
 use Rattle.table.specs.Grammar.{set, termWith, definition, definitionsOf, table}
 use Rattle.table.specs.Grammar.Sets.{Run, RowOk, SetOk, set-sound, set-complete}
 use Rattle.table.specs.Grammar.Terms.{RefOk, ReadTerm, term-sound, term-complete}
 use Rattle.table.specs.Writing.{setNumbers, termNumbers, definitionNumbers, numbersOf}
+
+-- ---- definitions
 
 -- a definition by itself; the number of terms is over all of them
 pub record DefinitionOk (sets : List SetDef) (d : Definition) : Type 0 where
@@ -34,7 +39,8 @@ module _ (sets : List SetDef) where
     pub few : n + size (d .body) ≤ 1024
     pub follows : Follows (definitionNumbers d) ts rest
 
-  definition-sound : (n : ℕ) (ts rest : Tokens) (d : Definition) → definition sets n ts ≡ got d rest → ReadOne n d ts rest
+  definition-sound : (n : ℕ) (ts rest : Tokens) (d : Definition) → definition sets n ts ≡ got d rest
+      → ReadOne n d ts rest
   unfolding definition definitionNumbers
   definition-sound n ts rest d h =
       let a = then-out _ _ ts d rest h in
@@ -53,8 +59,10 @@ module _ (sets : List SetDef) where
   unfolding definition definitionNumbers pure
   definition-complete n ts rest d w c f =
       let k = follows-split (d .level ∷ []) (termNumbers (d .body)) ts rest f in
-      then-in _ _ ts (k .middle) (d .level) _ (number-in _ ts (k .middle) (d .level) (le→leb (d .level) 7 (w .level)) (k .front))
-      (then-in _ _ (k .middle) rest (d .body) _ (term-complete sets (d .body) 32 n (k .middle) rest (w .references) (w .nesting) c (k .back)) refl)
+      then-in _ _ ts (k .middle) (d .level) _
+      (number-in _ ts (k .middle) (d .level) (le→leb (d .level) 7 (w .level)) (k .front))
+      (then-in _ _ (k .middle) rest (d .body) _
+      (term-complete sets (d .body) 32 n (k .middle) rest (w .references) (w .nesting) c (k .back)) refl)
 
   pub record ReadAll (c n : ℕ) (ds : List Definition) (ts rest : Tokens) : Type 0 where
     pub count : length ds ≡ c
@@ -62,10 +70,16 @@ module _ (sets : List SetDef) where
     pub few : n ≤ 1024 → n + sizes ds ≤ 1024
     pub follows : Follows (flatMap definitionNumbers ds) ts rest
 
-  definitions-sound : (c n : ℕ) (ts rest : Tokens) (ds : List Definition) → definitionsOf sets c n ts ≡ got ds rest → ReadAll c n ds ts rest
+  definitions-sound : (c n : ℕ) (ts rest : Tokens) (ds : List Definition) → definitionsOf sets c n ts ≡ got ds rest
+      → ReadAll c n ds ts rest
   unfolding definitionsOf flatMap sizes
   definitions-sound zero n ts rest ds h =
-      pure-out (λ x us. ReadAll zero n x ts us) [] ds ts rest h (record { count = refl; ok = tt; few = λ b. omega arith; follows = refl })
+      pure-out (λ x us. ReadAll zero n x ts us) [] ds ts rest h (record {
+        count = refl;
+        ok = tt;
+        few = λ b. omega arith;
+        follows = refl;
+      })
   definitions-sound (suc c) n ts rest ds h =
       let a = then-out _ _ ts ds rest h in
       let b = then-out _ _ (a .middle) ds rest (a .after) in
@@ -78,17 +92,21 @@ module _ (sets : List SetDef) where
         count = ap suc (more .count);
         ok = (one .ok, more .ok);
         few = λ z. omega arith;
-        follows = follows-join (definitionNumbers d) (flatMap definitionNumbers (b .first)) ts (a .middle) (b .middle) (one .follows) (more .follows);
+        follows =
+            follows-join (definitionNumbers d) (flatMap definitionNumbers (b .first)) ts (a .middle) (b .middle)
+            (one .follows) (more .follows);
       })
 
-  definitions-complete : (n : ℕ) (ts rest : Tokens) (ds : List Definition) → All (DefinitionOk sets) ds → n + sizes ds ≤ 1024
+  definitions-complete : (n : ℕ) (ts rest : Tokens) (ds : List Definition) → All (DefinitionOk sets) ds
+      → n + sizes ds ≤ 1024
       → Follows (flatMap definitionNumbers ds) ts rest → definitionsOf sets (length ds) n ts ≡ got ds rest
   unfolding definitionsOf flatMap sizes pure
   definitions-complete n ts rest [] w c f = rw f refl
   definitions-complete n ts rest (d ∷ ds) w c f =
       let k = follows-split (definitionNumbers d) (flatMap definitionNumbers ds) ts rest f in
       then-in _ _ ts (k .middle) d _ (definition-complete n ts (k .middle) d (w .0) (omega arith) (k .front))
-      (then-in _ _ (k .middle) rest ds _ (definitions-complete (n + size (d .body)) (k .middle) rest ds (w .1) (omega arith) (k .back)) refl)
+      (then-in _ _ (k .middle) rest ds _
+      (definitions-complete (n + size (d .body)) (k .middle) rest ds (w .1) (omega arith) (k .back)) refl)
 
 -- ---- the whole table, with its bounds as the parser has them
 pub record TableOk (t : Table) : Type 0 where
@@ -99,6 +117,13 @@ pub record TableOk (t : Table) : Type 0 where
   pub bodies : All (DefinitionOk (t .sets)) (t .definitions)
   pub terms-most : termCount t ≤ 1024
 
+abbrev made : ℕ → List SetDef → List Definition → Table
+made A ss ds = record { alphabet = A; sets = ss; definitions = ds }
+
+-- a table's numbers, with its two counts by themselves
+abbrev laid : ℕ → List SetDef → List Definition → ℕ → ℕ → List ℕ
+laid A ss ds c n = A ∷ c ∷ (flatMap setNumbers ss ++ (n ∷ flatMap definitionNumbers ds))
+
 pub table-ok-sound : Sound table TableOk numbersOf
 unfolding table numbersOf termCount
 table-ok-sound ts rest t h =
@@ -107,28 +132,33 @@ table-ok-sound ts rest t h =
     let s = then-out _ _ (b .middle) t rest (b .after) in
     let c = then-out _ _ (s .middle) t rest (s .after) in
     let d = then-out _ _ (c .middle) t rest (c .after) in
-    let na = number-out _ ts (a .middle) (a .first) (a .before) in
+    let A = a .first in
+    let ss = s .first in
+    let ds = d .first in
+    let S = flatMap setNumbers ss in
+    let D = flatMap definitionNumbers ds in
+    let na = number-out _ ts (a .middle) A (a .before) in
     let nb = number-out _ (a .middle) (b .middle) (b .first) (b .before) in
-    let rs = times-sound (set (a .first)) (SetOk (a .first)) setNumbers (set-sound (a .first)) (b .first) (b .middle) (s .middle) (s .first) (s .before) in
+    let rs = times-sound (set A) (SetOk A) setNumbers (set-sound A) (b .first) (b .middle) (s .middle) ss (s .before) in
     let nc = number-out _ (s .middle) (c .middle) (c .first) (c .before) in
-    let rd = definitions-sound (s .first) (c .first) 0 (c .middle) (d .middle) (d .first) (d .before) in
-    let oka = both (leb 1 (a .first)) (leb (a .first) 64) (na .0) in
+    let rd = definitions-sound ss (c .first) 0 (c .middle) (d .middle) ds (d .before) in
+    let oka = both (leb 1 A) (leb A 64) (na .0) in
     let okc = both (leb 1 (c .first)) (leb (c .first) 32) (nc .0) in
-    pure-out (λ x us. TableOk x × Follows (numbersOf x) ts us) (record { alphabet = a .first; sets = s .first; definitions = d .first }) t (d .middle) rest (d .after) (
+    pure-out (λ x us. TableOk x × Follows (numbersOf x) ts us) (made A ss ds) t (d .middle) rest (d .after) (
       record {
-        alphabet = (leb→le 1 (a .first) (oka .0), leb→le (a .first) 64 (oka .1));
+        alphabet = (leb→le 1 A (oka .0), leb→le A 64 (oka .1));
         sets-most = rw (rs .count) (leb→le (b .first) 64 (nb .0));
         sets = rs .within;
         definitions = (rw (rd .count) (leb→le 1 (c .first) (okc .0)), rw (rd .count) (leb→le (c .first) 32 (okc .1)));
         bodies = rd .ok;
         terms-most = let z = rd .few (omega arith) in omega arith;
       },
-      subst (λ (n : ℕ). Follows (a .first ∷ n ∷ (flatMap setNumbers (s .first) ++ (length (d .first) ∷ flatMap definitionNumbers (d .first)))) ts (d .middle)) (sym (rs .count))
-          (subst (λ (n : ℕ). Follows (a .first ∷ b .first ∷ (flatMap setNumbers (s .first) ++ (n ∷ flatMap definitionNumbers (d .first)))) ts (d .middle)) (sym (rd .count))
-          (follows-join (a .first ∷ []) (b .first ∷ (flatMap setNumbers (s .first) ++ (c .first ∷ flatMap definitionNumbers (d .first)))) ts (a .middle) (d .middle) (na .1)
-          (follows-join (b .first ∷ []) (flatMap setNumbers (s .first) ++ (c .first ∷ flatMap definitionNumbers (d .first))) (a .middle) (b .middle) (d .middle) (nb .1)
-          (follows-join (flatMap setNumbers (s .first)) (c .first ∷ flatMap definitionNumbers (d .first)) (b .middle) (s .middle) (d .middle) (rs .follows)
-          (follows-join (c .first ∷ []) (flatMap definitionNumbers (d .first)) (s .middle) (c .middle) (d .middle) (nc .1) (rd .follows)))))),
+      subst (λ (n : ℕ). Follows (laid A ss ds n (length ds)) ts (d .middle)) (sym (rs .count))
+          (subst (λ (n : ℕ). Follows (laid A ss ds (b .first) n) ts (d .middle)) (sym (rd .count))
+          (follows-join (A ∷ []) (b .first ∷ (S ++ (c .first ∷ D))) ts (a .middle) (d .middle) (na .1)
+          (follows-join (b .first ∷ []) (S ++ (c .first ∷ D)) (a .middle) (b .middle) (d .middle) (nb .1)
+          (follows-join S (c .first ∷ D) (b .middle) (s .middle) (d .middle) (rs .follows)
+          (follows-join (c .first ∷ []) D (s .middle) (c .middle) (d .middle) (nc .1) (rd .follows)))))),
     )
 
 pub table-ok-complete : Complete table TableOk numbersOf
@@ -142,12 +172,16 @@ table-ok-complete ts rest t w f =
     let c = follows-split (n ∷ []) (flatMap definitionNumbers (t .definitions)) (s .middle) rest (s .back) in
     let A = t .alphabet in
     then-in _ _ ts (a .middle) A _
-    (number-in _ ts (a .middle) A (both-in (leb 1 A) (leb A 64) (le→leb 1 A (w .alphabet .0)) (le→leb A 64 (w .alphabet .1))) (a .front))
+    (number-in _ ts (a .middle) A
+    (both-in (leb 1 A) (leb A 64) (le→leb 1 A (w .alphabet .0)) (le→leb A 64 (w .alphabet .1))) (a .front))
     (then-in _ _ (a .middle) (b .middle) (length (t .sets)) _
     (number-in _ (a .middle) (b .middle) (length (t .sets)) (le→leb (length (t .sets)) 64 (w .sets-most)) (b .front))
     (then-in _ _ (b .middle) (s .middle) (t .sets) _
-    (times-complete (set A) (SetOk A) setNumbers (set-complete A) (b .middle) (s .middle) (t .sets) (w .sets) (s .front))
+    (times-complete (set A) (SetOk A) setNumbers (set-complete A) (b .middle) (s .middle) (t .sets) (w .sets)
+    (s .front))
     (then-in _ _ (s .middle) (c .middle) n _
-    (number-in _ (s .middle) (c .middle) n (both-in (leb 1 n) (leb n 32) (le→leb 1 n (w .definitions .0)) (le→leb n 32 (w .definitions .1))) (c .front))
+    (number-in _ (s .middle) (c .middle) n
+    (both-in (leb 1 n) (leb n 32) (le→leb 1 n (w .definitions .0)) (le→leb n 32 (w .definitions .1))) (c .front))
     (then-in _ _ (c .middle) rest (t .definitions) _
-    (definitions-complete (t .sets) 0 (c .middle) rest (t .definitions) (w .bodies) (let z = w .terms-most in omega arith) (c .back)) refl))))
+    (definitions-complete (t .sets) 0 (c .middle) rest (t .definitions) (w .bodies)
+    (let z = w .terms-most in omega arith) (c .back)) refl))))

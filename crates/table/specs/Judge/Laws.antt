@@ -1,4 +1,8 @@
--- (d): a list is accepted exactly where it is the writing of a table that keeps the rules, short enough. Assumes nothing.
+-- A list, or bytes, are accepted exactly where they are the writing of a table that keeps the rules, short enough.
+--     Accepts, judge-out, judge-in             a stream
+--     AcceptedList, list-out, list-in          a number list
+--     AcceptedBytes, bytes-out, bytes-in       bytes
+-- Assumes nothing.
 use Prim.Native.Nat.{ℕ, zero, suc, _+_, _≤_, _<_}
 use native.Mathlib.Omega.{arith}
 use mathlib.Core.Path.{_≡_, refl, sym, ap, _∙_, subst}
@@ -24,10 +28,13 @@ use Rattle.table.specs.References.{firstWrong}
 use Rattle.table.specs.Width.{tooWide}
 use Rattle.table.specs.Branches.{tooManyBranches}
 use Rattle.table.specs.Rules.{Rules}
-use Rattle.table.specs.Rules.Laws.{rules-in, no-wrong, no-width, no-branches}
-use Rattle.table.specs.Judge.{Judgement, accepted, declined, unlessMet, placed, judgeRead, judge, judgeBytes, sized, judgeList}
+use Rattle.table.specs.Rules.Laws.{rules-in, no-wrong, no-wide-level, no-many-branches}
+use Rattle.table.specs.Judge.{Judgement, accepted, declined, unlessMet, placed, judgeRead, judge, judgeBytes}
+use Rattle.table.specs.Judge.{sized, judgeList}
 
-unless-met-out : (n : ℕ) (o : Option ℕ) (j : Judgement) (ns : List ℕ) (t : Table) → unlessMet n o j ≡ accepted ns t → (o ≡ none) × (j ≡ accepted ns t)
+-- ---- streams
+unless-met-out : (n : ℕ) (o : Option ℕ) (j : Judgement) (ns : List ℕ) (t : Table) → unlessMet n o j ≡ accepted ns t
+    → (o ≡ none) × (j ≡ accepted ns t)
 unfolding unlessMet
 unless-met-out n none j ns t h = (refl, h)
 unless-met-out n (some at) j ns t h = let z : _≡_ {A = ℕ} 0 1 = cc in absurd (omega arith)
@@ -49,7 +56,8 @@ pub record Accepts (ts : Tokens) (ns : List ℕ) (t : Table) : Type 0 where
   pub rules : Rules t
   pub numbers : ns ≡ numbersOf t
 
-read-out : (ts : Tokens) (r : Result Table) (ns : List ℕ) (t : Table) → table ts ≡ r → judgeRead ts r ≡ accepted ns t → Accepts ts ns t
+read-out : (ts : Tokens) (r : Result Table) (ns : List ℕ) (t : Table) → table ts ≡ r → judgeRead ts r ≡ accepted ns t
+    → Accepts ts ns t
 unfolding judgeRead
 read-out ts (refused n at) ns t e h = let z : _≡_ {A = ℕ} 0 1 = cc in absurd (omega arith)
 read-out ts (got u rest) ns t e h =
@@ -78,14 +86,15 @@ placed-none : (ts : Tokens) (o : Option ℕ) → o ≡ none → placed ts o ≡ 
 unfolding placed
 placed-none ts o e = rw e refl
 
-pub judge-in : (ts rest : Tokens) (t : Table) → Follows (numbersOf t) ts rest → trailing rest ≡ none → Rules t → judge ts ≡ accepted (numbersOf t) t
+pub judge-in : (ts rest : Tokens) (t : Table) → Follows (numbersOf t) ts rest → trailing rest ≡ none → Rules t
+    → judge ts ≡ accepted (numbersOf t) t
 unfolding judge judgeRead
 judge-in ts rest t f n r =
     rw (table-ok-complete ts rest t (fields-in t (r .fields)) f)
     (unless-met-in 6 (trailing rest) _ n
     ∙ unless-met-in 7 (placed ts (firstWrong t)) _ (placed-none ts (firstWrong t) (no-wrong t r))
-    ∙ unless-met-in 8 (tooWide t) _ (no-width t r)
-    ∙ unless-met-in 9 (tooManyBranches t) _ (no-branches t r))
+    ∙ unless-met-in 8 (tooWide t) _ (no-wide-level t r)
+    ∙ unless-met-in 9 (tooManyBranches t) _ (no-many-branches t r))
 
 -- ---- number lists
 pub record SizedOut (l : List ℕ) (j : Judgement) (ns : List ℕ) (t : Table) : Type 0 where
@@ -97,7 +106,8 @@ unfolding sized
 sized-out l (declined n at) ns t h = let z : _≡_ {A = ℕ} 0 1 = cc in absurd (omega arith)
 sized-out l (accepted ms u) ns t h = go (ltb 16384 (length (listBytes l))) refl h
   where
-    go : (b : Bool) → ltb 16384 (length (listBytes l)) ≡ b → cond b (declined 2 0) (accepted ms u) ≡ accepted ns t → SizedOut l (accepted ms u) ns t
+    go : (b : Bool) → ltb 16384 (length (listBytes l)) ≡ b → cond b (declined 2 0) (accepted ms u) ≡ accepted ns t
+        → SizedOut l (accepted ms u) ns t
     go true e k = let z : _≡_ {A = ℕ} 0 1 = cc in absurd (omega arith)
     go false e k = record { verdict = k; short = ltb-false 16384 (length (listBytes l)) e }
 
@@ -119,7 +129,8 @@ pub list-in : (l ns : List ℕ) (t : Table) → AcceptedList l ns t → judgeLis
 unfolding judgeList sized
 list-in l ns t a =
     let w = a .written in
-    let f = subst (λ (m : List ℕ). Follows m (listTokens 0 l) (ended (0 + length l) (0 + length l))) w (whole-list 0 l) in
+    let f = subst (λ (m : List ℕ). Follows m (listTokens 0 l) (ended (0 + length l) (0 + length l))) w
+    (whole-list 0 l) in
     let j = judge-in (listTokens 0 l) _ t f (nothing-left (0 + length l)) (a .rules) in
     let short' = a .short in
     let e : ltb 16384 (length (listBytes l)) ≡ false = le-ltb _ _ short' in
@@ -137,7 +148,8 @@ pub bytes-out : (s ns : List ℕ) (t : Table) → Bytes s → judgeBytes s ≡ a
 unfolding judgeBytes byteTokens
 bytes-out s ns t w h = go (ltb 16384 (length s)) refl h
   where
-    go : (b : Bool) → ltb 16384 (length s) ≡ b → cond b (declined 2 0) (judge (byteTokens s)) ≡ accepted ns t → AcceptedBytes s ns t
+    go : (b : Bool) → ltb 16384 (length s) ≡ b → cond b (declined 2 0) (judge (byteTokens s)) ≡ accepted ns t
+        → AcceptedBytes s ns t
     go true e k = let z : _≡_ {A = ℕ} 0 1 = cc in absurd (omega arith)
     go false e k =
         let a = judge-out (byteTokens s) ns t k in
@@ -155,7 +167,8 @@ bytes-in s ns t a =
     let ns' = numbersOf t in
     let e : s ≡ listBytes ns' = a .bytes ∙ ap listBytes (a .written) in
     let f = whole-bytes ns' (length (listBytes ns')) 0 (numbers-small t (a .rules)) (omega arith) in
-    let f' = subst (λ (u : List ℕ). Follows ns' (byteTokensWith (length u) 0 u) (ended (0 + length u) (0 + length u))) (sym e) f in
+    let f' = subst (λ (u : List ℕ). Follows ns' (byteTokensWith (length u) 0 u) (ended (0 + length u) (0 + length u)))
+    (sym e) f in
     let j = judge-in (byteTokensWith (length s) 0 s) _ t f' (nothing-left (0 + length s)) (a .rules) in
     let short' = a .short in
     let b : ltb 16384 (length s) ≡ false = le-ltb _ _ short' in

@@ -15,7 +15,7 @@ use borrow.Author.Tests.{le-ltb, lt-ltb}
 use Rattle.numbers.specs.Number.{listBytes}
 use Rattle.table.specs.declared.answer.First.{First}
 use Rattle.table.specs.declared.answer.First.the-variants.{Nowhere, Broken}
-use Rattle.table.specs.First.{first-out, first-short}
+use Rattle.table.specs.First.Laws.{first-out, first-short}
 use Rattle.table.specs.Tokens.{Tokens, ended, listTokens, trailing, placeOf}
 use Rattle.table.specs.Tokens.Laws.{Follows, list-whole, nothing-left}
 use Rattle.table.specs.Grammar.Whole.{TableOk, table-ok-sound}

@@ -1,35 +1,25 @@
--- The grammar of sets sees their marked writings. Assumes nothing.
-use Prim.Native.Nat.{ℕ, zero, suc, _+_, _≤_, _<_}
+-- The grammar of sets sees their marked writings.
+--     SetR        a set's marked writing
+--     sees-set    the law
+-- Assumes nothing.
+use Prim.Native.Nat.{ℕ, zero, suc, _≤_}
 use native.Mathlib.Omega.{arith}
 use mathlib.Core.Path.{_≡_, refl, sym, ap, _∙_, subst}
-use mathlib.Core.Bool.{Bool, true, false, _&&_}
-use mathlib.Core.List.{List, [], _∷_, _++_, flatMap, append-nil}
-use lib.ListN.{length, getD}
-use lib.Dec.{T, ltb, leb, ltb→lt}
-use borrow.Author.Tests.{ltb-true, leb-true}
-use Rattle.numbers.specs.Choice.{both, true-T}
+use mathlib.Core.Bool.{Bool, true, _&&_}
+use mathlib.Core.List.{List, [], _∷_, _++_, flatMap}
+use lib.ListN.{length}
+use lib.Dec.{ltb, leb}
+use borrow.Author.Tests.{leb-true}
 use Rattle.numbers.specs.Every.{All}
-use Rattle.table.specs.Table.{SetRef, fixed, family, Term, stop, fail, prefix, choice, par, call, SetDef, one, each, Definition, Table, size}
-use Rattle.table.specs.Context.{Each}
-use Rattle.table.specs.Fields.{FamilyRows, IsOne, IsEach, OfRef}
-use Rattle.table.specs.Tokens.{Tokens, listTokens}
-use Rattle.table.specs.Parser.{Result, got, refused, Parser, number, pure, andThen, times}
-use Rattle.table.specs.Parser.Sees.{Mark, mark, numbers, Pass, Whole, Part, Sees, sees-iff, NumberR, sees-number, PureR, sees-pure, ThenR, sees-then}
-use Rattle.table.specs.Grammar.{events, row, setOfKind, set, refOfKind, setRef, termOfKind, termWith, definition, definitionsOf, table}
-use Rattle.table.specs.Marks.{eventMarks, rowMarks, setMarks, refMarks, kindOk, oneLess, termMarks, definitionMarks, definitionsMarks, tableMarks, RefShape, BodyShape, Shape}
-
--- ---- lists of marks
-pub join : (M a b a' b' : List Mark) → M ≡ a ++ b → a ≡ a' → b ≡ b' → M ≡ a' ++ b'
-join M a b a' b' e p q = cc
-
-pub last : (M a b : List Mark) → M ≡ a ++ b → b ≡ [] → M ≡ a
-last M a b e p = e ∙ ap (λ (x : List Mark). a ++ x) p ∙ append-nil a
-
-abbrev pub Any : ℕ → Type 0
-Any v = Unit
-
-pub any-number : (ok : ℕ → Bool) → Sees (NumberR ok Any) (number ok)
-any-number ok = sees-number ok Any 0 tt (λ v e. tt)
+use Rattle.table.specs.Table.{SetDef, one, each}
+use Rattle.table.specs.Fields.{FamilyRows}
+use Rattle.table.specs.Parser.{pure}
+use Rattle.table.specs.Parser.Mark.{Mark, mark}
+use Rattle.table.specs.Parser.Sees.{Sees, sees-iff, NumberR, sees-number, PureR, sees-pure}
+use Rattle.table.specs.Parser.SeesThen.{ThenR, sees-then}
+use Rattle.table.specs.Grammar.{events, row, setOfKind, set}
+use Rattle.table.specs.Marks.{eventMarks, rowMarks, setMarks}
+use Rattle.table.specs.Marks.Sequence.{join, last, Any, any-number, then-pure, ItemR, SeqR, sees-times}
 
 -- ---- rows
 abbrev EventsR : ℕ → ℕ → ℕ → List ℕ → List Mark → Type 0
@@ -51,7 +41,8 @@ events-to A n low es M x =
     let k = w .0 in
     subst (λ (b : List ℕ). EventsR A (suc n) low b M) (sym (z .0)) (
       ap suc k,
-      join M (x .one) (x .two) (mark e (eventOk A low e) ∷ []) (eventMarks A (suc e) (y .first)) (x .whole) (x .writes-one .1)
+      join M (x .one) (x .two) (mark e (eventOk A low e) ∷ []) (eventMarks A (suc e) (y .first)) (x .whole)
+          (x .writes-one .1)
           (last (x .two) (y .one) (y .two) (y .whole) (z .1) ∙ w .1),
     )
 
@@ -65,14 +56,7 @@ events-from A n low (e ∷ es) M x =
       one = mark e (eventOk A low e) ∷ [];
       two = eventMarks A (suc e) es;
       writes-one = (tt, refl);
-      writes-two = record {
-        first = es;
-        one = eventMarks A (suc e) es;
-        two = [];
-        writes-one = (omega arith, refl);
-        writes-two = (refl, refl);
-        whole = sym (append-nil (eventMarks A (suc e) es));
-      };
+      writes-two = then-pure (EventsR A n (suc e)) (λ b. e ∷ b) es (eventMarks A (suc e) es) (omega arith, refl);
       whole = x .1;
     }
 
@@ -88,8 +72,10 @@ sees-events A zero low =
     (λ es M x. let e = empty-is es (x .0) in (e, x .1 ∙ ap (eventMarks A low) e)) (sees-pure [])
 sees-events A (suc n) low =
     sees-iff (EventsT A n low) (EventsR A (suc n) low) _ (events-to A n low) (events-from A n low)
-    (sees-then (NumberR (eventOk A low) Any) (λ e. ThenR (EventsR A n (suc e)) (λ es. PureR (e ∷ es))) _ _ (any-number (eventOk A low))
-    (λ e M r. sees-then (EventsR A n (suc e)) (λ es. PureR (e ∷ es)) _ _ (sees-events A n (suc e)) (λ es N q. sees-pure (e ∷ es))))
+    (sees-then (NumberR (eventOk A low) Any) (λ e. ThenR (EventsR A n (suc e)) (λ es. PureR (e ∷ es))) _ _
+    (any-number (eventOk A low))
+    (λ e M r. sees-then (EventsR A n (suc e)) (λ es. PureR (e ∷ es)) _ _ (sees-events A n (suc e))
+    (λ es N q. sees-pure (e ∷ es))))
 
 abbrev RowR : ℕ → List ℕ → List Mark → Type 0
 RowR A r M = Unit {0} × (M ≡ rowMarks A r)
@@ -104,81 +90,28 @@ row-to A r M x =
     let k = w .0 in (
       tt,
       subst (λ (c : ℕ). M ≡ mark c (leb c A) ∷ eventMarks A 0 r) (sym k)
-          (join M (x .one) (x .two) (mark (x .first) (leb (x .first) A) ∷ []) (eventMarks A 0 r) (x .whole) (x .writes-one .1) (w .1)),
+          (join M (x .one) (x .two) (mark (x .first) (leb (x .first) A) ∷ []) (eventMarks A 0 r) (x .whole)
+          (x .writes-one .1) (w .1)),
     )
 
 row-from : (A : ℕ) (r : List ℕ) (M : List Mark) → RowR A r M → RowT A r M
 unfolding rowMarks
 row-from A r M x =
-    record { first = length r; one = mark (length r) (leb (length r) A) ∷ []; two = eventMarks A 0 r; writes-one = (tt, refl); writes-two = (refl, refl); whole = x .1 }
+    record {
+      first = length r;
+      one = mark (length r) (leb (length r) A) ∷ [];
+      two = eventMarks A 0 r;
+      writes-one = (tt, refl);
+      writes-two = (refl, refl);
+      whole = x .1;
+    }
 
 sees-row : (A : ℕ) → Sees (RowR A) (row A)
 unfolding row
 sees-row A =
     sees-iff (RowT A) (RowR A) _ (row-to A) (row-from A)
-    (sees-then (NumberR (λ c. leb c A) Any) (λ c. EventsR A c 0) _ _ (any-number (λ c. leb c A)) (λ c M r. sees-events A c 0))
-
--- ---- so many things
-module _ {A : Type 0} (X : A → Type 0) (w : A → List Mark) where
-  abbrev pub ItemR : A → List Mark → Type 0
-  ItemR a M = X a × (M ≡ w a)
-
-  abbrev pub SeqR : ℕ → List A → List Mark → Type 0
-  SeqR n l M = (length l ≡ n) × All X l × (M ≡ flatMap w l)
-
-  abbrev SeqT : ℕ → List A → List Mark → Type 0
-  SeqT n = ThenR ItemR (λ a. ThenR (SeqR n) (λ l. PureR (a ∷ l)))
-
-  seq-to : (n : ℕ) (l : List A) (M : List Mark) → SeqT n l M → SeqR (suc n) l M
-  unfolding flatMap
-  seq-to n l M x =
-      let y = x .writes-two in
-      let a = x .first in
-      let v = y .writes-one in
-      let z = y .writes-two in
-      let k = v .0 in
-      subst (λ (b : List A). SeqR (suc n) b M) (sym (z .0)) (
-        ap suc k,
-        (x .writes-one .0, v .1),
-        join M (x .one) (x .two) (w a) (flatMap w (y .first)) (x .whole) (x .writes-one .1)
-            (last (x .two) (y .one) (y .two) (y .whole) (z .1) ∙ v .2),
-      )
-
-  seq-from : (n : ℕ) (l : List A) (M : List Mark) → SeqR (suc n) l M → SeqT n l M
-  unfolding flatMap
-  seq-from n [] M x = let k = x .0 in absurd (omega arith)
-  seq-from n (a ∷ l) M x =
-      let k = x .0 in
-      record {
-        first = a;
-        one = w a;
-        two = flatMap w l;
-        writes-one = (x .1 .0, refl);
-        writes-two = record {
-          first = l;
-          one = flatMap w l;
-          two = [];
-          writes-one = (omega arith, x .1 .1, refl);
-          writes-two = (refl, refl);
-          whole = sym (append-nil (flatMap w l));
-        };
-        whole = x .2;
-      }
-
-  none-is : (l : List A) → length l ≡ 0 → l ≡ []
-  none-is [] h = refl
-  none-is (a ∷ l) h = absurd (omega arith)
-
-  pub sees-times : (p : Parser A) → Sees ItemR p → (n : ℕ) → Sees (SeqR n) (times n p)
-  unfolding times flatMap
-  sees-times p s zero =
-      sees-iff (PureR []) (SeqR zero) (pure [])
-      (λ l M x. subst (λ (b : List A). SeqR zero b M) (sym (x .0)) (refl, tt, x .1))
-      (λ l M x. let e = none-is l (x .0) in (e, x .2 ∙ ap (flatMap w) e)) (sees-pure [])
-  sees-times p s (suc n) =
-      sees-iff (SeqT n) (SeqR (suc n)) _ (seq-to n) (seq-from n)
-      (sees-then ItemR (λ a. ThenR (SeqR n) (λ l. PureR (a ∷ l))) _ _ s
-      (λ a M r. sees-then (SeqR n) (λ l. PureR (a ∷ l)) _ _ (sees-times p s n) (λ l N q. sees-pure (a ∷ l))))
+    (sees-then (NumberR (λ c. leb c A) Any) (λ c. EventsR A c 0) _ _ (any-number (λ c. leb c A))
+    (λ c M r. sees-events A c 0))
 
 -- ---- sets
 abbrev pub SetR : ℕ → SetDef → List Mark → Type 0
@@ -194,7 +127,8 @@ SetKindR A (suc k) = ThenR (SeqR (Row' A) (rowMarks A) A) (λ rs. PureR (each rs
 abbrev SetT : ℕ → SetDef → List Mark → Type 0
 SetT A = ThenR (NumberR (λ k. leb k 1) (λ k. k ≤ 1)) (SetKindR A)
 
-set-kind-to : (A k : ℕ) → k ≤ 1 → (s : SetDef) (M N : List Mark) → SetKindR A k s N → M ≡ mark k (leb k 1) ∷ N → SetR A s M
+set-kind-to : (A k : ℕ) → k ≤ 1 → (s : SetDef) (M N : List Mark) → SetKindR A k s N → M ≡ mark k (leb k 1) ∷ N
+    → SetR A s M
 unfolding setMarks
 set-kind-to A zero b s M N x e =
     let z = x .writes-two in
@@ -227,7 +161,7 @@ set-from A (one r) M x =
       one = mark 0 true ∷ [];
       two = rowMarks A r;
       writes-one = (omega arith, refl);
-      writes-two = record { first = r; one = rowMarks A r; two = []; writes-one = (tt, refl); writes-two = (refl, refl); whole = sym (append-nil (rowMarks A r)) };
+      writes-two = then-pure (RowR A) one r (rowMarks A r) (tt, refl);
       whole = x .1;
     }
 set-from A (each rs) M x =
@@ -236,14 +170,8 @@ set-from A (each rs) M x =
       one = mark 1 true ∷ [];
       two = flatMap (rowMarks A) rs;
       writes-one = (omega arith, refl);
-      writes-two = record {
-        first = rs;
-        one = flatMap (rowMarks A) rs;
-        two = [];
-        writes-one = (x .0, all-rows A rs, refl);
-        writes-two = (refl, refl);
-        whole = sym (append-nil (flatMap (rowMarks A) rs));
-      };
+      writes-two =
+          then-pure (SeqR (Row' A) (rowMarks A) A) each rs (flatMap (rowMarks A) rs) (x .0, all-rows A rs, refl);
       whole = x .1;
     }
 
@@ -251,7 +179,8 @@ sees-set-kind : (A k : ℕ) → Sees (SetKindR A k) (setOfKind A k)
 unfolding setOfKind
 sees-set-kind A zero = sees-then (RowR A) (λ r. PureR (one r)) _ _ (sees-row A) (λ r M q. sees-pure (one r))
 sees-set-kind A (suc k) =
-    sees-then (SeqR (Row' A) (rowMarks A) A) (λ rs. PureR (each rs)) _ _ (sees-times (Row' A) (rowMarks A) (row A) (sees-row A) A) (λ rs M q. sees-pure (each rs))
+    sees-then (SeqR (Row' A) (rowMarks A) A) (λ rs. PureR (each rs)) _ _
+    (sees-times (Row' A) (rowMarks A) (row A) (sees-row A) A) (λ rs M q. sees-pure (each rs))
 
 pub sees-set : (A : ℕ) → Sees (SetR A) (set A)
 unfolding set

@@ -15,7 +15,8 @@ use borrow.Author.Tests.{eq-eqb}
 use Rattle.table.specs.declared.terms.Spot.{Spot}
 use Rattle.table.specs.Table.{family, Term, stop, fail, prefix, choice, par, call}
 use Rattle.table.specs.Table.{Definition, Table, termCount}
-use Rattle.table.specs.First.{orElse, unless, orElse-assoc, orElse-out, unless-out}
+use Rattle.table.specs.First.{orElse, unless}
+use Rattle.table.specs.First.Laws.{orElse-assoc, orElse-out, unless-out}
 use Rattle.table.specs.Context.{Context, outermost, underPrefix, underParallel}
 use Rattle.table.specs.Writing.{refNumbers, termNumbers, definitionNumbers}
 use Rattle.table.specs.Node.{Node, nodes, nodesFrom, nodesOf, noNode, nodeAt, termOf, refOf, definitionsAt}

@@ -1,5 +1,9 @@
--- A number list is refused with 3 or 5 exactly on that refusal's condition. Assumes nothing.
-use Prim.Native.Nat.{ℕ, zero, suc, _+_, _≤_, _<_}
+-- A number list is refused with 3 or 5 exactly on that refusal's condition, and so with any number
+-- (01, "When the monitor declines": "Each is given exactly on its condition").
+--     open-cut, cut-open           a beginning of a table ends early, and nothing else does
+--     refused-out, refused-in      all refusals of a number list
+-- Assumes nothing.
+use Prim.Native.Nat.{ℕ, suc, _+_}
 use native.Mathlib.Omega.{arith}
 use mathlib.Core.Path.{_≡_, refl, sym, ap, _∙_, subst}
 use mathlib.Core.List.{List, [], _∷_, _++_, append-nil}
@@ -7,24 +11,23 @@ use lib.ListN.{length}
 use Rattle.table.specs.Table.{Table}
 use Rattle.table.specs.Tokens.{Tokens, listTokens}
 use Rattle.table.specs.Parser.{Result, got, refused}
-use Rattle.table.specs.Parser.Sees.{Mark, mark, numbers, Pass, Whole, Part, Sees}
+use Rattle.table.specs.Parser.Mark.{Mark, numbers}
+use Rattle.table.specs.Parser.Sees.{Whole}
 use Rattle.table.specs.Grammar.{table}
-use Rattle.table.specs.Marks.{tableMarks, Shape, Open, Fits}
+use Rattle.table.specs.Marks.{tableMarks, Open, Fits}
 use Rattle.table.specs.Marks.Whole.{TableR, sees-table}
-use Rattle.table.specs.Tokens.Laws.{list-follows}
-use Rattle.table.specs.Writing.{numbersOf}
-use Rattle.table.specs.Fields.{Fields}
-use Rattle.table.specs.Fields.Laws.{fields-in, fields-out}
-use Rattle.table.specs.Grammar.Whole.{table-ok-sound, table-ok-complete}
 use Rattle.table.specs.Judge.{declined, judgeList}
-use Rattle.table.specs.Refusals.{Truncated, OutOfRange, Refused, too-long, truncated-list, out-of-range, trailing-input, bad-reference, too-wide, too-many-branches}
-use Rattle.table.specs.Refusals.Exact.{Stops, cut, off, stops, Declined, unread, left, unlinked, narrow, crowded, long, declined-out, declined-in}
+use Rattle.table.specs.Refusals.{Truncated, OutOfRange, Refused, too-long, truncated-list, out-of-range}
+use Rattle.table.specs.Refusals.{trailing-input, bad-reference, too-wide, too-many-branches}
+use Rattle.table.specs.Refusals.Stops.{Stops, cut, off, stops}
+use Rattle.table.specs.Refusals.Exact.{Declined, unread, trails, unlinked, broad, branching, long, declined-out}
+use Rattle.table.specs.Refusals.Exact.{declined-in}
 
 length-numbers : (M : List Mark) → length (numbers M) ≡ length M
 length-numbers [] = refl
 length-numbers (m ∷ M) = ap suc (length-numbers M)
 
--- ---- a beginning is cut short
+-- ---- a beginning ends early
 pub open-cut : (l : List ℕ) → Open l → table (listTokens 0 l) ≡ refused 3 (length l)
 open-cut l o =
     let e = sees-table .cut-in 0 (o .table) (o .front) (o .at) (o .back) (o .shape, sym (o .marks)) (o .pass) in
@@ -35,10 +38,28 @@ open-cut l o =
 pub cut-open : (l : List ℕ) (k : ℕ) → table (listTokens 0 l) ≡ refused 3 k → Open l
 cut-open l k e =
     let p = sees-table .cut-out 0 l k e in
-    record { table = p .what; front = p .front; at = p .at; back = p .back; shape = p .writes .0; marks = sym (p .writes .1); pass = p .pass; list = p .list }
+    record {
+      table = p .what;
+      front = p .front;
+      at = p .at;
+      back = p .back;
+      shape = p .writes .0;
+      marks = sym (p .writes .1);
+      pass = p .pass;
+      list = p .list;
+    }
 
 open-fits : (l : List ℕ) → Open l → Fits l
-open-fits l o = record { table = o .table; front = o .front; back = o .at ∷ o .back; shape = o .shape; marks = o .marks; pass = o .pass; list = o .list }
+open-fits l o =
+    record {
+      table = o .table;
+      front = o .front;
+      back = o .at ∷ o .back;
+      shape = o .shape;
+      marks = o .marks;
+      pass = o .pass;
+      list = o .list;
+    }
 
 -- what fits is not refused with 5
 fits-not-off : (l : List ℕ) (k : ℕ) → Fits l → table (listTokens 0 l) ≡ refused 5 k → ⊥
@@ -52,7 +73,16 @@ fits-not-off l k f e = go (f .back) (f .marks)
         let z : _≡_ {A = ℕ} 0 1 = cc in
         omega arith
     go (a ∷ back) m =
-        let o : Open l = record { table = f .table; front = f .front; at = a; back = back; shape = f .shape; marks = m; pass = f .pass; list = f .list } in
+        let o : Open l = record {
+          table = f .table;
+          front = f .front;
+          at = a;
+          back = back;
+          shape = f .shape;
+          marks = m;
+          pass = f .pass;
+          list = f .list;
+        } in
         let q = sym e ∙ open-cut l o in
         let z : _≡_ {A = ℕ} 5 3 = cc in
         omega arith
@@ -139,9 +169,12 @@ module _ (l : List ℕ) (at : ℕ) (s : OutOfRange l at) where
   pub off-in : table (listTokens 0 l) ≡ refused 5 at
   off-in = go (table (listTokens 0 (f ++ (x ∷ [])))) refl
     where
-      by : (n k : ℕ) → table (listTokens 0 (f ++ (x ∷ []))) ≡ refused n k → Stops (f ++ (x ∷ [])) n k → table (listTokens 0 l) ≡ refused 5 at
+      by : (n k : ℕ) → table (listTokens 0 (f ++ (x ∷ []))) ≡ refused n k → Stops (f ++ (x ∷ [])) n k
+          → table (listTokens 0 l) ≡ refused 5 at
       by n k e (cut h j) =
-          absurd (s .broken (open-fits (f ++ (x ∷ [])) (cut-open (f ++ (x ∷ [])) k (subst (λ (m : ℕ). table (listTokens 0 (f ++ (x ∷ []))) ≡ refused m k) h e))))
+          absurd (s .broken
+          (open-fits (f ++ (x ∷ []))
+          (cut-open (f ++ (x ∷ [])) k (subst (λ (m : ℕ). table (listTokens 0 (f ++ (x ∷ []))) ≡ refused m k) h e))))
       by n k e (off h front y more w p c g) = off-case k (off refl front y more w p c g)
 
       go : (r : Result Table) → table (listTokens 0 (f ++ (x ∷ []))) ≡ r → table (listTokens 0 l) ≡ refused 5 at
@@ -180,37 +213,27 @@ off-exact-in l at s = off-in l at s
 
 -- ---- all refusals of a number list
 unread-out : (l : List ℕ) (n at : ℕ) → table (listTokens 0 l) ≡ refused n at → Stops l n at → Refused l n at
-unread-out l n at e (cut h j) = truncated-list h (cut-exact-out l at (subst (λ (m : ℕ). table (listTokens 0 l) ≡ refused m at) h e))
-unread-out l n at e (off h front y more w p c g) = out-of-range h (off-exact-out l at (subst (λ (m : ℕ). table (listTokens 0 l) ≡ refused m at) h e))
+unread-out l n at e (cut h j) =
+    truncated-list h (cut-exact-out l at (subst (λ (m : ℕ). table (listTokens 0 l) ≡ refused m at) h e))
+unread-out l n at e (off h front y more w p c g) =
+    out-of-range h (off-exact-out l at (subst (λ (m : ℕ). table (listTokens 0 l) ≡ refused m at) h e))
 
 pub refused-out : (l : List ℕ) (n at : ℕ) → judgeList l ≡ declined n at → Refused l n at
 refused-out l n at h = go (declined-out l n at h)
   where
     go : Declined l n at → Refused l n at
     go (unread e) = unread-out l n at e (stops l n at e)
-    go (left e k) = trailing-input e k
+    go (trails e k) = trailing-input e k
     go (unlinked e k) = bad-reference e k
-    go (narrow e k) = too-wide e k
-    go (crowded e k) = too-many-branches e k
+    go (broad e k) = too-wide e k
+    go (branching e k) = too-many-branches e k
     go (long e k) = too-long e k
 
 pub refused-in : (l : List ℕ) (n at : ℕ) → Refused l n at → judgeList l ≡ declined n at
 refused-in l n at (too-long e k) = declined-in l n at (long e k)
 refused-in l n at (truncated-list e k) = rw e (declined-in l 3 at (unread (cut-exact-in l at k)))
 refused-in l n at (out-of-range e k) = rw e (declined-in l 5 at (unread (off-exact-in l at k)))
-refused-in l n at (trailing-input e k) = declined-in l n at (left e k)
+refused-in l n at (trailing-input e k) = declined-in l n at (trails e k)
 refused-in l n at (bad-reference e k) = declined-in l n at (unlinked e k)
-refused-in l n at (too-wide e k) = declined-in l n at (narrow e k)
-refused-in l n at (too-many-branches e k) = declined-in l n at (crowded e k)
-
--- ---- the field rules are the marks
-open-all : (t : Table) → Fields t → table (listTokens 0 (numbersOf t ++ [])) ≡ got t (listTokens (0 + length (numbersOf t)) [])
-open-all t f = table-ok-complete _ _ t (fields-in t f) (list-follows 0 (numbersOf t) [])
-
-pub marks-out : (t : Table) → Fields t → Shape t × Pass (tableMarks t)
-marks-out t f =
-    let w = sees-table .got-out 0 (numbersOf t ++ []) t _ (open-all t f) in
-    (w .writes .0, subst Pass (w .writes .1) (w .pass))
-
-pub marks-in : (t : Table) → Shape t → Pass (tableMarks t) → Fields t
-marks-in t s p = fields-out t (table-ok-sound _ _ t (sees-table .got-in 0 t (tableMarks t) [] (s, refl) p) .0)
+refused-in l n at (too-wide e k) = declined-in l n at (broad e k)
+refused-in l n at (too-many-branches e k) = declined-in l n at (branching e k)

@@ -1,4 +1,7 @@
--- The walks of refusals 7, 8 and 9 find the first test that fails. Assumes nothing.
+-- The walks of refusals 7, 8 and 9 find the first test that fails.
+--     length-links, length-few                      as many tests as numbers, as terms
+--     wrong-first, width-first, branches-first      `firstWrong`, `tooWide`, `tooManyBranches`
+-- Assumes nothing.
 use Prim.Native.Nat.{ℕ, zero, suc, _+_, _≤_, _<_}
 use native.Mathlib.Omega.{arith}
 use mathlib.Core.Path.{_≡_, refl, sym, ap, ap₂, _∙_, subst}
@@ -7,8 +10,10 @@ use mathlib.Core.List.{List, [], _∷_, _++_, flatMap, map}
 use mathlib.Core.Option.{Option, none, some}
 use lib.ListN.{length, replicate, length-append, length-replicate}
 use lib.Dec.{leb}
-use Rattle.table.specs.First.{orElse, unless, firstFalse, firstFalse-append, orElse-assoc}
-use Rattle.table.specs.Table.{SetRef, fixed, family, Term, stop, fail, prefix, choice, par, call, Definition, Table, size}
+use Rattle.table.specs.First.{orElse, unless, firstFalse}
+use Rattle.table.specs.First.Laws.{firstFalse-append, orElse-assoc}
+use Rattle.table.specs.Table.{SetRef, fixed, family, Term, stop, fail, prefix, choice, par, call, Definition}
+use Rattle.table.specs.Table.{Table, size}
 use Rattle.table.specs.Context.{Context, outermost, underPrefix, underParallel}
 use Rattle.table.specs.Writing.{setNumbers, refNumbers, termNumbers, definitionNumbers, numbersOf}
 use Rattle.table.specs.References.{paramFits, callFits, wrongRef, wrongIn, wrongFrom, firstWrong}
@@ -16,7 +21,7 @@ use Rattle.table.specs.Width.{allWidths, firstAbove, tooWide}
 use Rattle.table.specs.Branches.{branchesWith, lookup, allBranches, followerAbove, bodyAbove, tooManyBranches}
 use Rattle.table.specs.Refusals.{refLinks, termLinks, linksFrom, links, fewIn, fewFrom, fewTerms, narrowLevels}
 
--- ---- lengths
+-- ---- the length of links
 length-refLinks : (c : Context) (r : SetRef) → length (refLinks c r) ≡ length (refNumbers r)
 unfolding refLinks refNumbers
 length-refLinks c (fixed s) = refl
@@ -30,19 +35,27 @@ module _ (ds : List Definition) (level own : ℕ) where
   unfolding termLinks termNumbers
   length-termLinks c stop = refl
   length-termLinks c fail = refl
-  length-termLinks c (prefix r p) = ap suc (two (refLinks c r) (termLinks ds level own (underPrefix c) p) (refNumbers r) (termNumbers p) (length-refLinks c r) (length-termLinks (underPrefix c) p))
-  length-termLinks c (choice p q) = ap suc (two (termLinks ds level own c p) (termLinks ds level own c q) (termNumbers p) (termNumbers q) (length-termLinks c p) (length-termLinks c q))
+  length-termLinks c (prefix r p) =
+      ap suc (two (refLinks c r) (termLinks ds level own (underPrefix c) p) (refNumbers r) (termNumbers p)
+      (length-refLinks c r) (length-termLinks (underPrefix c) p))
+  length-termLinks c (choice p q) =
+      ap suc (two (termLinks ds level own c p) (termLinks ds level own c q) (termNumbers p) (termNumbers q)
+      (length-termLinks c p) (length-termLinks c q))
   length-termLinks c (par r p q) =
       let u = underParallel c in
-      ap suc (two (refLinks c r) (termLinks ds level own u p ++ termLinks ds level own u q) (refNumbers r) (termNumbers p ++ termNumbers q) (length-refLinks c r)
-      (two (termLinks ds level own u p) (termLinks ds level own u q) (termNumbers p) (termNumbers q) (length-termLinks (underParallel c) p) (length-termLinks (underParallel c) q)))
+      ap suc (two (refLinks c r) (termLinks ds level own u p ++ termLinks ds level own u q) (refNumbers r)
+      (termNumbers p ++ termNumbers q) (length-refLinks c r)
+      (two (termLinks ds level own u p) (termLinks ds level own u q) (termNumbers p) (termNumbers q)
+      (length-termLinks (underParallel c) p) (length-termLinks (underParallel c) q)))
   length-termLinks c (call d) = refl
 
-length-linksFrom : (ds : List Definition) (own : ℕ) (rest : List Definition) → length (linksFrom ds own rest) ≡ length (flatMap definitionNumbers rest)
+length-linksFrom : (ds : List Definition) (own : ℕ) (rest : List Definition)
+    → length (linksFrom ds own rest) ≡ length (flatMap definitionNumbers rest)
 unfolding linksFrom flatMap definitionNumbers
 length-linksFrom ds own [] = refl
 length-linksFrom ds own (d ∷ rest) =
-    two (true ∷ termLinks ds (d .level) own outermost (d .body)) (linksFrom ds (suc own) rest) (d .level ∷ termNumbers (d .body)) (flatMap definitionNumbers rest)
+    two (true ∷ termLinks ds (d .level) own outermost (d .body)) (linksFrom ds (suc own) rest)
+    (d .level ∷ termNumbers (d .body)) (flatMap definitionNumbers rest)
     (ap suc (length-termLinks ds (d .level) own outermost (d .body))) (length-linksFrom ds (suc own) rest)
 
 pub length-links : (t : Table) → length (links t) ≡ length (numbersOf t)
@@ -55,7 +68,7 @@ length-links t =
     let d = length-append s (length (t .definitions) ∷ flatMap definitionNumbers (t .definitions)) in
     omega arith
 
--- ---- 7
+-- ---- firstWrong (refusal 7)
 skip : (i : ℕ) (l : List Bool) → firstFalse i (true ∷ l) ≡ firstFalse (suc i) l
 unfolding firstFalse orElse unless
 skip i l = refl
@@ -76,24 +89,28 @@ module _ (ds : List Definition) (level own : ℕ) where
   in-first c i fail = unfold firstFalse orElse unless in refl
   in-first c i (prefix r p) =
       skip i _ ∙ firstFalse-append (suc i) (refLinks c r) _
-      ∙ ap₂ orElse (ref-first c r (suc i)) (rw (length-refLinks c r) (in-first (underPrefix c) (suc i + length (refNumbers r)) p))
+      ∙ ap₂ orElse (ref-first c r (suc i))
+      (rw (length-refLinks c r) (in-first (underPrefix c) (suc i + length (refNumbers r)) p))
   in-first c i (choice p q) =
       skip i _ ∙ firstFalse-append (suc i) (termLinks ds level own c p) _
-      ∙ ap₂ orElse (in-first c (suc i) p) (rw (length-termLinks ds level own c p) (in-first c (suc i + length (termNumbers p)) q))
+      ∙ ap₂ orElse (in-first c (suc i) p)
+      (rw (length-termLinks ds level own c p) (in-first c (suc i + length (termNumbers p)) q))
   in-first c i (par r p q) =
       let at = suc i + length (refNumbers r) in
       let u = underParallel c in
       skip i _ ∙ firstFalse-append (suc i) (refLinks c r) _
       ∙ ap₂ orElse (ref-first c r (suc i))
       (rw (length-refLinks c r) (firstFalse-append at (termLinks ds level own u p) _
-      ∙ ap₂ orElse (in-first u at p) (rw (length-termLinks ds level own u p) (in-first u (at + length (termNumbers p)) q))))
+      ∙ ap₂ orElse (in-first u at p)
+      (rw (length-termLinks ds level own u p) (in-first u (at + length (termNumbers p)) q))))
   in-first c i (call d) = skip i _ ∙ go (callFits ds level own c d)
     where
       go : (b : Bool) → firstFalse (suc i) (b ∷ []) ≡ unless b (suc i)
       go true = unfold firstFalse orElse unless in refl
       go false = unfold firstFalse orElse unless in refl
 
-from-first : (ds : List Definition) (own i : ℕ) (rest : List Definition) → firstFalse i (linksFrom ds own rest) ≡ wrongFrom ds own i rest
+from-first : (ds : List Definition) (own i : ℕ) (rest : List Definition)
+    → firstFalse i (linksFrom ds own rest) ≡ wrongFrom ds own i rest
 unfolding linksFrom wrongFrom definitionNumbers
 from-first ds own i [] = unfold firstFalse in refl
 from-first ds own i (d ∷ rest) =
@@ -114,7 +131,7 @@ wrong-first t =
     firstFalse-append 0 (replicate n true) _
     ∙ ap₂ orElse (trues 0 n) (rw e (from-first (t .definitions) 0 n (t .definitions)))
 
--- ---- 8
+-- ---- tooWide (refusal 8)
 width-first' : (i : ℕ) (l : List ℕ) → firstFalse i (map (λ n. leb n 8) l) ≡ firstAbove 8 i l
 unfolding firstFalse firstAbove
 width-first' i [] = refl
@@ -124,7 +141,7 @@ pub width-first : (t : Table) → firstFalse 0 (narrowLevels t) ≡ tooWide t
 unfolding narrowLevels tooWide
 width-first t = width-first' 0 (allWidths (t .definitions))
 
--- ---- 9
+-- ---- tooManyBranches (refusal 9)
 module _ (calls : ℕ → ℕ) where
   pub length-few : (p : Term) → suc (length (fewIn calls p)) ≡ size p
   unfolding fewIn size
@@ -167,7 +184,8 @@ module _ (calls : ℕ → ℕ) where
       (firstFalse-append (suc n) (fewIn calls (d .body)) (fewFrom calls ds)
       ∙ ap₂ orElse (few-first n (d .body)) (same ∙ bodies-first (n + size (d .body)) ds))
     where
-      same : firstFalse (suc n + length (fewIn calls (d .body))) (fewFrom calls ds) ≡ firstFalse (n + size (d .body)) (fewFrom calls ds)
+      same : firstFalse (suc n + length (fewIn calls (d .body))) (fewFrom calls ds)
+          ≡ firstFalse (n + size (d .body)) (fewFrom calls ds)
       same =
           let e = length-few (d .body) in
           let k : suc n + length (fewIn calls (d .body)) ≡ n + size (d .body) = omega arith in

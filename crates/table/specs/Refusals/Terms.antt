@@ -1,4 +1,8 @@
--- Refusal 9's place is a term number: the term of that number is a body or a prefix's follower, above 256. Assumes nothing.
+-- Refusal 9's place is a term number (01, "When the monitor declines": "lowest such term"): the term of that number is
+-- a body or a prefix's follower, above 256.
+--     termIn-..     `termIn` by cases
+--     ManyAt        such a term;  many-at: where `fewTerms` fails there is one
+-- Assumes nothing.
 use Prim.Native.Nat.{ℕ, zero, suc, _+_, _-_, _≤_, _<_}
 use native.Mathlib.Omega.{arith}
 use native.Mathlib.Decide.{decLt}
@@ -11,7 +15,8 @@ use lib.ListN.{length, getD, take, length-append, List·getD-append}
 use lib.Seq.{getD-append-add}
 use lib.Dec.{leb, ltb, eqb, eqb·suc-zero}
 use borrow.Author.Tests.{lt-ltb, le-ltb, ltb-true, leb-false, ne-eqb}
-use Rattle.table.specs.Table.{SetRef, Term, stop, fail, prefix, choice, par, call, Definition, Table, size, sizes, termIn, termOfDefs, termAt}
+use Rattle.table.specs.Table.{SetRef, Term, stop, fail, prefix, choice, par, call, Definition, Table, size, sizes}
+use Rattle.table.specs.Table.{termIn, termOfDefs, termAt}
 use Rattle.table.specs.Branches.{branchesWith, lookup, allBranches, branches}
 use Rattle.table.specs.Refusals.{fewIn, fewFrom, fewTerms}
 use Rattle.table.specs.Refusals.Laws.{length-few}
@@ -71,8 +76,10 @@ true-is : {X : Type 0} → _≡_ {A = Bool} true false → X
 true-is e = absurd (mathlib.Core.Bool.true≢false e)
 
 module _ (calls : ℕ → ℕ) where
-  pair-at : (b p q : Term) → ((m : ℕ) → m < size p → termIn b (suc m) ≡ termIn p m) → ((m : ℕ) → termIn b (suc (size p + m)) ≡ termIn q m)
-      → ((m : ℕ) → getD (fewIn calls p) m true ≡ false → FollowerAt calls p m) → ((m : ℕ) → getD (fewIn calls q) m true ≡ false → FollowerAt calls q m)
+  pair-at : (b p q : Term) → ((m : ℕ) → m < size p → termIn b (suc m) ≡ termIn p m)
+      → ((m : ℕ) → termIn b (suc (size p + m)) ≡ termIn q m)
+      → ((m : ℕ) → getD (fewIn calls p) m true ≡ false → FollowerAt calls p m)
+      → ((m : ℕ) → getD (fewIn calls q) m true ≡ false → FollowerAt calls q m)
       → (n : ℕ) → getD ((true ∷ fewIn calls p) ++ (true ∷ fewIn calls q)) n true ≡ false → FollowerAt calls b n
   pair-at b p q left right f g n h = go (decLt n (size p))
     where
@@ -86,7 +93,13 @@ module _ (calls : ℕ → ℕ) where
       on-left zero l e = true-is e
       on-left (suc m) l e =
           let x = f m e in
-          record { term = x .term; set = x .set; here = left (suc m) l ∙ x .here; many = x .many; before = left m (omega arith) ∙ x .before }
+          record {
+            term = x .term;
+            set = x .set;
+            here = left (suc m) l ∙ x .here;
+            many = x .many;
+            before = left m (omega arith) ∙ x .before;
+          }
 
       on-right : (k n : ℕ) → n ≡ size p + k → getD (true ∷ fewIn calls q) k true ≡ false → FollowerAt calls b n
       on-right zero n j e = true-is e
@@ -108,7 +121,8 @@ module _ (calls : ℕ → ℕ) where
           let s = length-few calls p in
           let j : n ≡ size p + (n - size p) = omega arith in
           let i : n ≡ length (true ∷ fewIn calls p) + (n - size p) = omega arith in
-          on-right (n - size p) n j (sym (getD-append-add A B (n - size p) true) ∙ ap (λ (m : ℕ). getD (A ++ B) m true) (sym i) ∙ h)
+          on-right (n - size p) n j
+          (sym (getD-append-add A B (n - size p) true) ∙ ap (λ (m : ℕ). getD (A ++ B) m true) (sym i) ∙ h)
 
   pub few-at : (p : Term) (n : ℕ) → getD (fewIn calls p) n true ≡ false → FollowerAt calls p n
   unfolding fewIn
@@ -124,12 +138,22 @@ module _ (calls : ℕ → ℕ) where
       }
   few-at (prefix r p) (suc m) h =
       let x = few-at p m h in
-      record { term = x .term; set = x .set; here = termIn-prefix r p (suc m) ∙ x .here; many = x .many; before = termIn-prefix r p m ∙ x .before }
-  few-at (choice p q) n h = pair-at (choice p q) p q (termIn-left p q) (termIn-right p q) (λ m e. few-at p m e) (λ m e. few-at q m e) n h
-  few-at (par r p q) n h = pair-at (par r p q) p q (termIn-par-left r p q) (termIn-par-right r p q) (λ m e. few-at p m e) (λ m e. few-at q m e) n h
+      record {
+        term = x .term;
+        set = x .set;
+        here = termIn-prefix r p (suc m) ∙ x .here;
+        many = x .many;
+        before = termIn-prefix r p m ∙ x .before;
+      }
+  few-at (choice p q) n h =
+      pair-at (choice p q) p q (termIn-left p q) (termIn-right p q) (λ m e. few-at p m e) (λ m e. few-at q m e) n h
+  few-at (par r p q) n h =
+      pair-at (par r p q) p q (termIn-par-left r p q) (termIn-par-right r p q) (λ m e. few-at p m e)
+      (λ m e. few-at q m e) n h
   few-at (call d) n h = true-is h
 
 -- ---- over the definitions
+
 -- a body, or the follower of the prefix whose number is one less
 pub data Judged9 (ds : List Definition) (n : ℕ) (p : Term) : Type 0 where
   a-body : (d : ℕ) → d < length ds → n ≡ sizes (take d ds) → Judged9 ds n p
@@ -150,11 +174,13 @@ size-some (choice p q) = omega arith
 size-some (par r p q) = omega arith
 size-some (call d) = omega arith
 
-defs-left : (d : Definition) (ds : List Definition) (n : ℕ) → n < size (d .body) → termOfDefs (d ∷ ds) n ≡ termIn (d .body) n
+defs-left : (d : Definition) (ds : List Definition) (n : ℕ) → n < size (d .body)
+    → termOfDefs (d ∷ ds) n ≡ termIn (d .body) n
 unfolding termOfDefs
 defs-left d ds n h = rw (lt-ltb n (size (d .body)) h, termOfDefs) refl
 
-defs-right : (d : Definition) (ds : List Definition) (k : ℕ) → termOfDefs (d ∷ ds) (size (d .body) + k) ≡ termOfDefs ds k
+defs-right : (d : Definition) (ds : List Definition) (k : ℕ)
+    → termOfDefs (d ∷ ds) (size (d .body) + k) ≡ termOfDefs ds k
 unfolding termOfDefs
 defs-right d ds k =
     let h : size (d .body) ≤ size (d .body) + k = omega arith in
@@ -170,7 +196,9 @@ module _ (calls : ℕ → ℕ) where
       A : List Bool
       A = leb (branchesWith calls (d .body)) 256 ∷ fewIn calls (d .body)
 
-      on-left : (n : ℕ) → n < size (d .body) → getD (leb (branchesWith calls (d .body)) 256 ∷ fewIn calls (d .body)) n true ≡ false → ManyAt calls (d ∷ ds) n
+      on-left : (n : ℕ) → n < size (d .body)
+          → getD (leb (branchesWith calls (d .body)) 256 ∷ fewIn calls (d .body)) n true ≡ false
+          → ManyAt calls (d ∷ ds) n
       on-left zero l e =
           record {
             term = d .body;
@@ -193,18 +221,30 @@ module _ (calls : ℕ → ℕ) where
 
       on-right : (k n : ℕ) → n ≡ size (d .body) + k → ManyAt calls ds k → ManyAt calls (d ∷ ds) n
       on-right k n j x =
-          record { term = x .term; here = ap (termOfDefs (d ∷ ds)) j ∙ defs-right d ds k ∙ x .here; many = x .many; place = shift k n (x .term) j (x .place) }
+          record {
+            term = x .term;
+            here = ap (termOfDefs (d ∷ ds)) j ∙ defs-right d ds k ∙ x .here;
+            many = x .many;
+            place = shift k n (x .term) j (x .place);
+          }
 
-      go : ((k : ℕ) → getD (fewFrom calls ds) k true ≡ false → ManyAt calls ds k) → Dec (n < size (d .body)) → ManyAt calls (d ∷ ds) n
-      go ih (yes l) = on-left n l (sym (List·getD-append A (fewFrom calls ds) true n (omega (arith, length-few calls (d .body)))) ∙ h)
+      go : ((k : ℕ) → getD (fewFrom calls ds) k true ≡ false → ManyAt calls ds k) → Dec (n < size (d .body))
+          → ManyAt calls (d ∷ ds) n
+      go ih (yes l) =
+          on-left n l (sym (List·getD-append A (fewFrom calls ds) true n (omega (arith, length-few calls (d .body))))
+          ∙ h)
       go ih (no l) =
           let s = length-few calls (d .body) in
           let j : n ≡ size (d .body) + (n - size (d .body)) = omega arith in
-          let i : n ≡ length (leb (branchesWith calls (d .body)) 256 ∷ fewIn calls (d .body)) + (n - size (d .body)) = omega arith in
+          let i : n ≡ length (leb (branchesWith calls (d .body)) 256 ∷ fewIn calls (d .body))
+          + (n - size (d .body)) = omega arith in
           on-right (n - size (d .body)) n j
-          (ih (n - size (d .body)) (sym (getD-append-add A (fewFrom calls ds) (n - size (d .body)) true) ∙ ap (λ (m : ℕ). getD (A ++ fewFrom calls ds) m true) (sym i) ∙ h))
+          (ih (n - size (d .body))
+          (sym (getD-append-add A (fewFrom calls ds) (n - size (d .body)) true)
+          ∙ ap (λ (m : ℕ). getD (A ++ fewFrom calls ds) m true) (sym i) ∙ h))
 
 -- a term number at which `fewTerms` fails
-pub many-at : (t : Table) (n : ℕ) → getD (fewTerms t) n true ≡ false → ManyAt (lookup (allBranches (t .definitions))) (t .definitions) n
+pub many-at : (t : Table) (n : ℕ) → getD (fewTerms t) n true ≡ false
+    → ManyAt (lookup (allBranches (t .definitions))) (t .definitions) n
 unfolding fewTerms
 many-at t n h = from-at (lookup (allBranches (t .definitions))) (t .definitions) n h

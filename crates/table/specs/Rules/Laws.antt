@@ -1,4 +1,9 @@
--- The rules hold exactly where none of 7, 8 and 9 is met, given the fields. Assumes nothing.
+-- The rules hold exactly where none of 7, 8 and 9 is met, given the fields.
+--     inBodies-imp, inBodies-and                      what holds in all bodies
+--     linked                                          the rules on references together
+--     rules-in                                        none is met, so the rules hold
+--     no-wrong, no-wide-level, no-many-branches       the rules hold, so none is met
+-- Assumes nothing.
 use Prim.Native.Nat.{ℕ, zero, suc, _+_, _≤_, _<_}
 use mathlib.Core.Path.{_≡_, refl}
 use mathlib.Core.List.{List, [], _∷_, flatMap}
@@ -32,7 +37,8 @@ module _ (t : Table) where
       from-imp (λ own d. Throughout (X own d) outermost (d .body) × Throughout (Y own d) outermost (d .body))
       (λ own d. Throughout (λ c p. X own d c p × Y own d c p) outermost (d .body))
       (λ own d z. throughout-and (X own d) (Y own d) outermost (d .body) (z .0) (z .1)) 0 (t .definitions)
-      (from-and (λ own d. Throughout (X own d) outermost (d .body)) (λ own d. Throughout (Y own d) outermost (d .body)) 0 (t .definitions) h k)
+      (from-and (λ own d. Throughout (X own d) outermost (d .body))
+      (λ own d. Throughout (Y own d) outermost (d .body)) 0 (t .definitions) h k)
 
   abbrev pub L : ℕ → Definition → Context → Term → Type 0
   L own d = Linked (t .definitions) (d .level) own
@@ -52,7 +58,8 @@ module _ (t : Table) where
   abbrev Calls : ℕ → Definition → Context → ℕ → Type 0
   Calls own d c = CallOk (t .definitions) (d .level) own c
 
-  linked-in : (own : ℕ) (d : Definition) (c : Context) (p : Term) → OfRef (Enclosed c) p → OfCall (Exist own d c) p → OfCall (Lower own d c) p
+  linked-in : (own : ℕ) (d : Definition) (c : Context) (p : Term) → OfRef (Enclosed c) p → OfCall (Exist own d c) p
+      → OfCall (Lower own d c) p
       → OfCall (Parallel own d c) p → OfCall (Guarded own d c) p → L own d c p
   linked-in own d c stop a x l q g = (tt, tt)
   linked-in own d c fail a x l q g = (tt, tt)
@@ -64,10 +71,12 @@ module _ (t : Table) where
   abbrev R : ℕ → Definition → Context → Term → Type 0
   R own d c = OfRef (Enclosed c)
 
-  of-call : (X : ℕ → Definition → Context → ℕ → Type 0) → ((own : ℕ) (d : Definition) (c : Context) (e : ℕ) → Calls own d c e → X own d c e)
+  of-call : (X : ℕ → Definition → Context → ℕ → Type 0)
+      → ((own : ℕ) (d : Definition) (c : Context) (e : ℕ) → Calls own d c e → X own d c e)
       → InBodies t L → InBodies t (λ own d c. OfCall (X own d c))
   of-call X f h =
-      inBodies-imp L (λ own d c. OfCall (X own d c)) (λ own d c p k. ofCall-imp (Calls own d c) (X own d c) (f own d c) p (k .1)) h
+      inBodies-imp L (λ own d c. OfCall (X own d c))
+      (λ own d c p k. ofCall-imp (Calls own d c) (X own d c) (f own d c) p (k .1)) h
 
   pub rules-in : Fields t → firstWrong t ≡ none → tooWide t ≡ none → tooManyBranches t ≡ none → Rules t
   unfolding firstWrong tooWide tooManyBranches levelWidth branches
@@ -83,31 +92,45 @@ module _ (t : Table) where
         calls-parallel = of-call Parallel (λ own d c e k. k .parallel) l;
         calls-guarded = of-call Guarded (λ own d c e k. k .guarded) l;
         width = above-out 8 0 (allWidths (t .definitions)) h;
-        branches-bodies = all-imp (λ d. Few calls (d .body) × Followers (Few calls) (d .body)) (λ d. Few calls (d .body)) (λ d k. k .0) (t .definitions) b;
-        branches-followers = all-imp (λ d. Few calls (d .body) × Followers (Few calls) (d .body)) (λ d. Followers (Few calls) (d .body)) (λ d k. k .1) (t .definitions) b;
+        branches-bodies =
+            all-imp (λ d. Few calls (d .body) × Followers (Few calls) (d .body)) (λ d. Few calls (d .body))
+            (λ d k. k .0) (t .definitions) b;
+        branches-followers =
+            all-imp (λ d. Few calls (d .body) × Followers (Few calls) (d .body)) (λ d. Followers (Few calls) (d .body))
+            (λ d k. k .1) (t .definitions) b;
       }
 
   pub linked : Rules t → InBodies t L
   linked r =
       inBodies-imp
-      (λ own d c p. OfRef (Enclosed c) p × (OfCall (Exist own d c) p × (OfCall (Lower own d c) p × (OfCall (Parallel own d c) p × OfCall (Guarded own d c) p))))
+      (λ own d c p. OfRef (Enclosed c) p
+      × (OfCall (Exist own d c) p
+      × (OfCall (Lower own d c) p × (OfCall (Parallel own d c) p × OfCall (Guarded own d c) p))))
       L (λ own d c p k. linked-in own d c p (k .0) (k .1 .0) (k .1 .1 .0) (k .1 .1 .1 .0) (k .1 .1 .1 .1))
-      (inBodies-and R (λ own d c p. OfCall (Exist own d c) p × (OfCall (Lower own d c) p × (OfCall (Parallel own d c) p × OfCall (Guarded own d c) p))) (r .parameters-enclosed)
-      (inBodies-and (λ own d c p. OfCall (Exist own d c) p) (λ own d c p. OfCall (Lower own d c) p × (OfCall (Parallel own d c) p × OfCall (Guarded own d c) p)) (r .calls-exist)
-      (inBodies-and (λ own d c p. OfCall (Lower own d c) p) (λ own d c p. OfCall (Parallel own d c) p × OfCall (Guarded own d c) p) (r .calls-level)
-      (inBodies-and (λ own d c p. OfCall (Parallel own d c) p) (λ own d c p. OfCall (Guarded own d c) p) (r .calls-parallel) (r .calls-guarded)))))
+      (inBodies-and R
+      (λ own d c p. OfCall (Exist own d c) p
+      × (OfCall (Lower own d c) p × (OfCall (Parallel own d c) p × OfCall (Guarded own d c) p)))
+      (r .parameters-enclosed)
+      (inBodies-and (λ own d c p. OfCall (Exist own d c) p)
+      (λ own d c p. OfCall (Lower own d c) p × (OfCall (Parallel own d c) p × OfCall (Guarded own d c) p))
+      (r .calls-exist)
+      (inBodies-and (λ own d c p. OfCall (Lower own d c) p)
+      (λ own d c p. OfCall (Parallel own d c) p × OfCall (Guarded own d c) p) (r .calls-level)
+      (inBodies-and (λ own d c p. OfCall (Parallel own d c) p) (λ own d c p. OfCall (Guarded own d c) p)
+      (r .calls-parallel) (r .calls-guarded)))))
 
   pub no-wrong : Rules t → firstWrong t ≡ none
   unfolding firstWrong
   no-wrong r = from-in (t .definitions) 0 _ (t .definitions) (linked r)
 
-  pub no-width : Rules t → tooWide t ≡ none
+  pub no-wide-level : Rules t → tooWide t ≡ none
   unfolding tooWide levelWidth
-  no-width r = above-in 8 0 (allWidths (t .definitions)) (r .width)
+  no-wide-level r = above-in 8 0 (allWidths (t .definitions)) (r .width)
 
-  pub no-branches : Rules t → tooManyBranches t ≡ none
+  pub no-many-branches : Rules t → tooManyBranches t ≡ none
   unfolding tooManyBranches branches
-  no-branches r =
+  no-many-branches r =
       let calls = lookup (allBranches (t .definitions)) in
       bodies-in calls 0 (t .definitions)
-      (all-and (λ d. Few calls (d .body)) (λ d. Followers (Few calls) (d .body)) (t .definitions) (r .branches-bodies) (r .branches-followers))
+      (all-and (λ d. Few calls (d .body)) (λ d. Followers (Few calls) (d .body)) (t .definitions) (r .branches-bodies)
+      (r .branches-followers))

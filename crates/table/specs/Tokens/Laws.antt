@@ -1,5 +1,7 @@
--- Streams that begin with given numbers, at whatever places; and when nothing is left over.
---     Follows ns ts rest    ts is the numbers ns and then rest
+-- Streams that begin with given numbers, at whatever places; and when nothing trails.
+--     Follows ns ts rest          ts is the numbers ns and then rest
+--     list-whole, whole-list      a number list that is read to its end
+--     bytes-whole, whole-bytes    bytes that are read to their end
 -- Assumes nothing.
 use Prim.Native.Nat.{ℕ, zero, suc, _+_, _≤_, _<_}
 use native.Mathlib.Omega.{arith}
@@ -15,8 +17,10 @@ use Rattle.numbers.specs.Every.{All, all-right}
 use Rattle.numbers.specs.Number.{bytesOf, Scan, value, truncated, malformed, readNumber, listBytes, scanWith}
 use Rattle.numbers.specs.Number.{Bytes}
 use Rattle.numbers.specs.Number.Laws.{Written, read-written, read-is-written, bytes-some}
-use Rattle.table.specs.Tokens.{Tokens, token, ended, broken, listTokens, byteToken, byteTokensWith, byteTokens, trailing}
+use Rattle.table.specs.Tokens.{Tokens, token, ended, broken, listTokens, byteToken, byteTokensWith, byteTokens}
+use Rattle.table.specs.Tokens.{trailing}
 
+-- ---- Follows
 abbrev pub Follows : List ℕ → Tokens → Tokens → Type 0
 Follows [] ts rest = ts ≡ rest
 Follows (n ∷ ns) (token v at ts) rest = (v ≡ n) × Follows ns ts rest
@@ -36,7 +40,8 @@ follows-split (n ∷ a) b (token v at ts) rest h =
 follows-split (n ∷ a) b (ended at end) rest h = absurd h
 follows-split (n ∷ a) b (broken at) rest h = absurd h
 
-pub follows-join : (a b : List ℕ) (ts mid rest : Tokens) → Follows a ts mid → Follows b mid rest → Follows (a ++ b) ts rest
+pub follows-join : (a b : List ℕ) (ts mid rest : Tokens) → Follows a ts mid → Follows b mid rest
+    → Follows (a ++ b) ts rest
 follows-join [] b ts mid rest h k = rw h k
 follows-join (n ∷ a) b (token v at ts) mid rest h k = (h .0, follows-join a b ts mid rest (h .1) k)
 follows-join (n ∷ a) b (ended at end) mid rest h k = absurd h
@@ -48,7 +53,8 @@ unfolding trailing listTokens
 nothing-of-list at [] h = refl
 nothing-of-list at (n ∷ l) h = let z : _≡_ {A = ℕ} 0 1 = cc in absurd (omega arith)
 
-pub list-whole : (ns : List ℕ) (at : ℕ) (l : List ℕ) (rest : Tokens) → Follows ns (listTokens at l) rest → trailing rest ≡ none → l ≡ ns
+pub list-whole : (ns : List ℕ) (at : ℕ) (l : List ℕ) (rest : Tokens) → Follows ns (listTokens at l) rest
+    → trailing rest ≡ none → l ≡ ns
 unfolding listTokens
 list-whole [] at l rest h k = nothing-of-list at l (rw h k)
 list-whole (n ∷ ns) at [] rest h k = absurd h
@@ -74,7 +80,8 @@ pub record Cut (ns : List ℕ) (at : ℕ) (l : List ℕ) (rest : Tokens) : Type 
   pub whole : l ≡ ns ++ more
   pub stream : rest ≡ listTokens (at + length ns) more
 
-pub follows-list : (ns : List ℕ) (at : ℕ) (l : List ℕ) (rest : Tokens) → Follows ns (listTokens at l) rest → Cut ns at l rest
+pub follows-list : (ns : List ℕ) (at : ℕ) (l : List ℕ) (rest : Tokens) → Follows ns (listTokens at l) rest
+    → Cut ns at l rest
 unfolding listTokens
 follows-list [] at l rest h =
     let e : at + 0 ≡ at = omega arith in
@@ -114,22 +121,27 @@ nothing-of-bytes (suc f) at s l h = go (readNumber s) h
     go truncated k = empty s (ended-out at (length s) k)
     go malformed k = let z : _≡_ {A = ℕ} 0 1 = cc in absurd (omega arith)
 
--- (a), for a whole list: bytes that are read to their end are the bytes of the numbers
-pub bytes-whole : (ns : List ℕ) (f at : ℕ) (s : List ℕ) (rest : Tokens) → Bytes s → length s ≤ f → Follows ns (byteTokensWith f at s) rest
+-- bytes that are read to their end are the bytes of the numbers
+pub bytes-whole : (ns : List ℕ) (f at : ℕ) (s : List ℕ) (rest : Tokens) → Bytes s → length s ≤ f
+    → Follows ns (byteTokensWith f at s) rest
     → trailing rest ≡ none → s ≡ listBytes ns
 unfolding listBytes byteTokensWith byteToken
 bytes-whole [] f at s rest w l h k = nothing-of-bytes f at s l (rw h k)
 bytes-whole (n ∷ ns) zero at s rest w l h k = absurd h
-bytes-whole (n ∷ ns) (suc f) at s rest w l h k = go (λ m u b c d. bytes-whole ns f m u rest b c d k) (readNumber s) refl h
+bytes-whole (n ∷ ns) (suc f) at s rest w l h k =
+    go (λ m u b c d. bytes-whole ns f m u rest b c d k) (readNumber s) refl h
   where
-    go : ((m : ℕ) (u : List ℕ) → Bytes u → length u ≤ f → Follows ns (byteTokensWith f m u) rest → u ≡ listBytes ns) → (r : Scan) → readNumber s ≡ r
-        → Follows (n ∷ ns) (byteToken r at (length s) (λ next rest. byteTokensWith f next rest)) rest → s ≡ bytesOf n ++ listBytes ns
+    go : ((m : ℕ) (u : List ℕ) → Bytes u → length u ≤ f → Follows ns (byteTokensWith f m u) rest → u ≡ listBytes ns)
+        → (r : Scan) → readNumber s ≡ r
+        → Follows (n ∷ ns) (byteToken r at (length s) (λ next rest. byteTokensWith f next rest)) rest
+        → s ≡ bytesOf n ++ listBytes ns
     go ih (value v j u) e g =
         let x = read-is-written s v j u w e in
         let whole' = x .whole in
         let size = ap (λ (y : List ℕ). length y) whole' ∙ length-append (bytesOf v) u in
         let b = bytes-some v in
-        let more = ih (at + j) u (all-right (λ y. y < 256) (bytesOf v) u (subst (λ (y : List ℕ). Bytes y) whole' w)) (omega arith) (g .1) in
+        let more = ih (at + j) u (all-right (λ y. y < 256) (bytesOf v) u (subst (λ (y : List ℕ). Bytes y) whole' w))
+        (omega arith) (g .1) in
         let same = g .0 in
         whole' ∙ ap (λ (y : List ℕ). bytesOf v ++ y) more ∙ ap (λ (y : ℕ). bytesOf y ++ listBytes ns) same
     go ih truncated e g = absurd g

@@ -1,5 +1,8 @@
 -- A body's reach is at most its level's width, so at most 8 where the rules hold (01, "Hands of a term").
--- It rests on "under a parallel, of a strictly lower level": an own-level call is never added to anything.
+-- It rests on 01, "References": "under a parallel, of a strictly lower level": an own-level call is never added to
+-- anything.
+--     reach-each, reach-body    every term in a body that is not wider than its level; every term in a table's body
+--     level-small               levels are at most 7
 -- Assumes nothing.
 use Prim.Native.Nat.{ℕ, zero, suc, _+_, _≤_, _<_, max}
 use native.Mathlib.Omega.{arith}
@@ -12,7 +15,8 @@ use lib.Dec.{T, eqb}
 use borrow.Author.Tests.{eq-eqb, ne-eqb}
 use Rattle.numbers.specs.Choice.{cond-cases}
 use Rattle.numbers.specs.Every.{All, AllFrom, from-at}
-use Rattle.table.specs.Grow.{grow, length-grow, getD-grow, grow-stable}
+use Rattle.table.specs.Grow.{grow}
+use Rattle.table.specs.Grow.Laws.{length-grow, getD-grow, grow-stable}
 use Rattle.table.specs.Table.{SetRef, Term, stop, fail, prefix, choice, par, call, Definition, Table}
 use Rattle.table.specs.Context.{Context, outermost, underPrefix, underParallel, Throughout, Each}
 use Rattle.table.specs.Fields.{Fields}
@@ -24,16 +28,19 @@ use Rattle.table.specs.Rules.{InBodies, Rules}
 use Rattle.table.specs.Rules.Laws.{linked}
 
 -- a level is at least as wide as each of its bodies
-widest-at : (f : Term → ℕ) (l : ℕ) (ds : List Definition) (z : Definition) (d : ℕ) → d < length ds → getD ds d z .level ≡ l
+widest-at : (f : Term → ℕ) (l : ℕ) (ds : List Definition) (z : Definition) (d : ℕ) → d < length ds
+    → getD ds d z .level ≡ l
     → f (getD ds d z .body) ≤ widest f l ds
 unfolding widest
 widest-at f l [] z d h e = absurd (omega arith)
 widest-at f l (x ∷ ds) z zero h e = simp (eq-eqb _ _ e) (omega arith)
 widest-at f l (x ∷ ds) z (suc d) h e =
     let more = widest-at f l ds z d (omega arith) e in
-    cond-cases (λ (n : ℕ). f (getD ds d z .body) ≤ n) (eqb (x .level) l) (max (f (x .body)) (widest f l ds)) (widest f l ds)
+    cond-cases (λ (n : ℕ). f (getD ds d z .body) ≤ n) (eqb (x .level) l) (max (f (x .body)) (widest f l ds))
+    (widest f l ds)
     (λ _. omega arith) (λ _. more)
 
+-- ---- the terms of one level
 module _ (t : Table) (l own : ℕ) (small : l ≤ 7) where
   abbrev Lower : List ℕ
   Lower = grow (nextWidth (t .definitions)) l
@@ -42,16 +49,17 @@ module _ (t : Table) (l own : ℕ) (small : l ≤ 7) where
   abbrev Count : ℕ → ℕ
   Count = callWidth (t .definitions) Lower
 
-  abbrev H : ℕ → ℕ
-  H = levelWidth t
+  -- the width of a level
+  abbrev W : ℕ → ℕ
+  W = levelWidth t
 
-  level-width : H l ≡ widest (widthWith Count) l (t .definitions)
+  level-width : W l ≡ widest (widthWith Count) l (t .definitions)
   unfolding levelWidth allWidths nextWidth
   level-width =
       getD-grow (nextWidth (t .definitions)) 0 8 l (omega arith)
       ∙ ap (λ (n : ℕ). widest (widthWith Count) n (t .definitions)) (length-grow (nextWidth (t .definitions)) l)
 
-  call-lower : (e : ℕ) → levelIn (t .definitions) e < l → Count e ≡ H (levelIn (t .definitions) e)
+  call-lower : (e : ℕ) → levelIn (t .definitions) e < l → Count e ≡ W (levelIn (t .definitions) e)
   unfolding callWidth levelWidth allWidths
   call-lower e h =
       let n = length-grow (nextWidth (t .definitions)) l in
@@ -77,14 +85,14 @@ module _ (t : Table) (l own : ℕ) (small : l ≤ 7) where
       omega arith
   reach-parallel c (call e) i h = let q = call-lower e (h .1 .parallel i) in omega arith
 
-  reach-call : (e : ℕ) → levelIn (t .definitions) e ≤ l → H (levelIn (t .definitions) e) ≤ max (Count e) (H l)
+  reach-call : (e : ℕ) → levelIn (t .definitions) e ≤ l → W (levelIn (t .definitions) e) ≤ max (Count e) (W l)
   reach-call e h = go (decLt (levelIn (t .definitions) e) l)
     where
-      go : Dec (levelIn (t .definitions) e < l) → H (levelIn (t .definitions) e) ≤ max (Count e) (H l)
+      go : Dec (levelIn (t .definitions) e < l) → W (levelIn (t .definitions) e) ≤ max (Count e) (W l)
       go (yes k) = let q = call-lower e k in omega arith
       go (no k) = let q : levelIn (t .definitions) e ≡ l = omega arith in rw q (omega arith)
 
-  reach-term : (c : Context) (p : Term) → Throughout Ok c p → reach t p ≤ max (widthWith Count p) (H l)
+  reach-term : (c : Context) (p : Term) → Throughout Ok c p → reach t p ≤ max (widthWith Count p) (W l)
   unfolding reach widthWith
   reach-term c stop h = omega arith
   reach-term c fail h = omega arith
@@ -100,7 +108,8 @@ module _ (t : Table) (l own : ℕ) (small : l ≤ 7) where
   reach-term c (call e) h = reach-call e (h .1 .lower)
 
   -- so of every term in a body that is not wider than the level
-  pub reach-each : (c : Context) (p : Term) → Throughout Ok c p → widthWith Count p ≤ H l → Each (λ q. reach t q ≤ H l) p
+  pub reach-each : (c : Context) (p : Term) → Throughout Ok c p → widthWith Count p ≤ W l
+      → Each (λ q. reach t q ≤ W l) p
   unfolding widthWith
   reach-each c stop h b = let a = reach-term c stop h in omega arith
   reach-each c fail h b = let a = reach-term c fail h in omega arith
@@ -111,11 +120,16 @@ module _ (t : Table) (l own : ℕ) (small : l ≤ 7) where
       let a = reach-term c (choice p q) h in
       (omega arith, reach-each c p (h .1) (omega arith), reach-each c q (h .2) (omega arith))
   reach-each c (par r p q) h b =
-      let a = reach-term c (par r p q) h in
-      (omega arith, reach-each (underParallel c) p (h .1) (omega arith), reach-each (underParallel c) q (h .2) (omega arith))
+      let a = reach-term c (par r p q) h in (
+        omega arith,
+        reach-each (underParallel c) p (h .1) (omega arith),
+        reach-each (underParallel c) q (h .2) (omega arith),
+      )
   reach-each c (call e) h b = let a = reach-term c (call e) h in omega arith
 
-pub levels-at : (ds : List Definition) (z : Definition) (d : ℕ) → z .level ≤ 7 → All (λ x. x .level ≤ 7) ds → getD ds d z .level ≤ 7
+-- ---- the bodies of a table
+pub levels-at : (ds : List Definition) (z : Definition) (d : ℕ) → z .level ≤ 7 → All (λ x. x .level ≤ 7) ds
+    → getD ds d z .level ≤ 7
 levels-at [] z d e h = e
 levels-at (x ∷ ds) z zero e h = h .0
 levels-at (x ∷ ds) z (suc d) e h = levels-at ds z d e (h .1)
@@ -133,5 +147,6 @@ reach-body t r d b =
     let s = level-small t r d in
     let w = widest-at (widthWith (Count t l d s)) l (t .definitions) _ d b refl in
     reach-each t l d s outermost (bodyIn (t .definitions) d)
-    (from-at (λ own x. Throughout (Linked (t .definitions) (x .level) own) outermost (x .body)) _ 0 (t .definitions) (linked t r) d d (omega arith) b)
+    (from-at (λ own x. Throughout (Linked (t .definitions) (x .level) own) outermost (x .body)) _ 0 (t .definitions)
+    (linked t r) d d (omega arith) b)
     (rw (level-width t l d s) w)

@@ -1,0 +1,24 @@
+// Runs Read, Write and the list check of crate `table` on the cases of `tables.txt`, and prints a
+// line for each group of cases, then `ok` if every answer was the stored one.
+//     file       the file, piece by piece             groups    its groups, and what is printed
+//     case       a line as a case                     text      lines and numbers
+//     trial      one call, held to its answer         areas     what stands in the lent buffers
+// The file's head says how a line is read, and where the answers come from.
+mod areas;
+mod case;
+mod file;
+mod groups;
+mod text;
+mod trial;
+
+fn main() {
+    let path = b"tables.txt";
+    let fd = os::open_read(path);
+    if fd < 0 {
+        os::fail(path);
+        return;
+    }
+    let mut buffer = io::large_buffer();
+    file::run(fd, path, &mut buffer);
+    libc::close(fd);
+}
