@@ -12,6 +12,7 @@ pub mod Fields
 pub mod References
 pub mod Width
 pub mod Branches
+pub mod Memory
 pub mod Resolve
 pub mod Rules
 pub mod Equations

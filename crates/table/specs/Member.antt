@@ -1,16 +1,16 @@
 -- Set membership (01, "Numbers and table": "row v is the set for parameter v"), by list membership.
 --     elem            whether a list has an event
 --     rowOf, inRow    the row of a set reference for a remembered event; whether that row has an event
---     digit, recalled the k-th remembered event; the one that a reference reads
+--     recalled        the remembered event that a reference reads
 --     member          whether the set of a reference, under a memory, has an event
 -- Assumes nothing.
-use Prim.Native.Nat.{ℕ, zero, suc}
+use Prim.Native.Nat.{ℕ}
 use mathlib.Core.Bool.{Bool, true, false}
 use mathlib.Core.List.{List, [], _∷_}
 use lib.ListN.{getD}
 use lib.Dec.{eqb}
 use Rattle.table.specs.Table.{SetRef, fixed, family, SetDef, one, each, Table}
-use Rattle.table.specs.Resolve.{Memory}
+use Rattle.table.specs.Memory.{Memory, digit}
 use Rattle.table.specs.Node.{setOf}
 
 unfoldable pub elem : ℕ → List ℕ → Bool
@@ -27,13 +27,6 @@ rowOf t r v = rowIn (getD (t .sets) (setOf r) (one [])) v
 
 unfoldable pub inRow : Table → SetRef → ℕ → ℕ → Bool
 inRow t r v e = elem e (rowOf t r v)
-
--- "the event taken by the k-th enclosing prefix of this definition, the nearest being 0"
-unfoldable pub digit : Memory → ℕ → ℕ
-digit m zero = m .m0
-digit m (suc zero) = m .m1
-digit m (suc (suc zero)) = m .m2
-digit m (suc (suc (suc k))) = m .m3
 
 unfoldable pub recalled : SetRef → Memory → ℕ
 recalled (fixed s) m = 0

@@ -10,18 +10,8 @@ use Rattle.table.specs.Table.{SetRef, Term, stop, fail, prefix, choice, 
 use Rattle.table.specs.Grow.{grow}
 use Rattle.table.specs.Branches.{bodyIn}
 use Rattle.table.specs.Width.{reach}
+pub use Rattle.table.specs.Memory.{Memory, noMemory}
 pub mod Laws
-
--- "Memory is four events"
-pub record Memory : Type 0 where
-  pub m0 : ℕ
-  pub m1 : ℕ
-  pub m2 : ℕ
-  pub m3 : ℕ
-
--- "all 0 at a body's start"
-abbrev pub noMemory : Memory
-noMemory = record { m0 = 0; m1 = 0; m2 = 0; m3 = 0 }
 
 pub data Residual : Type 0 where
   leaf : Memory → Term → Residual
