@@ -1,5 +1,6 @@
 -- `table::index::alphabet` meets its contract: the word of the alphabet size holds what the table has.
 -- Assumes nothing.
+use native.Mathlib.Omega.{arith}
 use borrow.Author.Needs.{needs}
 use Rattle.index.specs.Facts.{alphabet-is}
 use Rattle.index.proofs.alphabet.Statement.{statement}
@@ -9,7 +10,9 @@ shared-slice-read-result : tie.Need-shared-slice-read-result
 shared-slice-read-result c = search needs
 
 returns : tie.Need-returns
-returns c = alphabet-is (c .before .pre)
+returns c =
+    let fact = alphabet-is (c .before .pre) in
+    (omega (arith, fact), omega (arith, fact))
 
 pub alphabet-spec : {M : Type 1} → statement M
 alphabet-spec = tie.close (tie.spec shared-slice-read-result returns)

@@ -16,7 +16,9 @@ shared-slice-read-result c = omega (arith, terms-few (c .before .pre .0))
 
 returns : tie.Need-returns
 returns c =
-    let p = c .before .pre in called-is (p .0) (c .before .args .n) (p .1 .0) (p .1 .1)
+    let p = c .before .pre in
+    let fact = called-is (p .0) (c .before .args .n) (p .1 .0) (p .1 .1) in
+    (omega (arith, fact), omega (arith, fact))
 
 pub called-spec : {M : Type 1} → statement M
 called-spec = tie.close (tie.spec add-result mul-result shared-slice-read-result returns)

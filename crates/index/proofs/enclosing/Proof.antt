@@ -15,7 +15,9 @@ shared-slice-read-result : tie.Need-shared-slice-read-result
 shared-slice-read-result c = omega (arith, terms-few (c .before .pre .0))
 
 returns : tie.Need-returns
-returns c = enclosing-is (c .before .pre .0) (c .before .args .n) (c .before .pre .1)
+returns c =
+    let fact = enclosing-is (c .before .pre .0) (c .before .args .n) (c .before .pre .1) in
+    (omega (arith, fact), omega (arith, fact))
 
 pub enclosing-spec : {M : Type 1} → statement M
 enclosing-spec = tie.close (tie.spec add-result mul-result shared-slice-read-result returns)

@@ -23,14 +23,14 @@ mul-bit : tie.Need-mul-bit
 mul-bit c =
     let at-start = c .before .before .before .before in
     let p = at-start .pre in
-    let row = fixed-holds (p .0) (at-start .args .n) (p .1 .0) (p .1 .1 .0) (c .if1 .taken) (at-start .args .v) in
+    let row = fixed-holds (p .0) (at-start .args .n) (p .1 .0) (p .1 .1 .0) (omega arith) (at-start .args .v) in
     omega (arith, row .inside)
 
 shared-slice-read-bit : tie.Need-shared-slice-read-bit
 shared-slice-read-bit c =
     let at-start = c .before .before .before .before .before in
     let p = at-start .pre in
-    let row = fixed-holds (p .0) (at-start .args .n) (p .1 .0) (p .1 .1 .0) (c .before .if1 .taken)
+    let row = fixed-holds (p .0) (at-start .args .n) (p .1 .0) (p .1 .1 .0) (omega arith)
     (at-start .args .v) in
     omega (arith, row .inside, p .0 .structure .whole)
 
@@ -43,7 +43,7 @@ returns c =
     let at-start = c .before .before .before .before .before .before in
     let p = at-start .pre in
     let v = at-start .args .v in
-    let row = fixed-holds (p .0) (at-start .args .n) (p .1 .0) (p .1 .1 .0) (c .before .before .if1 .taken) v in
+    let row = fixed-holds (p .0) (at-start .args .n) (p .1 .0) (p .1 .1 .0) (omega arith) v in
     c .bit .ensures ∙ row .bit (at-start .args .e)
 
 -- it is of kind 1
@@ -52,7 +52,7 @@ add-bit : tie.Need-add-bit
 add-bit c =
     let at-start = c .before .before .before .before in
     let p = at-start .pre in
-    let row = family-holds (p .0) (at-start .args .n) (p .1 .0) (p .1 .1 .0) (c .if1 .left)
+    let row = family-holds (p .0) (at-start .args .n) (p .1 .0) (p .1 .1 .0) (λ z. omega arith)
     (at-start .args .v) (p .1 .1 .1 .0) in
     omega (arith, row .inside)
 
@@ -60,7 +60,7 @@ mul-bit-2 : tie.Need-mul-bit-2
 mul-bit-2 c =
     let at-start = c .before .before .before .before in
     let p = at-start .pre in
-    let row = family-holds (p .0) (at-start .args .n) (p .1 .0) (p .1 .1 .0) (c .if1 .left)
+    let row = family-holds (p .0) (at-start .args .n) (p .1 .0) (p .1 .1 .0) (λ z. omega arith)
     (at-start .args .v) (p .1 .1 .1 .0) in
     omega (arith, row .inside)
 
@@ -68,7 +68,7 @@ shared-slice-read-bit-2 : tie.Need-shared-slice-read-bit-2
 shared-slice-read-bit-2 c =
     let at-start = c .before .before .before .before .before in
     let p = at-start .pre in
-    let row = family-holds (p .0) (at-start .args .n) (p .1 .0) (p .1 .1 .0) (c .before .if1 .left)
+    let row = family-holds (p .0) (at-start .args .n) (p .1 .0) (p .1 .1 .0) (λ z. omega arith)
     (at-start .args .v) (p .1 .1 .1 .0) in
     omega (arith, row .inside, p .0 .structure .whole)
 
@@ -81,7 +81,7 @@ returns-2 c =
     let at-start = c .before .before .before .before .before .before in
     let p = at-start .pre in
     let v = at-start .args .v in
-    let row = family-holds (p .0) (at-start .args .n) (p .1 .0) (p .1 .1 .0) (c .before .before .if1 .left) v
+    let row = family-holds (p .0) (at-start .args .n) (p .1 .0) (p .1 .1 .0) (λ z. omega arith) v
     (p .1 .1 .1 .0) in
     c .bit2 .ensures ∙ row .bit (at-start .args .e)
 

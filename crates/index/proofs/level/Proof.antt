@@ -15,7 +15,7 @@ shared-slice-read-result : tie.Need-shared-slice-read-result
 shared-slice-read-result c = omega (arith, definitions-few (c .before .pre .0))
 
 returns : tie.Need-returns
-returns c = level-is (c .before .pre .0) (c .before .args .d) (c .before .pre .1)
+returns c = omega (arith, level-is (c .before .pre .0) (c .before .args .d) (c .before .pre .1))
 
 pub level-spec : {M : Type 1} → statement M
 level-spec = tie.close (tie.spec add-result mul-result shared-slice-read-result returns)

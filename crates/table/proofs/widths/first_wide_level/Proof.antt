@@ -38,7 +38,7 @@ returns c =
     let p = at-loop .before .before .before .pre in
     let d = after-level-width .level-width .ensures in
     wide-broken _ _ _
-    (wide-level _ _ _ (p .0 .fields) (p .1) (at-loop .loop .inv) _ _ (in-loop .loop-test .taken) d (c .if1 .taken))
+    (wide-level _ _ _ (p .0 .fields) (p .1) (at-loop .loop .inv) _ _ (in-loop .loop-test .taken) d (omega arith))
     (d .structure)
 
 add-work : tie.Need-add-work Inv-loop μ-loop

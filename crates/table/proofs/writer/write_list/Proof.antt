@@ -1,5 +1,6 @@
 -- `writer::write_list` meets its contract: the judgement of the list, and its bytes where there is room for them.
 -- Assumes nothing.
+use native.Mathlib.Omega.{arith}
 use Rattle.table.proofs.writer.Outcomes.{room, said-short, said-written, said-declined}
 use borrow.Author.Needs.{needs}
 use Rattle.table.proofs.writer.write_list.Statement.{statement}
@@ -21,11 +22,11 @@ returns : tie.Need-returns
 returns c =
     let judged = c .before .before .before .before .before .before .check-list in
     said-short _ _ _ _ (judged .ensures) _ (c .before .before .enum-told .given .1) (c .before .byte-place .ensures)
-    (c .if1 .taken)
+    (omega arith)
 
 encode-requires : tie.Need-encode-requires
 encode-requires c κs =
-    room _ _ _ (c .before .before .byte-place .ensures) (c .before .if1 .left)
+    room _ _ _ (c .before .before .byte-place .ensures) (omega arith)
 
 enum-known-r : tie.Need-enum-known-r
 enum-known-r c = search needs
@@ -41,7 +42,7 @@ returns-2 c =
     let sized = c .before .before .before .before .before in
     let judged = sized .before .before .before .before .before .check-list in
     said-written _ _ _ _ (judged .ensures) _ _ (sized .before .enum-told .given .1) (sized .byte-place .ensures)
-    (c .before .before .before .before .if1 .left) (c .before .before .encode .ensures)
+    (omega arith) (c .before .before .encode .ensures)
 
 same-length-4 : tie.Need-same-length-4
 same-length-4 c = search needs
