@@ -1,0 +1,11 @@
+-- The proofs of `specs/Claims.antt`: `Theorems` has one for each claim, from the others. Assumes nothing.
+pub mod Theorems
+pub mod Fresh
+pub mod Verdicts
+pub mod Endings
+pub mod Exceeds
+pub mod Histories
+pub mod Answers
+pub mod Offers
+pub mod Keeps
+pub mod Rows

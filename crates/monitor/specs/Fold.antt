@@ -1,0 +1,38 @@
+-- Folding a step that may stop, over a list, and over a list of lists with a restart at each (ours).
+--     Step, Ended       what one step gives; where a fold ended, how many it took, and why it stopped
+--     through           the fold over one list
+--     took              the elements that it took
+--     restarts, joins   over a list of lists: where it ends, and all that were taken
+-- The law, `restarts-join`, is in `Fold/Laws.antt`. Assumes nothing.
+use Prim.Native.Nat.{ℕ, suc}
+use mathlib.Core.List.{List, [], _∷_, _++_}
+use mathlib.Core.Option.{Option, none, some}
+pub mod Laws
+
+module _ (C : Type 0) where
+  pub data Step : Type 0 where
+    went : C → Step
+    stops : ℕ → Step
+
+  pub record Ended : Type 0 where
+    pub at : C
+    pub taken : ℕ
+    pub why : Option ℕ
+
+module _ {C E : Type 0} (step : C → E → Step C) where
+  unfoldable pub through : C → ℕ → List E → Ended C
+  through c k [] = record { at = c; taken = k; why = none }
+  through c k (e ∷ es) =
+      elim (step c e) [ went d ↦ through d (suc k) es | stops n ↦ record { at = c; taken = k; why = some n } ]
+
+  unfoldable pub took : C → List E → List E
+  took c [] = []
+  took c (e ∷ es) = elim (step c e) [ went d ↦ e ∷ took d es | stops n ↦ [] ]
+
+  unfoldable pub restarts : C → List (List E) → C
+  restarts c [] = c
+  restarts c (es ∷ ess) = restarts ((through c 0 es) .at) ess
+
+  unfoldable pub joins : C → List (List E) → List E
+  joins c [] = []
+  joins c (es ∷ ess) = took c es ++ joins ((through c 0 es) .at) ess
