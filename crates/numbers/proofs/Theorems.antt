@@ -1,22 +1,41 @@
 -- The claims of `specs/Claims.antt`, proved from the laws of `specs/Number/`, and the worked examples, by computing.
 -- Assumes nothing.
-use Rattle.numbers.specs.Claims.{ReadBack, Canonical, AtMostThree}
+use Rattle.numbers.specs.Claims.{ReadBack, Canonical, TruncatedExactly, MalformedExactly, RefusalNumbers}
+use Rattle.numbers.specs.Claims.{AtMostThree, Limit}
 use Rattle.numbers.specs.Examples.{Examples}
 use Rattle.numbers.specs.Number.{groups, carry, later, scanWith}
-use Rattle.numbers.specs.Number.Groups.{scan-written, scan-is-written}
+use Rattle.numbers.specs.Number.Groups.{limit-65536, scan-written, scan-is-written}
+use Rattle.numbers.specs.Number.Unread.{truncated-out, truncated-in, malformed-out, malformed-in}
 use Rattle.numbers.specs.Number.Laws.{bytes-few}
+use Rattle.numbers.specs.Position.Laws.{number-3, number-4}
 
 pub read-back : ReadBack
 unfolding ReadBack
-read-back more top v s t h = scan-written more top v s h
+read-back more top v s h = scan-written more top v s h
 
 pub canonical : Canonical
 unfolding Canonical
-canonical more top s v n rest t w e = scan-is-written more top s v n rest w e
+canonical more top s v n rest w e = scan-is-written more top s v n rest w e
+
+pub truncated-exactly : TruncatedExactly
+unfolding TruncatedExactly
+truncated-exactly more top s p w = (truncated-out more top s p w, truncated-in more top s)
+
+pub malformed-exactly : MalformedExactly
+unfolding MalformedExactly
+malformed-exactly more top s p w = (malformed-out more top s, malformed-in more top s p w)
+
+pub refusal-numbers : RefusalNumbers
+unfolding RefusalNumbers
+refusal-numbers s at w = (number-3 s at w, number-4 s at w)
 
 pub at-most-three : AtMostThree
 unfolding AtMostThree
 at-most-three v = bytes-few v
+
+pub limit : Limit
+unfolding Limit
+limit = limit-65536
 
 pub examples : Examples
 unfolding Examples groups carry later scanWith

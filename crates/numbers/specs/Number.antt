@@ -4,9 +4,11 @@
 --     byteCount, listBytes  how many bytes a number takes; the bytes of a list of numbers
 --     limitOf               the first number that no longer fits
 --     Scanned               what was read is just what would be written
+--     Incomplete            bytes that end within a number;  IllWritten: bytes with no number at their head, nor the
+--                           beginning of one;  IncompleteWith, IllWrittenWith: of any count of bytes
 -- `more` is how many bytes may follow the first, `top` the greatest value of the last byte that may stand: 2 and 3
--- here, 9 and 1 for numbers of 64 bits. The laws for any two are in `Number/Groups.antt` and, of how far a
--- scan goes, `Number/Extent.antt`; those for 2 and 3 in `Number/Laws.antt`. Assumes nothing.
+-- here, 9 and 1 for numbers of 64 bits. The laws for any two are in `Number/Groups.antt`, `Number/Unread.antt` and, of
+-- how far a scan goes, `Number/Extent.antt`; those for 2 and 3 in `Number/Laws.antt`. Assumes nothing.
 use Prim.Native.Nat.{ℕ, zero, suc, _+_, _-_, _*_, _/_, _%_, _^_, _≤_, _<_}
 use mathlib.Core.Bool.{cond}
 use mathlib.Core.List.{List, [], _∷_, _++_}
@@ -16,6 +18,7 @@ use lib.Dec.{ltb, leb, eqb}
 use Rattle.numbers.specs.Every.{All}
 pub mod Groups
 pub mod Extent
+pub mod Unread
 pub mod Laws
 
 -- a byte is below 256
@@ -85,3 +88,24 @@ pub record Scanned (more top : ℕ) (s : List ℕ) (v n : ℕ) (rest : List ℕ)
   pub whole : s ≡ groups more v ++ rest
   pub small : v < limitOf more top
   pub taken : n ≡ length (groups more v)
+
+-- 01, "When the monitor declines": 3, "cut short": the bytes of some number begin with s, and go on
+pub record IncompleteWith (more top : ℕ) (s : List ℕ) : Type 0 where
+  pub number : ℕ
+  pub next : ℕ
+  pub rest : List ℕ
+  pub small : number < limitOf more top
+  pub whole : groups more number ≡ s ++ (next ∷ rest)
+
+-- 4, "loose number": "a number not written as above": s begins with the bytes of no number, and those of no number
+-- begin with s
+pub record IllWrittenWith (more top : ℕ) (s : List ℕ) : Type 0 where
+  pub no-number : (v : ℕ) (rest : List ℕ) → v < limitOf more top → s ≡ groups more v ++ rest → ⊥
+  pub no-beginning : IncompleteWith more top s → ⊥
+
+-- "at most three, and is at most 65,535"
+abbrev pub Incomplete : List ℕ → Type 0
+Incomplete s = IncompleteWith 2 3 s
+
+abbrev pub IllWritten : List ℕ → Type 0
+IllWritten s = IllWrittenWith 2 3 s

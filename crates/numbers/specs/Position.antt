@@ -1,5 +1,6 @@
 -- A number at a position of some bytes: what `read` and `write` answer (01, "Numbers and table").
 --     readAt        what stands at a position;  found: the answer, from a scan of the bytes there
+--     refusalNumber 01's number of each answer of `read`
 --     endAt         what writing a number at a position answers
 --     storedAt      the bytes after that
 --     Stores        the promise of `write`
@@ -25,6 +26,12 @@ unfoldable pub found : ℕ → Scan → Reading
 found at (value v n rest) = Value v (at + n)
 found at truncated = Truncated
 found at malformed = Malformed
+
+-- 01, "When the monitor declines": 3 "cut short", 4 "loose number"; 0 where there is a number
+abbrev pub refusalNumber : Reading → ℕ
+refusalNumber (Value v next) = 0
+refusalNumber Truncated = 3
+refusalNumber Malformed = 4
 
 unfoldable pub readAt : List ℕ → ℕ → Reading
 readAt s at = found at (readNumber (drop at s))

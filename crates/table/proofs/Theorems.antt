@@ -8,7 +8,8 @@ use Rattle.table.specs.Tokens.Laws.{Cut, follows-list, list-follows}
 use Rattle.table.specs.Writing.{numbersOf}
 use Rattle.table.specs.Grammar.Whole.{table-ok-sound, table-ok-complete}
 use Rattle.table.specs.Fields.Laws.{fields-in, fields-out}
-use Rattle.table.specs.Branches.Capped.{capped-all}
+use Rattle.table.specs.Branches.Capped.{capped-few, capped-term}
+use Rattle.table.specs.Branches.{branches}
 use Rattle.table.specs.Resolve.Laws as residuals
 use Rattle.table.specs.Judge.Laws.{AcceptedList, list-out, list-in, AcceptedBytes, bytes-out, bytes-in}
 use Rattle.table.specs.Marks.Written.{table-numbers}
@@ -17,7 +18,8 @@ use Rattle.table.specs.Marks.Exact.{marks-out, marks-in}
 use Rattle.table.specs.BytesRefused.Exact.{refused-bytes-out}
 use Rattle.table.specs.BytesRefused.Given.{refused-bytes-in}
 use Rattle.table.specs.Equations.{branches-call, resolve-call, width-level, resolve-count}
-use Rattle.table.specs.Examples.Laws.{numbers-hold, tables-hold, counts-hold, longs-hold, operations-hold}
+use Rattle.table.specs.Examples.Laws.{numbers-hold, tables-hold, counts-hold, longs-hold}
+use Rattle.table.specs.Examples.Laws.{reads-hold, writes-hold}
 use Rattle.table.specs.Operations.Laws as operations
 use Rattle.table.specs.Claims.{NumberReadsBack, NumberCanonical, TableReadsBack, TableCanonical}
 use Rattle.table.specs.Claims.{AcceptedExactly, AcceptedBytesExactly, AcceptedWritesBack, WrittenReadsBack}
@@ -64,7 +66,7 @@ refused-exactly l n at = (refused-out l n at, refused-in l n at)
 
 pub refused-bytes-exactly : RefusedBytesExactly
 unfolding RefusedBytesExactly
-refused-bytes-exactly s n at w = (λ h. refused-bytes-out s n at h w, refused-bytes-in s n at)
+refused-bytes-exactly s n at w = (λ h. refused-bytes-out s n at h w, refused-bytes-in s n at w)
 
 pub fields-are-marks : FieldsAreMarks
 unfolding FieldsAreMarks
@@ -88,7 +90,7 @@ reach-most t r d b = residuals.reach-most t r d b
 
 pub capped-branches : CappedBranches
 unfolding CappedBranches
-capped-branches ds = capped-all ds
+capped-branches t p = (capped-term t p, capped-few (branches t p))
 
 pub branches-of-call : BranchesOfCall
 unfolding BranchesOfCall
@@ -112,4 +114,4 @@ read-fills = operations.read-fills
 
 pub examples : Examples
 unfolding Examples
-examples = (numbers-hold, tables-hold, counts-hold, longs-hold, operations-hold)
+examples = (numbers-hold, tables-hold, counts-hold, longs-hold, reads-hold, writes-hold)

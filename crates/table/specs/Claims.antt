@@ -18,12 +18,12 @@
 use Prim.Native.Nat.{ℕ, _+_, _≤_, _<_, _-_}
 use mathlib.Core.Path.{_≡_}
 use mathlib.Core.Logic.{_↔_}
-use mathlib.Core.List.{List, _++_, map}
+use mathlib.Core.List.{List, _++_}
+use mathlib.Core.Option.{none}
 use lib.ListN.{length, take, drop}
 use lib.Dec.{T}
 use Rattle.numbers.specs.Every.{All}
-use Rattle.table.specs.Grow.{grow}
-use Rattle.table.specs.Table.{Term, call, Definition, Table}
+use Rattle.table.specs.Table.{Term, call, Table}
 use Rattle.numbers.specs.Number.{bytesOf, value, readNumber, listBytes}
 use Rattle.numbers.specs.Number.{Bytes}
 use Rattle.table.specs.Tokens.{Tokens, listTokens}
@@ -32,12 +32,13 @@ use Rattle.table.specs.Grammar.{table}
 use Rattle.table.specs.Writing.{numbersOf}
 use Rattle.table.specs.Context.{Each}
 use Rattle.table.specs.Fields.{Fields}
+use Rattle.table.specs.References.{firstWrong}
 use Rattle.table.specs.Width.{widthWith, widest, levelWidth, reach}
-use Rattle.table.specs.Branches.{allBranches, branches, bodyIn}
-use Rattle.table.specs.Branches.Capped.{capped, nextCapped}
+use Rattle.table.specs.Branches.{lookup, branches, bodyIn}
+use Rattle.table.specs.Branches.Capped.{capped, cappedWith, allCapped}
 use Rattle.table.specs.Resolve.{Memory, noMemory, resolve, reachSum}
 use Rattle.table.specs.Equations.{callCount}
-use Rattle.table.specs.Examples.{every, numberRows, tableRows, countRows, longRows, operationRows}
+use Rattle.table.specs.Examples.{every, numberRows, tableRows, countRows, longRows, readRows, writeRows}
 use Rattle.table.specs.Rules.{Rules}
 use Rattle.table.specs.Marks.{tableMarks, Shape}
 use Rattle.table.specs.Parser.Mark.{Mark, numbers, Pass}
@@ -66,25 +67,31 @@ unfoldable pub AcceptedExactly : Type 0
 AcceptedExactly = (l ns : List ℕ) (t : Table)
     → (judgeList l ≡ accepted ns t) ↔ ((ns ≡ l) × (l ≡ numbersOf t) × Rules t × (length (listBytes l) ≤ 16384))
 
+-- the same of bytes: "Each is given exactly on its condition"
 unfoldable pub AcceptedBytesExactly : Type 0
 AcceptedBytesExactly = (s ns : List ℕ) (t : Table) → Bytes s
     → (judgeBytes s ≡ accepted ns t) ↔ ((s ≡ listBytes ns) × (ns ≡ numbersOf t) × Rules t × (length s ≤ 16384))
 
+-- 00, demand 1: "a refusal only on its listed condition"; 01, "When the monitor declines": "Each is given exactly on
+-- its condition", each row's "Place", and the order; "On a number list, places are list places, 4 is never met"
 unfoldable pub RefusedExactly : Type 0
 RefusedExactly = (l : List ℕ) (n at : ℕ) → (judgeList l ≡ declined n at) ↔ Refused l n at
 
+-- the same of bytes
 unfoldable pub RefusedBytesExactly : Type 0
 RefusedBytesExactly = (s : List ℕ) (n at : ℕ) → Bytes s → (judgeBytes s ≡ declined n at) ↔ RefusedBytes s n at
 
 unfoldable pub FieldsAreMarks : Type 0
 FieldsAreMarks = (t : Table) → (Fields t ↔ (Shape t × Pass (tableMarks t))) × (numbers (tableMarks t) ≡ numbersOf t)
 
+-- 00, demand 2: "An accepted table writes back to its own bytes"
 unfoldable pub AcceptedWritesBack : Type 0
 AcceptedWritesBack = (s out work : List ℕ) (n : ℕ) → Bytes s → readOf s out work .answer ≡ done n
     → (out' work' : List ℕ) → length work' ≡ 8192 → length s ≤ length out'
     → writeOf (take n (readOf s out work .output)) out' work'
     ≡ record { answer = done (length s); output = s ++ drop (length s) out'; work = zeros 8192 }
 
+-- 00, demand 2: "a written one reads back to its numbers"
 unfoldable pub WrittenReadsBack : Type 0
 WrittenReadsBack = (l out work : List ℕ) (n : ℕ) → writeOf l out work .answer ≡ done n
     → (out' work' : List ℕ) → length out' ≡ 16384 → length work' ≡ 8192
@@ -99,24 +106,29 @@ ReachMost =
     (t : Table) → Rules t → (d : ℕ) → d < length (t .definitions)
     → Each (λ p. reach t p ≤ 8) (bodyIn (t .definitions) d)
 
+-- ours: "Each body and each prefix's follower has at most 256" is judged the same by counts that stop at 257
 unfoldable pub CappedBranches : Type 0
-CappedBranches = (ds : List Definition) → grow (nextCapped ds) (length ds) ≡ map capped (allBranches ds)
+CappedBranches = (t : Table) (p : Term)
+    → (cappedWith (lookup (allCapped (t .definitions))) p ≡ capped (branches t p))
+    × ((capped (branches t p) ≤ 256) ↔ (branches t p ≤ 256))
 
--- "the openings of a call are those of the definition called"
+-- "the openings of a call are those of the definition called": where 7 is not met, whatever 8 and 9
 unfoldable pub BranchesOfCall : Type 0
 BranchesOfCall =
-    (t : Table) → Rules t → (d : ℕ) → d < length (t .definitions)
+    (t : Table) → firstWrong t ≡ none → (d : ℕ) → d < length (t .definitions)
     → branches t (call d) ≡ branches t (bodyIn (t .definitions) d)
 
--- "call the settled body"
+-- "those of the definition called": a call resolves as the body, with no memory
 unfoldable pub ResolvedCall : Type 0
-ResolvedCall = (t : Table) → Rules t → (m : Memory) (d : ℕ) → d < length (t .definitions)
+ResolvedCall = (t : Table) → firstWrong t ≡ none → (m : Memory) (d : ℕ) → d < length (t .definitions)
     → resolve t m (call d) ≡ resolve t noMemory (bodyIn (t .definitions) d)
 
--- "call to its own level 1, to a lower level that level's hands. A level's hands are the largest among its bodies"
+-- "call to its own level 1, to a lower level that level's hands. A level's hands are the largest among its bodies":
+-- where 7 is not met, whatever 8 and 9
 unfoldable pub WidthOfLevel : Type 0
 WidthOfLevel =
-    (t : Table) → Rules t → (l : ℕ) → l ≤ 7 → levelWidth t l ≡ widest (widthWith (callCount t l)) l (t .definitions)
+    (t : Table) → firstWrong t ≡ none → (l : ℕ) → l ≤ 7
+    → levelWidth t l ≡ widest (widthWith (callCount t l)) l (t .definitions)
 
 -- ours: branches are how many ways a term resolves
 unfoldable pub ResolvedCount : Type 0
@@ -128,4 +140,5 @@ ReadFills = (s out work : List ℕ) → Bytes s → length (readOf s out work .o
 
 unfoldable pub Examples : Type 0
 Examples =
-    T (every numberRows) × T (every tableRows) × T (every countRows) × T (every longRows) × T (every operationRows)
+    T (every numberRows) × T (every tableRows) × T (every countRows) × T (every longRows) × T (every readRows)
+    × T (every writeRows)

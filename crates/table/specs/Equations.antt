@@ -1,10 +1,11 @@
 -- The sentences that define width, branches and residuals through calls, as equations: the lists that the definitions
--- grow are their solution where the rules hold (01, "Hands of a term", "Openings", "Residuals").
---     branches-call    "the openings of a call are those of the definition called"
+-- grow are their solution where the rules on references hold, whatever the widths and branches are
+-- (01, "Hands of a term", "Openings", "Residuals").
+--     branches-call     "the openings of a call are those of the definition called"
 --     branches-guarded  the same, from the one rule that it rests on
---     resolve-call      "call the settled body"
---     width-level      "call to its own level 1, to a lower level that level's hands"; "the largest among its bodies"
---     resolve-count    a term has as many residuals as branches
+--     resolve-call      a call resolves as its body does
+--     width-level       "call to its own level 1, to a lower level that level's hands"; "the largest among its bodies"
+--     resolve-count     a term has as many residuals as branches
 -- Assumes nothing.
 use Prim.Native.Nat.{ℕ, zero, suc, _+_, _*_, _≤_, _<_, max}
 use native.Mathlib.Omega.{arith}
@@ -13,6 +14,7 @@ use native.Mathlib.Nat.{zero-mul}
 use mathlib.Core.Path.{_≡_, refl, sym, ap, ap₂, _∙_, subst}
 use mathlib.Core.Bool.{Bool, true, false, cond}
 use mathlib.Core.List.{List, [], _∷_, _++_, map, flatMap, map-append}
+use mathlib.Core.Option.{none}
 use lib.ListN.{length, getD, length-append, length-map}
 use lib.Dec.{eqb}
 use borrow.Author.Tests.{eq-eqb, ne-eqb, eqb-true}
@@ -22,10 +24,10 @@ use Rattle.table.specs.Grow.Laws.{length-grow, getD-grow, grow-stable}
 use Rattle.table.specs.Table.{SetRef, Term, stop, fail, prefix, choice, par, call, Definition, Table}
 use Rattle.table.specs.Context.{Context, outermost, underPrefix, underParallel, Throughout}
 use Rattle.table.specs.Fields.{OfCall, Fields}
-use Rattle.table.specs.References.{levelIn}
+use Rattle.table.specs.References.{levelIn, firstWrong}
 use Rattle.table.specs.Width.{widthWith, widest, callWidth, nextWidth, allWidths, levelWidth}
 use Rattle.table.specs.Branches.{branchesWith, lookup, bodyIn, nextBranches, allBranches, branches}
-use Rattle.table.specs.Rules.{InBodies, Rules}
+use Rattle.table.specs.Rules.Laws.{levels-out, guarded-out}
 use Rattle.table.specs.Resolve.{Memory, noMemory, Residual, leaf, pair, pairs, resolveWith, resolved}
 use Rattle.table.specs.Resolve.{nextResolved, allResolved, resolve}
 
@@ -69,9 +71,9 @@ branches-guarded t g d b =
     (λ e h. unfold lookup in grow-stable f 0 d (length ds) e h (omega arith))
     outermost (bodyIn ds d) refl (below-body t g d b)
 
-pub branches-call : (t : Table) → Rules t → (d : ℕ) → d < length (t .definitions)
+pub branches-call : (t : Table) → firstWrong t ≡ none → (d : ℕ) → d < length (t .definitions)
     → branches t (call d) ≡ branches t (bodyIn (t .definitions) d)
-branches-call t r d b = branches-guarded t (r .calls-guarded) d b
+branches-call t r d b = branches-guarded t (guarded-out t r) d b
 
 -- ---- resolve
 module _ (f g : ℕ → List Residual) (n : ℕ) (same : (e : ℕ) → e < n → f e ≡ g e) where
@@ -86,7 +88,7 @@ module _ (f g : ℕ → List Residual) (n : ℕ) (same : (e : ℕ) → e < n →
       ap₂ (pairs m r) (resolve-agree m (underParallel c) p z (h .1)) (resolve-agree m (underParallel c) q z (h .2))
   resolve-agree m c (call e) z h = same e (h z)
 
-pub resolve-call : (t : Table) → Rules t → (m : Memory) (d : ℕ) → d < length (t .definitions)
+pub resolve-call : (t : Table) → firstWrong t ≡ none → (m : Memory) (d : ℕ) → d < length (t .definitions)
     → resolve t m (call d) ≡ resolve t noMemory (bodyIn (t .definitions) d)
 unfolding resolve resolveWith resolved allResolved
 resolve-call t r m d b =
@@ -97,7 +99,7 @@ resolve-call t r m d b =
     ap (λ (k : ℕ). resolveWith (resolved (grow f d)) noMemory (bodyIn ds k)) (length-grow f d)
     ∙ resolve-agree (resolved (grow f d)) (resolved (grow f (length ds))) d
     (λ e h. unfold resolved in grow-stable f [] d (length ds) e h (omega arith))
-    noMemory outermost (bodyIn ds d) refl (below-body t (r .calls-guarded) d b)
+    noMemory outermost (bodyIn ds d) refl (below-body t (guarded-out t r) d b)
 
 -- ---- width
 
@@ -154,7 +156,7 @@ call-agree t l b e h = go (decLt (levelIn (t .definitions) e) l)
         let y : levelIn (t .definitions) e ≡ l = omega arith in
         simp (eq-eqb _ _ x, eq-eqb _ _ y)
 
-pub width-level : (t : Table) → Rules t → (l : ℕ) → l ≤ 7
+pub width-level : (t : Table) → firstWrong t ≡ none → (l : ℕ) → l ≤ 7
     → levelWidth t l ≡ widest (widthWith (callCount t l)) l (t .definitions)
 unfolding levelWidth allWidths nextWidth
 width-level t r l b =
@@ -162,7 +164,7 @@ width-level t r l b =
     let f = nextWidth ds in
     getD-grow f 0 8 l (omega arith)
     ∙ ap (λ (n : ℕ). widest (widthWith (callWidth ds (grow f l))) n ds) (length-grow f l)
-    ∙ widest-agree ds (callWidth ds (grow f l)) (callCount t l) l (call-agree t l b) 0 ds (r .calls-level)
+    ∙ widest-agree ds (callWidth ds (grow f l)) (callCount t l) l (call-agree t l b) 0 ds (levels-out t r)
 
 -- ---- how many residuals
 length-pairs : (m : Memory) (r : SetRef) (ps qs : List Residual) → length (pairs m r ps qs) ≡ length ps * length qs

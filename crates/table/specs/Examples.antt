@@ -2,13 +2,15 @@
 --     verdict, bytesAre, listIs    a judgement as two numbers; what bytes, a number list are judged to be
 --     numberRows, tableRows        numbers and whole tables
 --     countRows                    width, branches and the number of terms
---     longRows, operationRows      "long table" on a list; Read and Write
+--     longRows                     "long table"
+--     readRows, writeRows          Read and Write: answer, output and work words
 -- That every row holds is in `Examples/Laws.antt`. Assumes nothing.
 use Prim.Native.Nat.{ℕ, zero, suc}
 use mathlib.Core.Bool.{Bool, true, _&&_}
 use mathlib.Core.List.{List, [], _∷_, _++_}
-use lib.ListN.{length}
+use lib.ListN.{length, replicate}
 use lib.Dec.{eqb}
+use Rattle.numbers.specs.Examples.{same}
 use Rattle.numbers.specs.Number.{bytesOf}
 use Rattle.table.specs.Judge.{Judgement, accepted, declined, judgeBytes, judgeList}
 use Rattle.table.specs.Operations.{Answer, done, refusal, Outcome, zeros, readOf, writeOf}
@@ -158,10 +160,21 @@ copies (suc n) l = l ++ copies n l
 abbrev pub fullSets : ℕ → List ℕ
 fullSets n = 64 ∷ n ∷ copies n (1 ∷ copies 64 (64 ∷ upTo 64 []))
 
+-- A = 64, three kind 1 sets of full rows, and a fourth of 59 full rows, one of n events and four of none
+abbrev pub nearlyFull : ℕ → List ℕ
+nearlyFull n =
+    let full : List ℕ = 64 ∷ upTo 64 [] in
+    64 ∷ 4 ∷ (copies 3 (1 ∷ copies 64 full) ++ (1 ∷ (copies 59 full ++ (n ∷ upTo n (replicate 4 0)))))
+
+-- 01, "Numbers and table": "A table is at most 16,384 bytes"
 -- 01, "When the monitor declines": "2 (its bytes would be too many) stands right after 9"
 unfoldable pub longRows : List Bool
 longRows =
-    listIs (fullSets 4 ++ (1 ∷ 0 ∷ 0 ∷ [])) 2 0
+    bytesAre (nearlyFull 55 ++ (1 ∷ 0 ∷ 0 ∷ [])) 0 16384
+    ∷ listIs (nearlyFull 55 ++ (1 ∷ 0 ∷ 0 ∷ [])) 0 16384
+    ∷ bytesAre (nearlyFull 56 ++ (1 ∷ 0 ∷ 0 ∷ [])) 2 0
+    ∷ listIs (nearlyFull 56 ++ (1 ∷ 0 ∷ 0 ∷ [])) 2 0
+    ∷ listIs (fullSets 4 ++ (1 ∷ 0 ∷ 0 ∷ [])) 2 0
     ∷ listIs (fullSets 4 ++ (1 ∷ 0 ∷ 5 ∷ 9 ∷ [])) 7 16649
     ∷ []
 
@@ -172,15 +185,64 @@ abbrev pub answers : Answer → ℕ → ℕ → Bool
 answers (done n) m at = eqb m 0 && eqb n at
 answers (refusal n p) m at = eqb n m && eqb p at
 
--- 01, "When the monitor declines": "Write's short output is 1, last of all"; lent lengths come first
-unfoldable pub operationRows : List Bool
-operationRows =
-    answers (writeOf tableB [] (zeros 8192) .answer) 1 0
-    ∷ answers (writeOf (tableB ++ (0 ∷ [])) [] (zeros 8192) .answer) 6 16
-    ∷ answers (writeOf (tableB ++ (0 ∷ [])) [] (zeros 8191) .answer) 1 0
-    ∷ answers (writeOf tableB (zeros 16) (zeros 8192) .answer) 0 16
-    ∷ answers (readOf tableB (zeros 16384) (zeros 8192) .answer) 0 16
-    ∷ answers (readOf tableB (zeros 16385) (zeros 8192) .answer) 1 0
-    ∷ answers (readOf (128 ∷ 0 ∷ []) (zeros 16384) (zeros 8192) .answer) 4 0
-    ∷ answers (readOf (zeros 16385) (zeros 16384) (zeros 8192) .answer) 2 0
+-- the answer, the output and the work words
+abbrev pub leaves : Outcome → ℕ → ℕ → List ℕ → List ℕ → Bool
+leaves o n at out work = answers (o .answer) n at && (same (o .output) out && same (o .work) work)
+
+-- what stood in an area before
+abbrev pub junk : ℕ → List ℕ
+junk n = replicate n 7
+
+-- a refusal of Read, 2 to 9: "Read's output is zeroed on 2 to 9", and the work area is
+abbrev pub readRefuses : List ℕ → ℕ → ℕ → Bool
+readRefuses s n at = leaves (readOf s (junk 16384) (junk 8192)) n at (zeros 16384) (zeros 8192)
+
+-- a refusal of Write, 2 to 9: the output is kept
+abbrev pub writeRefuses : List ℕ → ℕ → ℕ → Bool
+writeRefuses l n at = leaves (writeOf l (junk 20) (junk 8192)) n at (junk 20) (zeros 8192)
+
+-- tables with each refusal of 5, 7, 8 and 9
+abbrev pub offScale : List ℕ
+offScale = 3 ∷ 1 ∷ 0 ∷ 2 ∷ 1 ∷ 1 ∷ []
+
+abbrev pub wrongReference : List ℕ
+wrongReference = S0 ++ (1 ∷ 0 ∷ 5 ∷ 0 ∷ [])
+
+abbrev pub tooManyHands : List ℕ
+tooManyHands = S0 ++ (1 ∷ 2 ∷ beside 8 (1 ∷ []))
+
+abbrev pub tooManyOpenings : List ℕ
+tooManyOpenings = S0 ++ (1 ∷ 0 ∷ 3 ∷ balanced 8) ++ (0 ∷ [])
+
+-- 01, "Operations", Read; "When the monitor declines": lent lengths come first, and then all is kept
+unfoldable pub readRows : List Bool
+readRows =
+    leaves (readOf tableB (junk 16384) (junk 8192)) 0 16 (tableB ++ zeros 16368) (zeros 8192)
+    ∷ leaves (readOf tableB (junk 16385) (junk 8192)) 1 0 (junk 16385) (junk 8192)
+    ∷ leaves (readOf tableB (junk 16384) (junk 8191)) 1 0 (junk 16384) (junk 8191)
+    ∷ readRefuses (zeros 16385) 2 0
+    ∷ readRefuses (3 ∷ 2 ∷ 0 ∷ []) 3 3
+    ∷ readRefuses (128 ∷ 0 ∷ []) 4 0
+    ∷ readRefuses offScale 5 5
+    ∷ readRefuses (tableB ++ (0 ∷ [])) 6 16
+    ∷ readRefuses wrongReference 7 8
+    ∷ readRefuses tooManyHands 8 2
+    ∷ readRefuses tooManyOpenings 9 0
+    ∷ []
+
+-- 01, "Operations", Write; "Write's short output is 1, last of all", also where one byte is missing
+unfoldable pub writeRows : List Bool
+writeRows =
+    leaves (writeOf tableB (junk 20) (junk 8192)) 0 16 (tableB ++ junk 4) (zeros 8192)
+    ∷ leaves (writeOf tableB (junk 16) (junk 8192)) 0 16 tableB (zeros 8192)
+    ∷ leaves (writeOf tableB (junk 15) (junk 8192)) 1 0 (junk 15) (zeros 8192)
+    ∷ leaves (writeOf tableB (junk 20) (junk 8191)) 1 0 (junk 20) (junk 8191)
+    ∷ leaves (writeOf (tableB ++ (0 ∷ [])) [] (junk 8192)) 6 16 [] (zeros 8192)
+    ∷ writeRefuses (nearlyFull 56 ++ (1 ∷ 0 ∷ 0 ∷ [])) 2 0
+    ∷ writeRefuses (3 ∷ 2 ∷ 0 ∷ []) 3 3
+    ∷ writeRefuses offScale 5 5
+    ∷ writeRefuses (tableB ++ (0 ∷ [])) 6 16
+    ∷ writeRefuses wrongReference 7 8
+    ∷ writeRefuses tooManyHands 8 2
+    ∷ writeRefuses tooManyOpenings 9 0
     ∷ []

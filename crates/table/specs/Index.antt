@@ -1,11 +1,11 @@
 -- The index of a table in the work area (ours; 01 leaves the work area's use open).
---     maskOf, setMasks, firstRow, setWord    a row as a mask; a set's masks; the row at which a set begins; a set's word
+--     maskOf, setMasks, firstRow, setWord    a row as a mask; a set's masks, first row and word
 --     wordOf                                 a term's word
 --     SetsIndexed, Structured                the sets, and also the terms and definitions, stand in the work area
 --     Placed, Reaching, Branching            so do places, reach and branches of the terms
 --     Indexed                                the index of an accepted number list
--- Words: rows 0 to 4,095, terms from 4,096, reach (places while judging) from 5,120, branches from 6,144, sets from 7,168,
--- bodies from 7,232, levels from 7,265, widths of levels from 7,297, counts from 7,305.
+-- Words: rows 0 to 4,095, terms from 4,096, reach (places while judging) from 5,120, branches from 6,144, sets from
+-- 7,168, bodies from 7,232, levels from 7,265, widths of levels from 7,297, counts from 7,305.
 -- The laws are in `Index/Laws.antt`, `Index/Places.antt` and `Index/Sets.antt`. Assumes nothing.
 use Prim.Native.Nat.{ℕ, zero, suc, _+_, _*_, _^_, _<_, _≤_, min}
 use mathlib.Core.Path.{_≡_}

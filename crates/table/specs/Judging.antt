@@ -1,8 +1,10 @@
 -- What the judging functions promise of a number list and the work area.
---     Judging                              the list begins with a table within its bounds, which stands in the work area
+--     Judging                              the list begins with a table within its bounds, and it stands in the work
+--                                          area
 --     firstOf                              the first place of a broken rule, as the code has it
 --     WideDone, ExcessDone, JudgeDone      refusals 8 and 9; everything but 2
---     Checked                              whether a list is a table, and its index
+--     CheckDone                            with 2, before the work area is cleared
+--     CheckSaid, Checked                   whether a list is a table, and its index, or zeros
 -- Assumes nothing.
 use Prim.Native.Nat.{ℕ, _≤_, _<_}
 use mathlib.Core.Path.{_≡_}
@@ -10,7 +12,7 @@ use mathlib.Core.Bool.{Bool, true, false}
 use mathlib.Core.List.{List, _++_}
 use mathlib.Core.Option.{Option, none, some}
 use lib.ListN.{length, take, drop}
-use Rattle.numbers.specs.Number.{truncated, malformed, readNumber, listBytes}
+use Rattle.numbers.specs.Number.{Bytes, listBytes, Incomplete, IllWritten}
 use Rattle.numbers.specs.Every.{All}
 use Rattle.table.specs.declared.answer.First.{First}
 use Rattle.table.specs.declared.answer.First.the-variants.{Nowhere, Broken}
@@ -23,6 +25,7 @@ use Rattle.table.specs.References.{firstWrong}
 use Rattle.table.specs.Width.{tooWide}
 use Rattle.table.specs.Branches.{tooManyBranches}
 use Rattle.table.specs.Judge.{accepted, declined, judge, judgeList}
+use Rattle.table.specs.Operations.{zeros}
 use Rattle.table.specs.Index.{Structured, Placed, Reaching, Branching, Indexed, tableIn}
 pub mod Laws
 
@@ -61,9 +64,14 @@ abbrev pub CheckDone : List ℕ → List ℕ → Judged → Type 0
 CheckDone l w' Accepted = Indexed l w'
 CheckDone l w' (Declined r) = (judgeList l ≡ declined (r .number) (r .place)) × (length w' ≡ 8192)
 
--- "wrong measure": refusal 1 at place 0, and the work area is kept
+-- the same, with the work area "all zero" after a refusal
+abbrev pub CheckSaid : List ℕ → List ℕ → Judged → Type 0
+CheckSaid l w' Accepted = Indexed l w'
+CheckSaid l w' (Declined r) = (judgeList l ≡ declined (r .number) (r .place)) × (w' ≡ zeros 8192)
+
+-- 1, "wrong measure": refused at place 0, and the work area is kept
 pub record Checked (l w w' : List ℕ) (r : Judged) : Type 0 where
-  pub right : length w ≡ 8192 → CheckDone l w' r
+  pub right : length w ≡ 8192 → CheckSaid l w' r
   pub wrong : (length w ≡ 8192 → ⊥) → (r ≡ Declined (record { number = 1; place = 0 })) × (w' ≡ w)
 
 -- the numbers ns that bytes begin with, where they end, and what is not a number there
@@ -72,5 +80,6 @@ pub record Decoding (s ns : List ℕ) (next : ℕ) (bad : Bool) : Type 0 where
   pub size : next ≡ length (listBytes ns)
   pub within : next ≤ length s
   pub small : All (λ n. n ≤ 65535) ns
-  pub short : bad ≡ false → readNumber (drop next s) ≡ truncated
-  pub loose : bad ≡ true → readNumber (drop next s) ≡ malformed
+  pub proper : Bytes s
+  pub short : bad ≡ false → Incomplete (drop next s)
+  pub loose : bad ≡ true → IllWritten (drop next s)

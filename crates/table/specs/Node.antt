@@ -18,8 +18,8 @@ pub mod Homes
 pub mod Laws
 pub mod Numbers
 
--- A Spot says how many prefixes are around a term in its definition, whether a parallel is (1 or 0), whether the term is
--- a body or a prefix's follower (1 or 0), and the number of its definition.
+-- A Spot says how many prefixes are around a term in its definition, whether a parallel is (1 or 0), whether the term
+-- is a body or a prefix's follower (1 or 0), and the number of its definition.
 pub record Node : Type 0 where
   pub spot : Spot
   pub place : ℕ
@@ -75,7 +75,8 @@ nodeAt t n = getD (nodesOf t) n noNode
 unfoldable pub termOf : Table → ℕ → Term
 termOf t n = nodeAt t n .term
 
--- "Term kinds by number: 0 STOP, 1 FAIL, 2 prefix, 3 choice, 4 parallel, 5 call"
+-- "Term kinds by number: 0 STOP, 1 FAIL, 2 prefix (set reference, term), 3 choice (two terms), 4 parallel (set
+-- reference, two terms), 5 call (definition number)"
 unfoldable pub kindOf : Term → ℕ
 kindOf stop = 0
 kindOf fail = 1

@@ -146,7 +146,8 @@ pub record TermStored (sets : List SetDef) (s : Spot) (n i : ℕ) (p : Term) (w 
   pub kept : (x : ℕ) → ((4096 + n ≤ x) × (x < 4096 + (n + size p)) → ⊥)
       → ((5120 + n ≤ x) × (x < 5120 + (n + size p)) → ⊥) → getD w' x 0 ≡ getD w x 0
 
-pub record TermFound (sets : List SetDef) (l : List ℕ) (s : Spot) (deep n i : ℕ) (w w' : List ℕ) (j m : ℕ) : Type 0 where
+pub record TermFound (sets : List SetDef) (l : List ℕ) (s : Spot) (deep n i : ℕ) (w w' : List ℕ) (j m : ℕ)
+    : Type 0 where
   pub term : Term
   pub parsed : termWith sets deep n (tokensAt l i) ≡ got term (tokensAt l j)
   pub counted : m ≡ n + size term

@@ -1,7 +1,9 @@
--- The residuals of a term (01, "Residuals", where resolving is called settling).
+-- In how many ways a term resolves, and into how many leaves, for the counts of 01's "Openings" and the reach of
+-- "Hands of a term". The trees here carry terms, not term numbers: 01's residuals ("Residuals", where resolving is
+-- called settling), with term numbers and node words, are the monitor's, and are not defined here.
 --     Memory, Residual    four events; a tree of resolved terms with their memories
 --     resolveWith         of a term, where a call resolves as given;  resolve: of a term of a table
---     reachSum            the reach of a residual's leaves
+--     reachSum            the reach of a tree's leaves
 -- The laws are in `Resolve/Laws.antt`. Assumes nothing.
 use Prim.Native.Nat.{ℕ, _+_}
 use mathlib.Core.List.{List, [], _∷_, _++_, map, flatMap}
@@ -20,8 +22,8 @@ pub data Residual : Type 0 where
 unfoldable pub pairs : Memory → SetRef → List Residual → List Residual → List Residual
 pairs m r ps qs = flatMap (λ p. map (pair m r p) qs) ps
 
--- "STOP and a prefix give themselves with their memory; FAIL nothing; choice the union; parallel itself, with its
--- memory, over every pair"
+-- after 01, "Residuals": STOP and a prefix are leaves, FAIL has none, a choice has those of both sides, a parallel one
+-- for each pair
 unfoldable pub resolveWith : (ℕ → List Residual) → Memory → Term → List Residual
 resolveWith calls m stop = leaf m stop ∷ []
 resolveWith calls m fail = []
@@ -39,7 +41,7 @@ nextResolved ds lower = resolveWith (resolved lower) noMemory (bodyIn ds (length
 unfoldable pub allResolved : List Definition → List (List Residual)
 allResolved ds = grow (nextResolved ds) (length ds)
 
--- "call the settled body"
+-- a call of d counts as d's body, with no memory
 unfoldable pub resolve : Table → Memory → Term → List Residual
 resolve t m p = resolveWith (resolved (allResolved (t .definitions))) m p
 

@@ -4,6 +4,7 @@ use crate::answer::Judged;
 use crate::answer::Refusal;
 use crate::branches::first_excess;
 use crate::bytes::byte_place;
+use crate::clear::clear_words;
 use crate::parse::parse;
 use crate::references::first_bad_reference;
 use crate::widths::first_wide_level;
@@ -40,7 +41,8 @@ pub fn judge(list: &[u16], work: &mut [u64]) -> Judged
     }
 }
 
-// Whether a number list is a table, with a work area of the right length.
+// Whether a number list is a table, with a work area of the right length, which is overwritten and
+// not cleared.
 pub fn check_list(list: &[u16], work: &mut [u64]) -> Judged
     requires { ⌜ length (now work) ≡ 8192 ⌝ }
     ensures { λ r. ⌜ CheckDone (now (list .entry)) (now (work .exit)) r ⌝ }
@@ -59,8 +61,8 @@ pub fn check_list(list: &[u16], work: &mut [u64]) -> Judged
     }
 }
 
-// Whether a number list is a table; if so, its index stands in the work area. A work area that is not of 8,192 words
-// is refused and kept.
+// Whether a number list is a table; if so, its index stands in the work area, which otherwise is
+// all zero. A work area that is not of 8,192 words is refused and kept.
 pub fn check(list: &[u16], work: &mut [u64]) -> Judged
     ensures { λ r. ⌜ Checked (now (list .entry)) (now (work .entry)) (now (work .exit)) r ⌝ }
 {
@@ -70,5 +72,11 @@ pub fn check(list: &[u16], work: &mut [u64]) -> Judged
             place: 0,
         });
     }
-    check_list(list, work)
+    match check_list(list, work) {
+        Judged::Accepted => Judged::Accepted,
+        Judged::Declined(r) => {
+            clear_words(work);
+            Judged::Declined(r)
+        }
+    }
 }

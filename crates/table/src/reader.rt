@@ -86,7 +86,7 @@ fn judge_decoded(list: &[u16], work: &mut [u64], size: usize, d: Decoded) -> Jud
     }
 }
 
-// Read with lent lengths that are right; the work area is left as it is.
+// Read with lent lengths that are right. The work area is overwritten by the index and not cleared.
 fn read_bytes(bytes: &[u8], out: &mut [u16], work: &mut [u64]) -> Answer
     requires { ⌜ (length (now out) ≡ 16384) × (length (now work) ≡ 8192) ⌝ }
     ensures { λ r. ⌜ ReadSaid (now (bytes .entry)) r (now (out .exit)) ⌝ }

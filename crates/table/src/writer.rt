@@ -11,7 +11,7 @@ ghost use lib.ListN.{length};
 ghost use Rattle.table.specs.Operations.{writeOf};
 ghost use Rattle.table.specs.Answers.{outcome, WriteSaid};
 
-// Write with a work area of the right length, which is left as it is.
+// Write with a work area of the right length, which is overwritten by the index and not cleared.
 fn write_list(list: &[u16], out: &mut [u8], work: &mut [u64]) -> Answer
     requires { ⌜ length (now work) ≡ 8192 ⌝ }
     ensures { λ r. ⌜ WriteSaid (now (list .entry)) (now (out .entry)) r (now (out .exit)) ⌝ }

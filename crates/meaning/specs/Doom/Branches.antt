@@ -11,6 +11,7 @@ use Rattle.table.specs.Table
 use Rattle.table.specs.Table.{Table, bodyOf}
 use Rattle.table.specs.Memory.{Memory, noMemory}
 use Rattle.table.specs.Branches.{branchesWith, bodyIn, branches}
+use Rattle.table.specs.Rules.Laws.{no-wrong}
 use Rattle.table.specs.Equations.{branches-call}
 use Rattle.table.specs.Rules.{Rules}
 use Rattle.meaning.specs.Figure1.{SetRef, Term, choice, par, call, plain, body, count, Guarded, WellFormed}
@@ -76,7 +77,7 @@ module _ (t : Table) where
         let p = bodyOf t e in
         let x = term-barren (count t) e (λ e′ k. call-barren d (omega arith) e′ (omega arith)) p g 0 noMemory in
         let y : close 0 noMemory p ≡ body t e = close-plain 0 noMemory p (rules-scoped t rules e l) in
-        let z = branches-call t rules e l in (
+        let z = branches-call t (no-wrong t rules) e l in (
           λ k. z ∙ x .0 (subst (λ (P : Term). Doomed t P) (sym y) (call-doomed k)),
           λ k. d-call (subst (λ (P : Term). Doomed t P) y (x .1 (sym z ∙ k))),
         )

@@ -19,7 +19,7 @@ use Rattle.table.specs.Width.{widthWith, widest, levelWidth}
 use Rattle.table.specs.Width.Reach.{level-small}
 use Rattle.table.specs.Equations.{callCount, width-level}
 use Rattle.table.specs.Rules.{Rules}
-use Rattle.table.specs.Rules.Laws.{linked}
+use Rattle.table.specs.Rules.Laws.{linked, no-wrong}
 
 module _ (t : Table) (rules : Rules t) where
   abbrev ds : List Definition
@@ -78,7 +78,7 @@ module _ (t : Table) (rules : Rules t) where
   below-some zero d h k = absurd (omega arith)
   below-some (suc m) d h k =
       let l : ℕ = levelIn ds d in
-      let w = width-level t rules l (level-small t rules d) in
+      let w = width-level t (no-wrong t rules) l (level-small t rules d) in
       let a = level-widest (widthWith (callCount t l)) d h in
       let b = body-some (callCount t l) d h (λ c i j. call-some m l c k (below-some m) i j) in
       omega arith

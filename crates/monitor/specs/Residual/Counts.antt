@@ -10,6 +10,7 @@ use lib.ListN.{length, length-append, length-map}
 use Rattle.table.specs.Table.{Table, Term, stop, fail, prefix, choice, par, call, size, bodyOf, bodyNumber}
 use Rattle.table.specs.Memory.{Memory, noMemory}
 use Rattle.table.specs.Branches.{branchesWith, bodyIn, branches}
+use Rattle.table.specs.Rules.Laws.{no-wrong}
 use Rattle.table.specs.Equations.{branches-call}
 use Rattle.table.specs.Rules.{Rules}
 use Rattle.meaning.specs.Figure1.{count, body, plain, Guarded}
@@ -61,7 +62,7 @@ module _ (t : Table) (rules : Rules t) where
 
   body-branches : (d : ℕ) → d < count t → branches t (bodyOf t d) ≡ B d
   unfolding count bodyOf
-  body-branches d h = unfold bodyIn in sym (branches-call t rules d h)
+  body-branches d h = unfold bodyIn in sym (branches-call t (no-wrong t rules) d h)
 
   -- a bound above d, at most the count
   pub resolveDef-length : (b d : ℕ) → d < b → b ≤ count t → length (resolveDef t b d) ≡ B d

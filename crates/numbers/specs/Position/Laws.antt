@@ -1,21 +1,25 @@
 -- What the answers of `read` and `write` say of the bytes, for callers.
 --     value-read, truncated-read, malformed-read    each answer of readAt, as a scan of the bytes at the position
+--     number-3, number-4                            01's numbers of readAt's answers, by the bytes at the position
 --     next-stored, full-kept                        each answer of endAt, with the bytes after it
 -- Not here: the same by the cases of the code, `Position/Reads.antt` and `Position/Writes.antt`. Assumes nothing.
-use Prim.Native.Nat.{ℕ, _+_, _-_, _≤_, _<_}
+use Prim.Native.Nat.{ℕ, zero, suc, _+_, _-_, _≤_, _<_}
 use native.Mathlib.Omega.{arith}
 use mathlib.Core.Path.{_≡_, refl, ap, sym, _∙_, subst}
 use mathlib.Core.Bool.{Bool, true, false, cond}
-use mathlib.Core.List.{List, _++_}
+use mathlib.Core.Logic.{_↔_}
+use mathlib.Core.List.{List, [], _∷_, _++_}
 use lib.ListN.{length, take, drop, length-drop}
 use lib.Seq.{drop-drop}
 use lib.Dec.{leb}
 use borrow.Author.Tests.{leb-true, leb-false}
 use Rattle.numbers.specs.declared.Reading.the-variants.{Value, Truncated, Malformed}
 use Rattle.numbers.specs.declared.Written.the-variants.{Next, Full}
-use Rattle.numbers.specs.Number.{bytesOf, Scan, value, truncated, malformed, readNumber}
+use Rattle.numbers.specs.Number.{Bytes, bytesOf, Scan, value, truncated, malformed, readNumber}
+use Rattle.numbers.specs.Number.{Incomplete, IllWritten}
 use Rattle.numbers.specs.Number.Extent.{scan-extent}
-use Rattle.numbers.specs.Position.{found, readAt, endAt, storedAt}
+use Rattle.numbers.specs.Number.Unread.{read-truncated, incomplete-read, read-malformed, ill-written-read}
+use Rattle.numbers.specs.Position.{found, refusalNumber, readAt, endAt, storedAt}
 
 -- ---- readAt
 -- the number v stands at a position of l, and q is the position after it
@@ -75,6 +79,37 @@ truncated-read l at e = truncated-found at (readNumber (drop at l)) e
 pub malformed-read : (l : List ℕ) (at : ℕ) → Malformed ≡ readAt l at → readNumber (drop at l) ≡ malformed
 unfolding readAt
 malformed-read l at e = malformed-found at (readNumber (drop at l)) e
+
+-- ---- refusalNumber
+found-3 : (at : ℕ) (x : Scan) → (refusalNumber (found at x) ≡ 3) ↔ (x ≡ truncated)
+unfolding found
+found-3 at (value v n rest) = (λ e. absurd (omega arith), λ e. let z : _≡_ {A = ℕ} 0 1 = cc in absurd (omega arith))
+found-3 at truncated = (λ e. refl, λ e. refl)
+found-3 at malformed = (λ e. absurd (omega arith), λ e. let z : _≡_ {A = ℕ} 0 1 = cc in absurd (omega arith))
+
+found-4 : (at : ℕ) (x : Scan) → (refusalNumber (found at x) ≡ 4) ↔ (x ≡ malformed)
+unfolding found
+found-4 at (value v n rest) = (λ e. absurd (omega arith), λ e. let z : _≡_ {A = ℕ} 0 1 = cc in absurd (omega arith))
+found-4 at truncated = (λ e. absurd (omega arith), λ e. let z : _≡_ {A = ℕ} 0 1 = cc in absurd (omega arith))
+found-4 at malformed = (λ e. refl, λ e. refl)
+
+drop-bytes : (at : ℕ) (s : List ℕ) → Bytes s → Bytes (drop at s)
+drop-bytes zero s w = w
+drop-bytes (suc at) [] w = tt
+drop-bytes (suc at) (b ∷ s) w = drop-bytes at s (w .1)
+
+module _ (s : List ℕ) (at : ℕ) (w : Bytes s) where
+  pub number-3 : (refusalNumber (readAt s at) ≡ 3) ↔ Incomplete (drop at s)
+  unfolding readAt
+  number-3 =
+      let f = found-3 at (readNumber (drop at s)) in
+      (λ e. read-truncated (drop at s) (drop-bytes at s w) (f .0 e), λ x. f .1 (incomplete-read (drop at s) x))
+
+  pub number-4 : (refusalNumber (readAt s at) ≡ 4) ↔ IllWritten (drop at s)
+  unfolding readAt
+  number-4 =
+      let f = found-4 at (readNumber (drop at s)) in
+      (λ e. read-malformed (drop at s) (f .0 e), λ x. f .1 (ill-written-read (drop at s) (drop-bytes at s w) x))
 
 -- ---- endAt and storedAt
 -- the bytes of v stand at a position, q is the position after them, and all else is kept

@@ -14,6 +14,7 @@ use lib.Seq.{take-suc-set}
 use Rattle.numbers.specs.Every.{All, all-append, all-right}
 use Rattle.numbers.specs.Number.{Bytes, bytesOf, listBytes}
 use Rattle.numbers.specs.Number.Laws.{read-is-written}
+use Rattle.numbers.specs.Number.Unread.{read-truncated, read-malformed}
 use Rattle.numbers.specs.Position.{readAt}
 use Rattle.numbers.specs.Position.Laws.{value-read, truncated-read, malformed-read}
 use Rattle.numbers.specs.declared.Reading.the-variants.{Value, Truncated, Malformed}
@@ -78,24 +79,28 @@ module _ (s out : List ℕ) (count next : ℕ) (f : Front s out count next) wher
             (all-append (λ m. m ≤ 65535) (take count out) (v ∷ []) (f .small) (r .small, tt));
       }
 
-  pub front-short : Truncated ≡ readAt s next → Decoding s (take count out) next false
-  front-short e =
+  pub front-short : Bytes s → Truncated ≡ readAt s next → Decoding s (take count out) next false
+  front-short w e =
       record {
         bytes = f .bytes;
         size = f .size;
         within = f .within;
         small = f .small;
-        short = λ _. truncated-read s next e;
+        proper = w;
+        short =
+            λ _. read-truncated (drop next s)
+            (right-bytes s (listBytes (take count out)) (drop next s) w (f .bytes)) (truncated-read s next e);
         loose = λ h. let z : _≡_ {A = ℕ} 0 1 = cc in absurd (omega arith);
       }
 
-  pub front-loose : Malformed ≡ readAt s next → Decoding s (take count out) next true
-  front-loose e =
+  pub front-loose : Bytes s → Malformed ≡ readAt s next → Decoding s (take count out) next true
+  front-loose w e =
       record {
         bytes = f .bytes;
         size = f .size;
         within = f .within;
         small = f .small;
+        proper = w;
         short = λ h. let z : _≡_ {A = ℕ} 0 1 = cc in absurd (omega arith);
-        loose = λ _. malformed-read s next e;
+        loose = λ _. read-malformed (drop next s) (malformed-read s next e);
       }

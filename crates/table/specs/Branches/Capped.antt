@@ -1,7 +1,8 @@
 -- Branches counted up to 257 only: the same recursion, capped at each step, gives the capped branches, and the test
 -- against 256 is the same. So code may count with small numbers.
---     capped, cappedWith, nextCapped     at most 257; a term's branches so counted; a definition's
---     capped-few, capped-all             the test against 256; all definitions
+--     capped, cappedWith        at most 257; a term's branches so counted
+--     nextCapped, allCapped     a definition's; of each definition
+--     capped-few, capped-term   the test against 256; a term of a table
 -- Assumes nothing.
 use Prim.Native.Nat.{ℕ, zero, suc, _+_, _*_, _≤_, _<_, min}
 use native.Mathlib.Omega.{arith}
@@ -12,8 +13,8 @@ use mathlib.Core.Logic.{_↔_}
 use mathlib.Core.List.{List, [], _∷_, _++_, map, map-append}
 use lib.ListN.{length, getD, length-map, List·getD-map}
 use Rattle.table.specs.Grow.{grow}
-use Rattle.table.specs.Table.{Term, stop, fail, prefix, choice, par, call, Definition}
-use Rattle.table.specs.Branches.{branchesWith, lookup, bodyIn, nextBranches, allBranches}
+use Rattle.table.specs.Table.{Term, stop, fail, prefix, choice, par, call, Definition, Table}
+use Rattle.table.specs.Branches.{branchesWith, lookup, bodyIn, nextBranches, allBranches, branches}
 
 unfoldable pub capped : ℕ → ℕ
 capped n = min 257 n
@@ -28,6 +29,9 @@ cappedWith calls (call d) = calls d
 
 unfoldable pub nextCapped : List Definition → List ℕ → ℕ
 nextCapped ds lower = cappedWith (lookup lower) (bodyIn ds (length lower))
+
+unfoldable pub allCapped : List Definition → List ℕ
+allCapped ds = grow (nextCapped ds) (length ds)
 
 pub capped-few : (n : ℕ) → (capped n ≤ 256) ↔ (n ≤ 256)
 unfolding capped
@@ -103,6 +107,13 @@ capped-grow ds (suc n) =
     ∙ ap (λ (x : ℕ). map capped g ++ (x ∷ [])) (capped-next ds g)
     ∙ sym (map-append capped g (nextBranches ds g ∷ []))
 
-pub capped-all : (ds : List Definition) → grow (nextCapped ds) (length ds) ≡ map capped (allBranches ds)
-unfolding allBranches
+pub capped-all : (ds : List Definition) → allCapped ds ≡ map capped (allBranches ds)
+unfolding allCapped allBranches
 capped-all ds = capped-grow ds (length ds)
+
+pub capped-term : (t : Table) (p : Term) → cappedWith (lookup (allCapped (t .definitions))) p ≡ capped (branches t p)
+unfolding branches
+capped-term t p =
+    let all = allBranches (t .definitions) in
+    capped-branches (lookup all) (lookup (allCapped (t .definitions)))
+    (λ d. ap (λ (l : List ℕ). lookup l d) (capped-all (t .definitions)) ∙ capped-lookup all d) p

@@ -10,7 +10,9 @@ use mathlib.Core.Logic.{_⊎_, inl, inr}
 use mathlib.Core.List.{List, [], _∷_, _++_, append-nil}
 use mathlib.Core.Option.{Option, none, some}
 use lib.ListN.{length}
-use Rattle.numbers.specs.Number.{Bytes, truncated, malformed, readNumber, listBytes}
+use Rattle.numbers.specs.Number.{Bytes, listBytes, Incomplete, IllWritten}
+use Rattle.numbers.specs.Number.Unread.{read-truncated, read-malformed}
+use Rattle.numbers.specs.Every.{all-right}
 use Rattle.table.specs.First.Laws.{pass-out}
 use Rattle.table.specs.Table.{Table}
 use Rattle.table.specs.Tokens.{listTokens, byteTokens}
@@ -25,7 +27,8 @@ use Rattle.table.specs.References.{firstWrong}
 use Rattle.table.specs.Width.{tooWide}
 use Rattle.table.specs.Branches.{tooManyBranches}
 use Rattle.table.specs.Judge.{declined, judgeBytes}
-use Rattle.table.specs.Refusals.{links, narrowLevels, fewTerms, Truncated}
+use Rattle.table.specs.Marks.{Open}
+use Rattle.table.specs.Refusals.{links, narrowLevels, fewTerms}
 use Rattle.table.specs.Refusals.Laws.{wrong-first, width-first, branches-first}
 use Rattle.table.specs.Refusals.Stops.{Stops, cut, off, stops}
 use Rattle.table.specs.Refusals.Exact.{first-of}
@@ -37,23 +40,22 @@ use Rattle.table.specs.BytesRefused.Stream.{Ends, short, loose, Stream, 
 use Rattle.table.specs.BytesRefused.Laws.{unmet, placed-none}
 use Rattle.table.specs.BytesRefused.Given.{ends, whole-in, refused-bytes-in}
 
-module _ (s : List ℕ) (n at : ℕ) (said : judgeBytes s ≡ declined n at) where
+module _ (s : List ℕ) (n at : ℕ) (said : judgeBytes s ≡ declined n at) (w₀ : Bytes s) where
   transfer : (m bt : ℕ) → RefusedBytes s m bt → RefusedBytes s n at
   transfer m bt r =
-      let e = sym (refused-bytes-in s m bt r) ∙ said in
+      let e = sym (refused-bytes-in s m bt w₀ r) ∙ said in
       let p : m ≡ n = cc in
       let q : bt ≡ at = cc in
       subst (λ (k : ℕ). RefusedBytes s k at) p (subst (λ (k : ℕ). RefusedBytes s m k) q r)
 
   module _ (fits : length s ≤ 16384) (ns tail : List ℕ) (d : Decoded s ns tail) where
-    by-end : (k : ℕ) → Truncated ns k → (readNumber tail ≡ truncated) ⊎ (readNumber tail ≡ malformed)
-        → RefusedBytes s n at
-    by-end k c (inl e) = transfer 3 (length s) (short-bytes ns tail k refl fits d c e refl)
-    by-end k c (inr e) = transfer 4 (length (listBytes ns)) (malformed-number ns tail k refl fits d c e refl)
+    by-end : Open ns → Incomplete tail ⊎ IllWritten tail → RefusedBytes s n at
+    by-end c (inl e) = transfer 3 (length s) (short-bytes ns tail refl fits d c e refl)
+    by-end c (inr e) = transfer 4 (length (listBytes ns)) (malformed-number ns tail refl fits d c e refl)
 
     by-stop : (m k : ℕ) → table (listTokens 0 ns) ≡ refused m k → Stops ns m k → RefusedBytes s n at
     by-stop m k e (cut h j) =
-        by-end k (cut-exact-out ns k (subst (λ (x : ℕ). table (listTokens 0 ns) ≡ refused x k) h e)) (d .ends)
+        by-end (cut-exact-out ns k (subst (λ (x : ℕ). table (listTokens 0 ns) ≡ refused x k) h e) .within) (d .ends)
     by-stop m k e (off h front y more w p c g) =
         transfer 5 (bytePlace ns k)
         (off-bytes ns tail k refl fits d
@@ -63,7 +65,7 @@ module _ (s : List ℕ) (n at : ℕ) (said : judgeBytes s ≡ declined n at) whe
       (w : ns ≡ numbersOf t) where
     by-branches : firstWrong t ≡ none → tooWide t ≡ none → (o : Option ℕ) → tooManyBranches t ≡ o → RefusedBytes s n at
     by-branches a b none c =
-        let e = whole-in s ns [] d fits t f w ∙ unmet 6 _ _ (end-none _ _ (ends s ns [] d fits))
+        let e = whole-in s ns [] d w₀ fits t f w ∙ unmet 6 _ _ (end-none _ _ (ends s ns [] d w₀ fits))
         ∙ unmet 7 _ _ (placed-none _ _ a) ∙ unmet 8 _ _ b ∙ unmet 9 _ _ c in
         let q = sym said ∙ e in
         let z : _≡_ {A = ℕ} 0 1 = cc in
@@ -126,16 +128,17 @@ module _ (s : List ℕ) (n at : ℕ) (said : judgeBytes s ≡ declined n at) whe
         let c = follows-list (numbersOf t) 0 ns rest (k .1) in
         by-more ns tail d t (fields-out t (k .0)) (c .more) (c .whole)
 
-  pub refused-bytes-out : Bytes s → RefusedBytes s n at
-  refused-bytes-out w = go (decLt 16384 (length s))
+  pub refused-bytes-out : RefusedBytes s n at
+  refused-bytes-out = go (decLt 16384 (length s))
     where
       x : Stream 0 s (byteTokens s)
-      x = decode s w
+      x = decode s w₀
 
-      how : Ends (x .tail) (0 + length (listBytes (x .ns))) (x .E)
-          → (readNumber (x .tail) ≡ truncated) ⊎ (readNumber (x .tail) ≡ malformed)
-      how (short a e) = inl a
-      how (loose a e) = inr a
+      how : Ends (x .tail) (0 + length (listBytes (x .ns))) (x .E) → Incomplete (x .tail) ⊎ IllWritten (x .tail)
+      how (short a e) =
+          inl (read-truncated (x .tail)
+          (all-right (λ b. b < 256) (listBytes (x .ns)) (x .tail) (subst Bytes (x .bytes) w₀)) a)
+      how (loose a e) = inr (read-malformed (x .tail) a)
 
       go : Dec (16384 < length s) → RefusedBytes s n at
       go (yes h) = transfer 2 0 (long-bytes refl refl h)

@@ -8,10 +8,13 @@ use mathlib.Core.Path.{_≡_, refl, sym, ap, _∙_, subst}
 use mathlib.Core.Bool.{Bool, true, false}
 use mathlib.Core.List.{List, [], _∷_, _++_, append-nil}
 use mathlib.Core.Option.{Option, none, some}
+use mathlib.Core.Logic.{_⊎_, inl, inr}
 use lib.ListN.{length, length-append}
 use lib.Dec.{ltb}
 use borrow.Author.Tests.{le-ltb, lt-ltb}
-use Rattle.numbers.specs.Number.{truncated, malformed, readNumber, listBytes}
+use Rattle.numbers.specs.Number.{Bytes, truncated, malformed, readNumber, listBytes, Incomplete, IllWritten}
+use Rattle.numbers.specs.Number.Unread.{incomplete-read, ill-written-read}
+use Rattle.numbers.specs.Every.{all-right}
 use Rattle.table.specs.First.Laws.{pass-in, first-short}
 use Rattle.table.specs.Table.{Table}
 use Rattle.table.specs.Tokens.{Tokens, token, ended, broken, listTokens, byteTokensWith, byteTokens, trailing}
@@ -25,7 +28,8 @@ use Rattle.table.specs.References.{firstWrong}
 use Rattle.table.specs.Width.{tooWide}
 use Rattle.table.specs.Branches.{tooManyBranches}
 use Rattle.table.specs.Judge.{accepted, declined, unlessMet, placed, judge, judgeBytes}
-use Rattle.table.specs.Refusals.{links, narrowLevels, fewTerms, Truncated, OutOfRange, TrailingInput}
+use Rattle.table.specs.Marks.{Open}
+use Rattle.table.specs.Refusals.{links, narrowLevels, fewTerms, OutOfRange, TrailingInput}
 use Rattle.table.specs.Refusals.Laws.{length-links, wrong-first, width-first, branches-first}
 use Rattle.table.specs.Refusals.Exact.{first-is}
 use Rattle.table.specs.Refusals.AtNumbers.{cut-exact-in, off-exact-in}
@@ -57,11 +61,19 @@ unfolding judgeBytes
 long-in s n at e f h = rw (e, f, lt-ltb _ _ h) refl
 
 -- ---- decoded bytes that are short enough: their judgement is their stream's
-module _ (s ns tail : List ℕ) (d : Decoded s ns tail) (fits : length s ≤ 16384) where
+module _ (s ns tail : List ℕ) (d : Decoded s ns tail) (w₀ : Bytes s) (fits : length s ≤ 16384) where
+  tail-bytes : Bytes tail
+  tail-bytes = all-right (λ b. b < 256) (listBytes ns) tail (subst Bytes (d .bytes) w₀)
+
+  how : Incomplete tail ⊎ IllWritten tail → (readNumber tail ≡ truncated) ⊎ (readNumber tail ≡ malformed)
+  how (inl x) = inl (incomplete-read tail x)
+  how (inr x) = inr (ill-written-read tail tail-bytes x)
+
   -- the bytes as a stream
   pub seen : Shown (length s) 0 ns tail
   seen =
-      shown ns (length s) 0 tail (d .small) (let e = ap (λ (x : List ℕ). length x) (d .bytes) in omega arith) (d .ends)
+      shown ns (length s) 0 tail (d .small) (let e = ap (λ (x : List ℕ). length x) (d .bytes) in omega arith)
+      (how (d .ends))
 
   val : values (bytePlaces 0 ns) ≡ ns
   val = values-bytes 0 ns
@@ -78,10 +90,11 @@ module _ (s ns tail : List ℕ) (d : Decoded s ns tail) (fits : length s ≤ 163
       (seen .stream) in
       rw b (ap judge e)
 
-  cut-in : (k : ℕ) → Truncated ns k → table (prepend (bytePlaces 0 ns) (seen .E)) ≡ refusalOf (seen .E)
-  cut-in k c =
-      stream-cut (bytePlaces 0 ns) (seen .E) (ends-end tail _ (seen .E) ends) k
-      (subst (λ (m : List ℕ). table (listTokens 0 m) ≡ refused 3 k) (sym val) (cut-exact-in ns k c))
+  cut-in : Open ns → table (prepend (bytePlaces 0 ns) (seen .E)) ≡ refusalOf (seen .E)
+  cut-in c =
+      stream-cut (bytePlaces 0 ns) (seen .E) (ends-end tail _ (seen .E) ends) (length ns)
+      (subst (λ (m : List ℕ). table (listTokens 0 m) ≡ refused 3 (length ns)) (sym val)
+      (cut-exact-in ns (length ns) (record { within = c; place = refl })))
 
   off-in : (i : ℕ) → OutOfRange ns i → judgeBytes s ≡ declined 5 (bytePlace ns i)
   off-in i o =
@@ -140,60 +153,64 @@ module _ (s ns tail : List ℕ) (d : Decoded s ns tail) (fits : length s ≤ 163
       (sym (append-nil-placed (bytePlaces 0 ns))) (val ∙ w) in
       judged-as ∙ judge-got _ _ t e
 
-  short-in : (k : ℕ) → Truncated ns k → readNumber tail ≡ truncated → judgeBytes s ≡ declined 3 (length s)
-  short-in k c h = go ends
+  short-in : Open ns → Incomplete tail → judgeBytes s ≡ declined 3 (length s)
+  short-in c h = go ends
     where
       go : Ends tail (0 + length (listBytes ns)) (seen .E) → judgeBytes s ≡ declined 3 (length s)
       go (short a e) =
           let n = ap (λ (x : List ℕ). length x) (d .bytes) ∙ length-append (listBytes ns) tail in
           let z : 0 + length (listBytes ns) + length tail ≡ length s = omega arith in
-          judged-as ∙ judge-no _ 3 _ (cut-in k c ∙ ap refusalOf e ∙ refusal-ended _ _) ∙ ap (λ (m : ℕ). declined 3 m) z
-      go (loose a e) = let q = sym a ∙ h in let z : _≡_ {A = ℕ} 0 1 = cc in absurd (omega arith)
+          judged-as ∙ judge-no _ 3 _ (cut-in c ∙ ap refusalOf e ∙ refusal-ended _ _) ∙ ap (λ (m : ℕ). declined 3 m) z
+      go (loose a e) =
+          let q = sym a ∙ incomplete-read tail h in let z : _≡_ {A = ℕ} 0 1 = cc in absurd (omega arith)
 
-  loose-in : (k : ℕ) → Truncated ns k → readNumber tail ≡ malformed → judgeBytes s ≡ declined 4 (length (listBytes ns))
-  loose-in k c h = go ends
+  loose-in : Open ns → IllWritten tail → judgeBytes s ≡ declined 4 (length (listBytes ns))
+  loose-in c h = go ends
     where
       go : Ends tail (0 + length (listBytes ns)) (seen .E) → judgeBytes s ≡ declined 4 (length (listBytes ns))
-      go (short a e) = let q = sym a ∙ h in let z : _≡_ {A = ℕ} 0 1 = cc in absurd (omega arith)
+      go (short a e) =
+          let q = sym a ∙ ill-written-read tail tail-bytes h in
+          let z : _≡_ {A = ℕ} 0 1 = cc in
+          absurd (omega arith)
       go (loose a e) =
           let z : 0 + length (listBytes ns) ≡ length (listBytes ns) = omega arith in
-          judged-as ∙ judge-no _ 4 _ (cut-in k c ∙ ap refusalOf e ∙ refusal-broken _) ∙ ap (λ (m : ℕ). declined 4 m) z
+          judged-as ∙ judge-no _ 4 _ (cut-in c ∙ ap refusalOf e ∙ refusal-broken _) ∙ ap (λ (m : ℕ). declined 4 m) z
 
 -- ---- all refusals
-pub refused-bytes-in : (s : List ℕ) (n at : ℕ) → RefusedBytes s n at → judgeBytes s ≡ declined n at
-refused-bytes-in s n at (long-bytes e f h) = long-in s n at e f h
-refused-bytes-in s n at (short-bytes ns tail k e l d c h p) = rw (e, p) (short-in s ns tail d l k c h)
-refused-bytes-in s n at (malformed-number ns tail k e l d c h p) = rw (e, p) (loose-in s ns tail d l k c h)
-refused-bytes-in s n at (off-bytes ns tail i e l d o p) = rw (e, p) (off-in s ns tail d l i o)
-refused-bytes-in s n at (over-number ns tail i e l d o p) = rw (e, p) (over-in s ns tail d l i o)
-refused-bytes-in s n at (over-bytes ns b tail t e l d f w p) =
+pub refused-bytes-in : (s : List ℕ) (n at : ℕ) → Bytes s → RefusedBytes s n at → judgeBytes s ≡ declined n at
+refused-bytes-in s n at w₀ (long-bytes e f h) = long-in s n at e f h
+refused-bytes-in s n at w₀ (short-bytes ns tail e l d c h p) = rw (e, p) (short-in s ns tail d w₀ l c h)
+refused-bytes-in s n at w₀ (malformed-number ns tail e l d c h p) = rw (e, p) (loose-in s ns tail d w₀ l c h)
+refused-bytes-in s n at w₀ (off-bytes ns tail i e l d o p) = rw (e, p) (off-in s ns tail d w₀ l i o)
+refused-bytes-in s n at w₀ (over-number ns tail i e l d o p) = rw (e, p) (over-in s ns tail d w₀ l i o)
+refused-bytes-in s n at w₀ (over-bytes ns b tail t e l d f w p) =
     let z : 0 + length (listBytes ns) ≡ length (listBytes ns) = omega arith in
-    rw (e, p) (whole-in s ns (b ∷ tail) d l t f w ∙ met 6 _ _ _ (end-some b tail _ _ (ends s ns (b ∷ tail) d l))
+    rw (e, p) (whole-in s ns (b ∷ tail) d w₀ l t f w ∙ met 6 _ _ _ (end-some b tail _ _ (ends s ns (b ∷ tail) d w₀ l))
     ∙ ap (λ (m : ℕ). declined 6 m) z)
-refused-bytes-in s n at (wrong-bytes ns i e l d o p) =
+refused-bytes-in s n at w₀ (wrong-bytes ns i e l d o p) =
     let t = o .table in
     let w = o .numbers in
     let f = sym (wrong-first t) ∙ first-is ns i (links t) (o .wrong) in
     let q = first-short i (links t) (o .wrong) in
     let m = length-links t in
     let v = ap (λ (x : List ℕ). length x) w in
-    let b = place-bytes 0 ns (seen s ns [] d l .E) i (omega arith) in
-    let z : placeOf (prepend (bytePlaces 0 ns) (seen s ns [] d l .E)) i ≡ bytePlace ns i = omega arith in
+    let b = place-bytes 0 ns (seen s ns [] d w₀ l .E) i (omega arith) in
+    let z : placeOf (prepend (bytePlaces 0 ns) (seen s ns [] d w₀ l .E)) i ≡ bytePlace ns i = omega arith in
     rw (e, p)
-    (whole-in s ns [] d l t (o .fields) w ∙ unmet 6 _ _ (end-none _ _ (ends s ns [] d l))
+    (whole-in s ns [] d w₀ l t (o .fields) w ∙ unmet 6 _ _ (end-none _ _ (ends s ns [] d w₀ l))
     ∙ met 7 _ _ _ (placed-some _ _ i f) ∙ ap (λ (c : ℕ). declined 7 c) z)
-refused-bytes-in s n at (wide-bytes ns e l d o) =
+refused-bytes-in s n at w₀ (wide-bytes ns e l d o) =
     let t = o .table in
     let f = sym (wrong-first t) ∙ pass-in 0 (links t) (o .linked) in
     let g = sym (width-first t) ∙ first-is ns at (narrowLevels t) (o .wrong) in
-    rw e (whole-in s ns [] d l t (o .fields) (o .numbers) ∙ unmet 6 _ _ (end-none _ _ (ends s ns [] d l))
+    rw e (whole-in s ns [] d w₀ l t (o .fields) (o .numbers) ∙ unmet 6 _ _ (end-none _ _ (ends s ns [] d w₀ l))
     ∙ unmet 7 _ _ (placed-none _ _ f) ∙ met 8 _ _ _ g)
-refused-bytes-in s n at (branches-bytes ns e l d o) =
+refused-bytes-in s n at w₀ (branches-bytes ns e l d o) =
     let t = o .table in
     let f = sym (wrong-first t) ∙ pass-in 0 (links t) (o .linked) in
     let g = sym (width-first t) ∙ pass-in 0 (narrowLevels t) (o .narrow) in
     let h = sym (branches-first t) ∙ first-is ns at (fewTerms t) (o .wrong) in
     rw e
-    (whole-in s ns [] d l t (o .fields) (o .numbers) ∙ unmet 6 _ _ (end-none _ _ (ends s ns [] d l))
+    (whole-in s ns [] d w₀ l t (o .fields) (o .numbers) ∙ unmet 6 _ _ (end-none _ _ (ends s ns [] d w₀ l))
     ∙ unmet 7 _ _ (placed-none _ _ f) ∙ unmet 8 _ _ g
     ∙ met 9 _ _ _ h)

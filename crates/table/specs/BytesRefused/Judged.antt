@@ -16,7 +16,7 @@ use lib.ListN.{length, drop, getD, length-append, drop-of-length-le}
 use lib.Seq.{drop-cons}
 use lib.Dec.{eqb, ltb}
 use borrow.Author.Tests.{le-ltb, lt-ltb, ne-eqb}
-use Rattle.numbers.specs.Number.{truncated, malformed, readNumber, listBytes}
+use Rattle.numbers.specs.Number.{listBytes, Incomplete, IllWritten}
 use Rattle.table.specs.declared.answer.Refusal.{Refusal}
 use Rattle.table.specs.declared.answer.Judged.{Judged}
 use Rattle.table.specs.declared.answer.Judged.the-variants.{Accepted, Declined}
@@ -39,8 +39,8 @@ use Rattle.table.specs.BytesRefused.Given.{refused-bytes-in}
 use Rattle.table.specs.Index.{tableIn}
 use Rattle.table.specs.Judging.{Decoding}
 
--- "3 cut short", at the input's length, or "4 loose number", at the number that is none; 5 and 6 at the number's first
--- byte; "6 left over" before 7, 8 and 9, "input after the table" that is no number
+-- 3, "cut short", at "input length", or 4, "loose number", at "its first byte"; 5 and 6 at the number's first byte;
+-- before 7, 8 and 9 6, "left over": "input after the table" that is no number
 unfoldable pub onBytes : List ℕ → ℕ → ℕ → Bool → Judgement → Judgement
 onBytes ns next size bad (accepted ms t) = cond (ltb next size) (declined 6 next) (accepted ms t)
 onBytes ns next size bad (declined n at) =
@@ -152,7 +152,7 @@ place-within l n at e = within l n at e (refused-out l n at (list-declined l n a
 
 -- ---- the judgement of bytes
 module _ (s ns : List ℕ) (next : ℕ) (bad : Bool) (d : Decoding s ns next bad) (fits : length s ≤ 16384) where
-  ends : (b : Bool) → bad ≡ b → (readNumber (drop next s) ≡ truncated) ⊎ (readNumber (drop next s) ≡ malformed)
+  ends : (b : Bool) → bad ≡ b → Incomplete (drop next s) ⊎ IllWritten (drop next s)
   ends true e = inr (d .loose e)
   ends false e = inl (d .short e)
 
@@ -167,7 +167,7 @@ module _ (s ns : List ℕ) (next : ℕ) (bad : Bool) (d : Decoding s ns next bad
 
   -- more bytes after a table, which are no number
   over : (t : Table) → Fields t → ns ≡ numbersOf t → next < length s → judgeBytes s ≡ declined 6 next
-  over t f w h = refused-bytes-in s 6 next (over-bytes ns _ _ t refl fits (decoded-more h) f w (d .size))
+  over t f w h = refused-bytes-in s 6 next (d .proper) (over-bytes ns _ _ t refl fits (decoded-more h) f w (d .size))
 
   -- 7, 8 and 9: those bytes come first
   by-table : (n at : ℕ) (t : Table) → Fields t → ns ≡ numbersOf t → 7 ≤ n
@@ -190,27 +190,30 @@ module _ (s ns : List ℕ) (next : ℕ) (bad : Bool) (d : Decoding s ns next bad
     where
       go : (b : Bool) → bad ≡ b → judgeBytes s ≡ onBytes ns next (length s) bad (declined n at)
       go true c =
-          refused-bytes-in s 4 next (malformed-number ns (drop next s) at refl fits decoded h (d .loose c) (d .size))
+          refused-bytes-in s 4 next (d .proper)
+          (malformed-number ns (drop next s) refl fits decoded (h .within) (d .loose c) (d .size))
           ∙ on-loose ns next (length s) bad n at e c
       go false c =
-          refused-bytes-in s 3 (length s) (short-bytes ns (drop next s) at refl fits decoded h (d .short c) refl)
+          refused-bytes-in s 3 (length s) (d .proper)
+          (short-bytes ns (drop next s) refl fits decoded (h .within) (d .short c) refl)
           ∙ on-short ns next (length s) bad n at e c
   by-refusal n at j (out-of-range e h) =
-      refused-bytes-in s n (bytePlace ns at) (off-bytes ns (drop next s) at e fits decoded h refl)
+      refused-bytes-in s n (bytePlace ns at) (d .proper) (off-bytes ns (drop next s) at e fits decoded h refl)
       ∙ on-number ns next (length s) bad n at (omega arith) (omega arith)
   by-refusal n at j (trailing-input e h) =
-      refused-bytes-in s n (bytePlace ns at) (over-number ns (drop next s) at e fits decoded h refl)
+      refused-bytes-in s n (bytePlace ns at) (d .proper) (over-number ns (drop next s) at e fits decoded h refl)
       ∙ on-number ns next (length s) bad n at (omega arith) (omega arith)
   by-refusal n at j (bad-reference e h) =
       by-table n at (h .table) (h .fields) (h .numbers) (omega arith)
-      (λ k. refused-bytes-in s n (bytePlace ns at) (wrong-bytes ns at e fits (decoded-whole k) h refl)
+      (λ k. refused-bytes-in s n (bytePlace ns at) (d .proper) (wrong-bytes ns at e fits (decoded-whole k) h refl)
       ∙ on-reference ns next (length s) bad n at e k)
   by-refusal n at j (too-wide e h) =
       by-table n at (h .table) (h .fields) (h .numbers) (omega arith)
-      (λ k. refused-bytes-in s n at (wide-bytes ns e fits (decoded-whole k) h) ∙ kept n at (omega arith) k)
+      (λ k. refused-bytes-in s n at (d .proper) (wide-bytes ns e fits (decoded-whole k) h) ∙ kept n at (omega arith) k)
   by-refusal n at j (too-many-branches e h) =
       by-table n at (h .table) (h .fields) (h .numbers) (omega arith)
-      (λ k. refused-bytes-in s n at (branches-bytes ns e fits (decoded-whole k) h) ∙ kept n at (omega arith) k)
+      (λ k. refused-bytes-in s n at (d .proper) (branches-bytes ns e fits (decoded-whole k) h)
+      ∙ kept n at (omega arith) k)
 
   by-judgement : (j : Judgement) → judge (listTokens 0 ns) ≡ j → judgeBytes s ≡ onBytes ns next (length s) bad j
   by-judgement (declined n at) e = by-refusal n at e (refused-out ns n at (list-declined ns n at e))

@@ -1,5 +1,5 @@
 -- Every row of `Examples` holds, by computing.
---     numbers-hold, tables-hold, counts-hold, longs-hold, operations-hold
+--     numbers-hold, tables-hold, counts-hold, longs-hold, reads-hold, writes-hold
 -- Assumes nothing.
 use mathlib.Core.List.{flatMap}
 use lib.Dec.{T}
@@ -20,7 +20,7 @@ use Rattle.table.specs.Branches.{tooManyBranches}
 use Rattle.table.specs.Operations.{measured, readJudged, readOf, writeJudged, writeOf}
 use Rattle.table.specs.Judge.{unlessMet, placed, judgeRead, judge, judgeBytes, sized, judgeList}
 use Rattle.table.specs.Examples.{bytesAre, listIs, every, numberRows, tableRows, countRows, longRows}
-use Rattle.table.specs.Examples.{operationRows}
+use Rattle.table.specs.Examples.{readRows, writeRows}
 
 pub numbers-hold : T (every numberRows)
 unfolding numberRows bytesAre judgeBytes judge judgeRead byteTokens byteTokensWith byteToken readNumber scanWith carry
@@ -46,7 +46,8 @@ unfolding countRows bytesAre listIs judgeBytes judge judgeRead byteTokens byteTo
 counts-hold = tt
 
 pub longs-hold : T (every longRows)
-unfolding longRows listIs judge judgeRead table number andThen next pure times events row setOfKind set refOfKind setRef
+unfolding longRows bytesAre listIs judgeBytes byteTokens byteTokensWith byteToken readNumber scanWith carry later judge
+    judgeRead table number andThen next pure times events row setOfKind set refOfKind setRef
     termOfKind termWith definition definitionsOf size listTokens unlessMet placed placeOf trailing firstWrong wrongFrom
     wrongIn wrongRef paramFits callFits levelIn orElse unless rowNumbers setNumbers refNumbers termNumbers
     definitionNumbers flatMap numbersOf widthWith widest callWidth nextWidth allWidths grow firstAbove tooWide
@@ -54,12 +55,20 @@ unfolding longRows listIs judge judgeRead table number andThen next pure times e
     listBytes bytesOf groups
 longs-hold = tt
 
-pub operations-hold : T (every operationRows)
-unfolding operationRows readOf writeOf measured readJudged writeJudged judgeBytes byteTokens byteTokensWith byteToken
+pub reads-hold : T (every readRows)
+unfolding readRows readOf measured readJudged judgeBytes byteTokens byteTokensWith byteToken
     readNumber scanWith carry later judge judgeRead table number andThen next pure times events row setOfKind set
     refOfKind setRef termOfKind termWith definition definitionsOf size listTokens unlessMet placed placeOf trailing
     firstWrong wrongFrom wrongIn wrongRef paramFits callFits levelIn orElse unless rowNumbers setNumbers refNumbers
     termNumbers definitionNumbers flatMap numbersOf widthWith widest callWidth nextWidth allWidths grow firstAbove
-    tooWide branchesWith lookup bodyIn nextBranches allBranches followerAbove bodyAbove tooManyBranches judgeList sized
-    listBytes bytesOf groups
-operations-hold = tt
+    tooWide branchesWith lookup bodyIn nextBranches allBranches followerAbove bodyAbove tooManyBranches
+reads-hold = tt
+
+pub writes-hold : T (every writeRows)
+unfolding writeRows writeOf measured writeJudged judge judgeRead table number andThen next pure times events row
+    setOfKind set refOfKind setRef termOfKind termWith definition definitionsOf size listTokens unlessMet placed
+    placeOf trailing firstWrong wrongFrom wrongIn wrongRef paramFits callFits levelIn orElse unless rowNumbers
+    setNumbers refNumbers termNumbers definitionNumbers flatMap numbersOf widthWith widest callWidth nextWidth
+    allWidths grow firstAbove tooWide branchesWith lookup bodyIn nextBranches allBranches followerAbove bodyAbove
+    tooManyBranches judgeList sized listBytes bytesOf groups
+writes-hold = tt

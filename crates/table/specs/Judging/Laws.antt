@@ -3,18 +3,22 @@
 --     Broken-out, Nowhere-out      what the code's answer says of a first place
 --     judged-7, judged-8, judged-9, judged-all     everything but 2
 --     listed-long, listed-short, listed-stop       with 2
+--     checked-wrong, checked-taken, checked-refused    and with the work area's length, cleared after a refusal
 -- Assumes nothing.
 use Prim.Native.Nat.{ℕ, zero, suc, _+_, _<_, _≤_}
 use native.Mathlib.Omega.{arith}
 use mathlib.Core.Path.{_≡_, refl, sym, ap, _∙_, subst}
 use mathlib.Core.List.{List, [], _∷_}
 use mathlib.Core.Option.{Option, none, some}
-use lib.ListN.{length, take}
+use lib.ListN.{length, take, replicate}
 use lib.Seq.{take-length}
 use borrow.Author.Tests.{le-ltb, lt-ltb}
 use Rattle.numbers.specs.Number.{listBytes}
 use Rattle.table.specs.declared.answer.First.{First}
 use Rattle.table.specs.declared.answer.First.the-variants.{Nowhere, Broken}
+use Rattle.table.specs.declared.answer.Refusal.{Refusal}
+use Rattle.table.specs.declared.answer.Judged.{Judged}
+use Rattle.table.specs.declared.answer.Judged.the-variants.{Accepted, Declined}
 use Rattle.table.specs.First.Laws.{first-out, first-short}
 use Rattle.table.specs.Tokens.{Tokens, ended, listTokens, trailing, placeOf}
 use Rattle.table.specs.Tokens.Laws.{Follows, list-whole, nothing-left}
@@ -25,13 +29,14 @@ use Rattle.table.specs.Writing.{numbersOf}
 use Rattle.table.specs.References.{firstWrong}
 use Rattle.table.specs.Width.{tooWide}
 use Rattle.table.specs.Branches.{tooManyBranches}
-use Rattle.table.specs.Judge.{Judgement, accepted, declined, unlessMet, placed, judgeRead, judge, sized, judgeList}
+use Rattle.table.specs.Judge.{Judgement, accepted, declined, unlessMet, placed, judgeRead, judge, sized}
+use Rattle.table.specs.Judge.{judgeList}
 use Rattle.table.specs.Refusals.{links}
 use Rattle.table.specs.Refusals.Laws.{length-links, wrong-first}
 use Rattle.table.specs.BytesRefused.{bytePlace}
 use Rattle.table.specs.Index.{Structured, Reaching, Branching, Indexed, tableIn}
 use Rattle.table.specs.Parse.{Whole}
-use Rattle.table.specs.Judging.{Judging, firstOf, Filled}
+use Rattle.table.specs.Judging.{Judging, firstOf, Filled, CheckDone, CheckSaid, Checked}
 
 -- ---- the code's answers
 
@@ -74,7 +79,8 @@ module _ (l w : List ℕ) (h : Whole l w) where
   unfolding judge judgeRead
   judged =
       ap (judgeRead (listTokens 0 l)) (h .parsed)
-      ∙ rw nothing (unfold unlessMet in ap (λ (ns : List ℕ). unlessMet 7 (placed (listTokens 0 l) (firstWrong (tableIn l)))
+      ∙ rw nothing (unfold unlessMet in ap
+      (λ (ns : List ℕ). unlessMet 7 (placed (listTokens 0 l) (firstWrong (tableIn l)))
       (unlessMet 8 (tooWide (tableIn l)) (unlessMet 9 (tooManyBranches (tableIn l)) (accepted ns (tableIn l)))))
       (sym numbers-are))
 
@@ -130,3 +136,21 @@ listed-short l w f h =
 pub listed-stop : (l : List ℕ) (n at : ℕ) → judge (listTokens 0 l) ≡ declined n at → judgeList l ≡ declined n at
 unfolding judgeList sized
 listed-stop l n at e = rw e refl
+
+-- ---- with the work area's length
+
+pub checked-wrong : (l w : List ℕ) → (length w ≡ 8192 → ⊥) → Checked l w w (Declined (record { number = 1; place = 0 }))
+checked-wrong l w h = record { right = λ e. absurd (h e); wrong = λ _. (refl, refl) }
+
+module _ (l w w₁ : List ℕ) (r : Judged) where
+  pub checked-taken : length w ≡ 8192 → CheckDone l w₁ r → r ≡ Accepted → Checked l w w₁ Accepted
+  checked-taken e d h = record { right = λ _. subst (CheckDone l w₁) h d; wrong = λ n. absurd (n e) }
+
+  pub checked-refused : (w' : List ℕ) (q : Refusal) → length w ≡ 8192 → CheckDone l w₁ r → r ≡ Declined q
+      → w' ≡ replicate (length w₁) 0 → Checked l w w' (Declined q)
+  checked-refused w' q e d h c =
+      let f = subst (CheckDone l w₁) h d in
+      record {
+        right = λ _. (f .0, c ∙ ap (λ (n : ℕ). replicate n 0) (f .1));
+        wrong = λ n. absurd (n e);
+      }

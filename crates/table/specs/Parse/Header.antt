@@ -1,9 +1,9 @@
 -- A table's parts, one after another, at their places in a number list: what each says of the whole (01, "Numbers and
 -- table", "When the monitor declines": 3, 5, 6).
 --     alphabetOk, setCountOk, definitionCountOk   the bounds of the three counts
---     Header                                      the alphabet and the sets were read, and the sets stand in the work area
---     stop-1 .. stop-5, more-left, whole          the judgement where a part is refused, where input is left over, and the
---                                                 table where all were read
+--     Header                                      the alphabet and the sets were read, and stand in the work area
+--     stop-1 .. stop-5, more-left, whole          the judgement where a part is refused, where input is left over, and
+--                                                 the table where all were read
 -- Assumes nothing.
 use Prim.Native.Nat.{ℕ, zero, suc, _+_, _<_, _≤_}
 use native.Mathlib.Omega.{arith}
@@ -81,7 +81,8 @@ module _ (l : List ℕ) where
               stopped l n at
               (then-got _ _ _ first (then-got _ _ _ e₂ (then-got _ _ _ e₃ (then-got _ _ _ e₄ (then-stop _ _ _ e)))))
 
-          module _ (ds : List Definition) (end : ℕ) (e₅ : definitionsOf ss d 0 (tokensAt l k) ≡ got ds (tokensAt l end)) where
+          module _ (ds : List Definition) (end : ℕ)
+              (e₅ : definitionsOf ss d 0 (tokensAt l k) ≡ got ds (tokensAt l end)) where
             abbrev read : Table
             read = record { alphabet = a; sets = ss; definitions = ds }
 
@@ -91,7 +92,7 @@ module _ (l : List ℕ) where
                 then-got _ _ _ first
                 (then-got _ _ _ e₂ (then-got _ _ _ e₃ (then-got _ _ _ e₄ (then-got _ _ _ e₅ refl))))
 
-            -- "left over: input after the table", "first such"
+            -- 6, "left over": "input after the table", at "first such"
             pub more-left : end < length l → judge (listTokens 0 l) ≡ declined 6 end
             unfolding judge judgeRead trailing unlessMet
             more-left h = rw (whole, tokens-in l end h) refl

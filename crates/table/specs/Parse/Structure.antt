@@ -54,7 +54,8 @@ module _ (w : List ℕ) (a d n : ℕ) (h : length w ≡ 8192) (b : d ≤ 32) whe
       past-2 x (λ e. q (omega arith)) (λ e. q (omega arith))
       ∙ getD-set-other (rooted w d n) 7305 x a 0 (λ e. q (omega arith))
 
-  pub counted-other : (x : ℕ) → (x ≡ 7232 + d → ⊥) → ((7305 ≤ x) × (x ≤ 7307) → ⊥) → getD (counted w a d n) x 0 ≡ getD w x 0
+  pub counted-other : (x : ℕ) → (x ≡ 7232 + d → ⊥) → ((7305 ≤ x) × (x ≤ 7307) → ⊥)
+      → getD (counted w a d n) x 0 ≡ getD w x 0
   counted-other x p q = past-3 x q ∙ getD-set-other w (7232 + d) x n 0 p
 
   pub counted-root : getD (counted w a d n) (7232 + d) 0 ≡ n
@@ -82,7 +83,8 @@ place-of i j (x ∷ l) [] e = let z : _≡_ {A = ℕ} 0 1 = cc in absurd (omega 
 place-of i j (x ∷ l) (y ∷ m) e = cc
 
 -- the sets end where their numbers do
-sets-end : (l : List ℕ) (A c at : ℕ) (ss : List SetDef) → times c (grammar.set A) (tokensAt l 2) ≡ got ss (tokensAt l at)
+sets-end : (l : List ℕ) (A c at : ℕ) (ss : List SetDef)
+    → times c (grammar.set A) (tokensAt l 2) ≡ got ss (tokensAt l at)
     → at ≡ 2 + length (flatMap setNumbers ss)
 unfolding tokensAt
 sets-end l A c at ss e =

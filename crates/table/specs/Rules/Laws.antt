@@ -1,6 +1,7 @@
 -- The rules hold exactly where none of 7, 8 and 9 is met, given the fields.
 --     inBodies-imp, inBodies-and                      what holds in all bodies
 --     linked                                          the rules on references together
+--     links-out, levels-out, guarded-out              those where 7 is not met
 --     rules-in                                        none is met, so the rules hold
 --     no-wrong, no-wide-level, no-many-branches       the rules hold, so none is met
 -- Assumes nothing.
@@ -78,19 +79,31 @@ module _ (t : Table) where
       inBodies-imp L (λ own d c. OfCall (X own d c))
       (λ own d c p k. ofCall-imp (Calls own d c) (X own d c) (f own d c) p (k .1)) h
 
+  -- 7 is not met
+  module _ (w : firstWrong t ≡ none) where
+    pub links-out : InBodies t L
+    unfolding firstWrong
+    links-out = from-out (t .definitions) 0 _ (t .definitions) w
+
+    pub levels-out : InBodies t (λ own d c. OfCall (Lower own d c))
+    levels-out = of-call Lower (λ own d c e k. k .lower) links-out
+
+    pub guarded-out : InBodies t (λ own d c. OfCall (Guarded own d c))
+    guarded-out = of-call Guarded (λ own d c e k. k .guarded) links-out
+
   pub rules-in : Fields t → firstWrong t ≡ none → tooWide t ≡ none → tooManyBranches t ≡ none → Rules t
-  unfolding firstWrong tooWide tooManyBranches levelWidth branches
+  unfolding tooWide tooManyBranches levelWidth branches
   rules-in f w h o =
-      let l = from-out (t .definitions) 0 _ (t .definitions) w in
+      let l = links-out w in
       let calls = lookup (allBranches (t .definitions)) in
       let b = bodies-out calls 0 (t .definitions) o in
       record {
         fields = f;
         parameters-enclosed = inBodies-imp L R (λ own d c p k. k .0) l;
         calls-exist = of-call Exist (λ own d c e k. k .exists) l;
-        calls-level = of-call Lower (λ own d c e k. k .lower) l;
+        calls-level = levels-out w;
         calls-parallel = of-call Parallel (λ own d c e k. k .parallel) l;
-        calls-guarded = of-call Guarded (λ own d c e k. k .guarded) l;
+        calls-guarded = guarded-out w;
         width = above-out 8 0 (allWidths (t .definitions)) h;
         branches-bodies =
             all-imp (λ d. Few calls (d .body) × Followers (Few calls) (d .body)) (λ d. Few calls (d .body))

@@ -16,34 +16,27 @@ Inv-loop bytes out₀ count₀ next₀ out count next = Front bytes out count ne
 abbrev μ-loop : tie.MeasureT-loop
 μ-loop bytes out₀ count₀ next₀ out count next = length bytes - next
 
--- src/bytes.rt:28:5
 loop-holds : tie.Need-loop-holds Inv-loop μ-loop
 loop-holds c = (front-none _ _, refl)
 
--- src/bytes.rt:29:15
 read-requires : tie.Need-read-requires Inv-loop μ-loop
 read-requires c κs = search needs
 
--- src/bytes.rt:30:30
 enum-known-value : tie.Need-enum-known-value Inv-loop μ-loop
 enum-known-value c = search needs
 
--- src/bytes.rt:31:17
 mul-out : tie.Need-mul-out Inv-loop μ-loop
 mul-out c = search needs
 
--- src/bytes.rt:31:17
 slice-write-out : tie.Need-slice-write-out Inv-loop μ-loop
 slice-write-out c =
     let k = c .before .before .before .before .loop in
     let r = sym (c .before .value .given .1) ∙ c .before .before .before .read .ensures in
     front-room _ _ _ _ (k .inv .0) _ _ (omega arith) r .0
 
--- src/bytes.rt:32:17
 add-count : tie.Need-add-count Inv-loop μ-loop
 add-count c = search needs
 
--- src/bytes.rt:28:5
 loop-less : tie.Need-loop-less Inv-loop μ-loop
 loop-less c =
     let k = c .before .before .before .before .loop in
@@ -51,7 +44,6 @@ loop-less c =
     let room = front-room _ _ _ _ (k .inv .0) _ _ (omega arith) r in
     omega (arith, room .1, room .2)
 
--- src/bytes.rt:28:5
 loop-again : tie.Need-loop-again Inv-loop μ-loop
 loop-again c =
     let k = c .before .before .before .before .loop in
@@ -61,35 +53,35 @@ loop-again c =
     let w = bytes-of s (λ i. omega (arith, given i)) in
     (front-more _ _ _ _ (k .inv .0) _ _ w (omega arith) r, simp length-set (k .inv .1))
 
--- src/bytes.rt:36:17
 enum-told : tie.Need-enum-told Inv-loop μ-loop
 enum-told c = search needs
 
--- src/bytes.rt:36:17
 same-length : tie.Need-same-length Inv-loop μ-loop
 same-length c = search needs
 
--- src/bytes.rt:36:17
 returns : tie.Need-returns Inv-loop μ-loop
 returns c =
     let k = c .before .before .before .loop in
     let r = sym (c .enum-told .given .1) ∙ c .before .before .read .ensures in
-    (front-short _ _ _ _ (k .inv .0) r, omega (arith, k .inv .0 .few, k .inv .0 .within))
+    let s = c .before .before .before .before .before .before .args .bytes .now in
+    let given = c .before .before .before .before .before .shared-slice-known .given in
+    let w = bytes-of s (λ i. omega (arith, given i)) in
+    (front-short _ _ _ _ (k .inv .0) w r, omega (arith, k .inv .0 .few, k .inv .0 .within))
 
--- src/bytes.rt:39:17
 enum-told-2 : tie.Need-enum-told-2 Inv-loop μ-loop
 enum-told-2 c = search needs
 
--- src/bytes.rt:39:17
 same-length-2 : tie.Need-same-length-2 Inv-loop μ-loop
 same-length-2 c = search needs
 
--- src/bytes.rt:39:17
 returns-2 : tie.Need-returns-2 Inv-loop μ-loop
 returns-2 c =
     let k = c .before .before .before .loop in
     let r = sym (c .enum-told2 .given .1) ∙ c .before .before .read .ensures in
-    (front-loose _ _ _ _ (k .inv .0) r, omega (arith, k .inv .0 .few, k .inv .0 .within))
+    let s = c .before .before .before .before .before .before .args .bytes .now in
+    let given = c .before .before .before .before .before .shared-slice-known .given in
+    let w = bytes-of s (λ i. omega (arith, given i)) in
+    (front-loose _ _ _ _ (k .inv .0) w r, omega (arith, k .inv .0 .few, k .inv .0 .within))
 
 pub decode-spec : {M : Type 1} → statement M
 decode-spec =

@@ -15,35 +15,27 @@ Inv-loop list out₀ p₀ i₀ out p i = Filled list out₀ out i p × (length o
 abbrev μ-loop : tie.MeasureT-loop
 μ-loop list out₀ p₀ i₀ out p i = length list - i
 
--- src/bytes.rt:69:5
 loop-holds : tie.Need-loop-holds Inv-loop μ-loop
 loop-holds c = (filled-none _ _, refl)
 
--- src/bytes.rt:70:38
 mul-write : tie.Need-mul-write Inv-loop μ-loop
 mul-write c = search needs
 
--- src/bytes.rt:70:38
 shared-slice-read-write : tie.Need-shared-slice-read-write Inv-loop μ-loop
 shared-slice-read-write c = search needs
 
--- src/bytes.rt:70:15
 write-requires : tie.Need-write-requires Inv-loop μ-loop
 write-requires c κs = search needs
 
--- src/bytes.rt:71:27
 enum-known-q : tie.Need-enum-known-q Inv-loop μ-loop
 enum-known-q c = search needs
 
--- src/bytes.rt:73:17
 add-i : tie.Need-add-i Inv-loop μ-loop
 add-i c = search needs
 
--- src/bytes.rt:69:5
 loop-less : tie.Need-loop-less Inv-loop μ-loop
 loop-less c = search needs
 
--- src/bytes.rt:69:5
 loop-again : tie.Need-loop-again Inv-loop μ-loop
 loop-again c =
     let k = c .before .before .before .before .before .before .before .before .before .loop in
@@ -51,15 +43,12 @@ loop-again c =
     let e = sym (c .before .q .given .1) ∙ w .ensures .answer in
     (filled-more _ _ _ _ _ (k .inv .0) (omega arith) _ _ e (w .ensures .output), omega arith)
 
--- src/bytes.rt:76:17
 enum-told : tie.Need-enum-told Inv-loop μ-loop
 enum-told c = search needs
 
--- src/bytes.rt:76:17
 same-length : tie.Need-same-length Inv-loop μ-loop
 same-length c = search needs
 
--- src/bytes.rt:76:17
 returns : tie.Need-returns Inv-loop μ-loop
 returns c =
     let k = c .before .before .before .before .before .before .before .before .loop in
@@ -67,11 +56,9 @@ returns c =
     let e = sym (c .enum-told .given .1) ∙ w .ensures .answer in
     absurd (filled-room _ _ _ _ _ (k .inv .0) (omega arith) (omega arith) e)
 
--- src/bytes.rt:60:1
 same-length-2 : tie.Need-same-length-2 Inv-loop μ-loop
 same-length-2 c = search needs
 
--- src/bytes.rt:60:1
 returns-2 : tie.Need-returns-2 Inv-loop μ-loop
 returns-2 c = filled-done _ _ _ _ _ (c .before .loop .inv .0) (omega arith)
 

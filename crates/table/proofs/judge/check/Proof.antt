@@ -1,27 +1,57 @@
+-- `judge::check` meets its contract: another length is refused before anything is stored; else `check_list` answers,
+-- and what it leaves is the index, or is cleared. Assumes nothing.
 use native.Mathlib.Omega.{arith}
-use mathlib.Core.Path.{_≡_, refl, sym, ap, _∙_}
+use Rattle.table.specs.Judging.Laws.{checked-wrong, checked-taken, checked-refused}
 use borrow.Author.Needs.{needs}
 use Rattle.table.proofs.judge.check.Statement.{statement}
 use Rattle.table.proofs.judge.check.Tie as tie
-use Rattle.table.proofs.judge.check.Reads as reads
-use Rattle.table.proofs.judge.check.Lts as lts
-use Rattle.table.proofs.judge.check_list.Reads as check-list-reads
 
--- src/judge.rt:65:9
+-- a work area of another length
 returns : tie.Need-returns
-returns c = record { right = λ h. absurd (omega arith); wrong = λ h. (refl, refl) }
+returns c = checked-wrong _ _ (c .if1 .taken)
 
--- src/judge.rt:67:5
 check-list-requires : tie.Need-check-list-requires
 check-list-requires c κs = search needs
 
--- src/judge.rt:61:1
+enum-told : tie.Need-enum-told
+enum-told c = search needs
+
+enum-known-r : tie.Need-enum-known-r
+enum-known-r c = search needs
+
+clear-words-requires : tie.Need-clear-words-requires
+clear-words-requires c κs = search needs
+
 same-length : tie.Need-same-length
 same-length c = search needs
 
--- src/judge.rt:61:1
+-- the list is a table
 returns-2 : tie.Need-returns-2
-returns-2 c = record { right = λ h. c .before .before .check-list .ensures; wrong = λ h. absurd (h (omega arith)) }
+returns-2 c =
+    let listed = c .before .before .before .before in
+    checked-taken _ _ _ _ (listed .before .before .if1 .left) (listed .check-list .ensures) (c .enum-told .given .1)
+
+same-length-2 : tie.Need-same-length-2
+same-length-2 c = search needs
+
+-- it is refused
+returns-3 : tie.Need-returns-3
+returns-3 c =
+    let known = c .before .before .before .before .before in
+    let listed = known .before .before .before .before in
+    checked-refused _ _ _ _ _ _ (listed .before .before .if1 .left) (listed .check-list .ensures) (known .r .given .1)
+    (c .before .before .clear-words .ensures)
 
 pub check-spec : {M : Type 1} → statement M
-check-spec = tie.close (tie.spec returns check-list-requires same-length returns-2)
+check-spec =
+    tie.close
+    (tie.spec
+    returns
+    check-list-requires
+    enum-told
+    enum-known-r
+    clear-words-requires
+    same-length
+    returns-2
+    same-length-2
+    returns-3)

@@ -1,40 +1,31 @@
-use borrow.Author.Needs.{needs}
+-- `parse::store_counts` meets its contract: the four stores are those of `counted`, in its order. Assumes nothing.
 use mathlib.Core.Path.{refl}
 use Rattle.table.specs.Parse.Structure.{counted}
+use borrow.Author.Needs.{needs}
 use Rattle.table.proofs.parse.store_counts.Statement.{statement}
 use Rattle.table.proofs.parse.store_counts.Tie as tie
-use Rattle.table.proofs.parse.store_counts.Reads as reads
-use Rattle.table.proofs.parse.store_counts.Lts as lts
 
--- src/parse.rt:20:10
 add-work : tie.Need-add-work
 add-work c = search needs
 
--- src/parse.rt:20:5
 mul-work : tie.Need-mul-work
 mul-work c = search needs
 
--- src/parse.rt:20:5
 slice-write-work : tie.Need-slice-write-work
 slice-write-work c = search needs
 
--- src/parse.rt:21:5
 slice-write-work-2 : tie.Need-slice-write-work-2
 slice-write-work-2 c = search needs
 
--- src/parse.rt:22:5
 slice-write-work-3 : tie.Need-slice-write-work-3
 slice-write-work-3 c = search needs
 
--- src/parse.rt:23:5
 slice-write-work-4 : tie.Need-slice-write-work-4
 slice-write-work-4 c = search needs
 
--- src/parse.rt:16:1
 same-length : tie.Need-same-length
 same-length c = search needs
 
--- src/parse.rt:16:1
 returns : tie.Need-returns
 unfolding counted
 returns c = refl
