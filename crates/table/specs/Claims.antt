@@ -77,7 +77,7 @@ AcceptedBytesExactly = (s ns : List ℕ) (t : Table) → Bytes s
 unfoldable pub RefusedExactly : Type 0
 RefusedExactly = (l : List ℕ) (n at : ℕ) → (judgeList l ≡ declined n at) ↔ Refused l n at
 
--- the same of bytes
+-- the same of bytes: "2; 3 to 5 at each number from the left; 6; 7 from the left; 8; 9"
 unfoldable pub RefusedBytesExactly : Type 0
 RefusedBytesExactly = (s : List ℕ) (n at : ℕ) → Bytes s → (judgeBytes s ≡ declined n at) ↔ RefusedBytes s n at
 

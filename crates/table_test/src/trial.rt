@@ -137,6 +137,11 @@ pub fn check_right(list: &[u16], work: &mut [u64], s: Stored) -> bool
     fill_words(work);
     match table::check(list, work) {
         Judged::Accepted => is_result(index::term_count(list, work), s),
-        Judged::Declined(r) => is_refusal(r, s),
+        Judged::Declined(r) => {
+            if !is_refusal(r, s) {
+                return false;
+            }
+            zero_words(work)
+        }
     }
 }

@@ -33,11 +33,20 @@ same-length c = search needs
 returns : tie.Need-returns
 returns c = search needs
 
+zero-words-requires : tie.Need-zero-words-requires
+zero-words-requires c κs = search needs
+
 same-length-2 : tie.Need-same-length-2
 same-length-2 c = search needs
 
 returns-2 : tie.Need-returns-2
 returns-2 c = search needs
+
+same-length-3 : tie.Need-same-length-3
+same-length-3 c = search needs
+
+returns-3 : tie.Need-returns-3
+returns-3 c = search needs
 
 pub check-right-spec : {M : Type 1} → statement M
 check-right-spec =
@@ -52,5 +61,8 @@ check-right-spec =
     is-refusal-requires
     same-length
     returns
+    zero-words-requires
     same-length-2
-    returns-2)
+    returns-2
+    same-length-3
+    returns-3)
