@@ -1,0 +1,19 @@
+-- `step::leaves::result` meets its contract: resolving into an empty slot. Assumes nothing.
+use mathlib.Core.Path.{_≡_, _∙_}
+use Rattle.step.specs.Distinct.{slotAt}
+use Rattle.step.specs.Distinct.Laws.{resolves-empty}
+use Rattle.step.proofs.leaves.result.Statement.{statement}
+use Rattle.step.proofs.leaves.result.Tie as tie
+use Rattle.step.proofs.leaves.result.Reads as reads
+use Rattle.step.proofs.leaves.result.Lts as lts
+use Rattle.step.proofs.resolve.resolve_term.Reads as resolve-term-reads
+
+resolve-term-requires : tie.Need-resolve-term-requires
+resolve-term-requires c κs = (c .before .before .pre .0, (resolves-empty _ _ _ _ _ (c .before .before .pre .1 .0) (c .before .before .pre .1 .1)))
+
+returns : tie.Need-returns
+unfolding slotAt
+returns c = c .resolve-term .ensures
+
+pub result-spec : {M : Type 1} → statement M
+result-spec = tie.close (tie.spec resolve-term-requires returns)

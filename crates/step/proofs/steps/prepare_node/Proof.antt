@@ -1,0 +1,115 @@
+-- `step::steps::prepare_node` meets its contract: one law of `Prepared/Laws.antt` per way out. Assumes nothing.
+use native.Mathlib.Omega.{arith}
+use mathlib.Core.Path.{_≡_, sym, _∙_}
+use mathlib.Core.Logic.{inl}
+use borrow.Author.Needs.{needs}
+use Rattle.index.specs.Facts.{terms-few}
+use Rattle.step.specs.Prepared.Laws.{node-known, fill-not-kind, fill-not-held, fill-resolves, fill-yes}
+use Rattle.step.specs.Lawful.{lawful}
+use Rattle.step.proofs.steps.prepare_node.Statement.{statement}
+use Rattle.step.proofs.steps.prepare_node.Tie as tie
+use Rattle.step.proofs.steps.prepare_node.Reads as reads
+use Rattle.step.proofs.steps.prepare_node.Lts as lts
+use Rattle.step.proofs.leaves.distinct.Reads as distinct-reads
+use Rattle.step.proofs.words.holds_at.Reads as holds-at-reads
+use Rattle.step.proofs.words.kind_at.Reads as kind-at-reads
+use Rattle.step.proofs.words.memory_of.Reads as memory-of-reads
+use Rattle.step.proofs.words.remember.Reads as remember-reads
+use Rattle.step.proofs.words.term_of.Reads as term-of-reads
+
+mul-w : tie.Need-mul-w
+mul-w c = search needs
+
+slice-read-w : tie.Need-slice-read-w
+slice-read-w c = search needs
+
+mul-at : tie.Need-mul-at
+mul-at c = search needs
+
+kind-at-requires : tie.Need-kind-at-requires
+kind-at-requires c κs = (c .before .before .before .before .pre .0, node-known _ _ _ _ (c .before .before .before .before .pre .1 .0) _ (c .before .before .before .before .pre .1 .1 .0) (c .before .before .before .before .pre .1 .1 .1) .within)
+
+mul-store : tie.Need-mul-store
+mul-store c = search needs
+
+slice-write-store : tie.Need-slice-write-store
+slice-write-store c = search needs
+
+same-length : tie.Need-same-length
+same-length c = search needs
+
+returns : tie.Need-returns
+returns c = fill-not-kind _ _ _ _ (c .before .before .before .before .before .before .pre .1 .0) _ (c .before .before .before .before .before .before .pre .1 .1 .0) (c .before .before .before .before .before .before .pre .1 .1 .1) (λ e. c .if1 .taken (c .before .kind-at .ensures ∙ e))
+
+holds-at-requires : tie.Need-holds-at-requires
+holds-at-requires c κs = (c .before .before .before .before .before .before .pre .0, (node-known _ _ _ _ (c .before .before .before .before .before .before .pre .1 .0) _ (c .before .before .before .before .before .before .pre .1 .1 .0) (c .before .before .before .before .before .before .pre .1 .1 .1), (inl (sym (c .before .kind-at .ensures) ∙ c .if1 .left), c .before .before .before .before .before .before .pre .1 .0 .event)))
+
+term-of-requires : tie.Need-term-of-requires
+term-of-requires c κs = search needs
+
+memory-of-requires : tie.Need-memory-of-requires
+memory-of-requires c κs = search needs
+
+remember-requires : tie.Need-remember-requires
+remember-requires c κs = search needs
+
+add-distinct : tie.Need-add-distinct
+add-distinct c = omega (arith, c .before .before .term-of .ensures, node-known _ _ _ _ (c .before .before .before .before .before .before .before .before .before .before .before .pre .1 .0) _ (c .before .before .before .before .before .before .before .before .before .before .before .pre .1 .1 .0) (c .before .before .before .before .before .before .before .before .before .before .before .pre .1 .1 .1) .within, terms-few (c .before .before .before .before .before .before .before .before .before .before .before .pre .0))
+
+add-distinct-2 : tie.Need-add-distinct-2
+add-distinct-2 c = search needs
+
+distinct-requires : tie.Need-distinct-requires
+distinct-requires c κs = (c .before .before .before .before .before .before .before .before .before .before .before .before .pre .0, (fill-resolves _ _ _ _ (c .before .before .before .before .before .before .before .before .before .before .before .before .pre .1 .0) _ (c .before .before .before .before .before .before .before .before .before .before .before .before .pre .1 .1 .0) (c .before .before .before .before .before .before .before .before .before .before .before .before .pre .1 .1 .1) (lawful (c .before .before .before .before .before .before .before .before .before .before .before .before .pre .0)) (sym (c .before .before .before .before .before .before .before .kind-at .ensures) ∙ c .before .before .before .before .before .before .if1 .left) (sym (c .before .before .before .before .before .holds-at .ensures) ∙ c .before .before .before .before .if2 .taken) _ _ _ (c .before .before .before .term-of .ensures) (c .before .before .memory-of .ensures) (c .before .remember .ensures), omega (arith, c .before .before .before .before .before .before .before .before .before .before .before .before .pre .1 .0 .size, c .before .before .before .before .before .before .before .before .before .before .before .before .pre .1 .0 .few, c .before .before .before .before .before .before .before .before .before .before .before .before .pre .1 .1 .1)))
+
+mul-store-2 : tie.Need-mul-store-2
+mul-store-2 c = search needs
+
+slice-write-store-2 : tie.Need-slice-write-store-2
+slice-write-store-2 c = search needs
+
+same-length-2 : tie.Need-same-length-2
+same-length-2 c = search needs
+
+returns-2 : tie.Need-returns-2
+returns-2 c = fill-yes _ _ _ _ (c .before .before .before .before .before .before .before .before .before .before .before .before .before .before .before .pre .1 .0) _ (c .before .before .before .before .before .before .before .before .before .before .before .before .before .before .before .pre .1 .1 .0) (c .before .before .before .before .before .before .before .before .before .before .before .before .before .before .before .pre .1 .1 .1) (lawful (c .before .before .before .before .before .before .before .before .before .before .before .before .before .before .before .pre .0)) (sym (c .before .before .before .before .before .before .before .before .before .before .kind-at .ensures) ∙ c .before .before .before .before .before .before .before .before .before .if1 .left) (sym (c .before .before .before .before .before .before .before .before .holds-at .ensures) ∙ c .before .before .before .before .before .before .before .if2 .taken) _ _ _ (c .before .before .before .before .before .before .term-of .ensures) (c .before .before .before .before .before .memory-of .ensures) (c .before .before .before .before .remember .ensures) _ _ (c .before .before .distinct .kept .1 .1 .1 .1 .1 .0) (c .before .before .distinct .ensures)
+
+mul-store-3 : tie.Need-mul-store-3
+mul-store-3 c = search needs
+
+slice-write-store-3 : tie.Need-slice-write-store-3
+slice-write-store-3 c = search needs
+
+same-length-3 : tie.Need-same-length-3
+same-length-3 c = search needs
+
+returns-3 : tie.Need-returns-3
+returns-3 c = fill-not-held _ _ _ _ (c .before .before .before .before .before .before .before .before .pre .1 .0) _ (c .before .before .before .before .before .before .before .before .pre .1 .1 .0) (c .before .before .before .before .before .before .before .before .pre .1 .1 .1) (sym (c .before .before .before .kind-at .ensures) ∙ c .before .before .if1 .left) (sym (c .before .holds-at .ensures) ∙ c .if2 .left)
+
+pub prepare-node-spec : {M : Type 1} → statement M
+prepare-node-spec =
+    tie.close
+    (tie.spec
+    mul-w
+    slice-read-w
+    mul-at
+    kind-at-requires
+    mul-store
+    slice-write-store
+    same-length
+    returns
+    holds-at-requires
+    term-of-requires
+    memory-of-requires
+    remember-requires
+    add-distinct
+    add-distinct-2
+    distinct-requires
+    mul-store-2
+    slice-write-store-2
+    same-length-2
+    returns-2
+    mul-store-3
+    slice-write-store-3
+    same-length-3
+    returns-3)

@@ -1,0 +1,16 @@
+pub mod Slots
+pub mod Holding
+pub mod Words
+pub mod Lawful
+pub mod Residual
+pub mod Distinct
+pub mod Walk
+pub mod Forest
+pub mod Course
+pub mod Takes
+pub mod Prepared
+pub mod Stepped
+pub mod Canon
+pub mod Successors
+pub mod Examples
+pub mod Claims

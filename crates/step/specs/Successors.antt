@@ -1,0 +1,39 @@
+-- The residuals after an event, of all residuals of a set (01, "Residuals": "The set after a list is the union, event by
+-- event").
+--     Holds                the slots of an area, from the i-th on, are those of residuals
+--     allAfter, allKept    the residuals after an event, of all; with each leaf's repeats dropped
+--     slotsOf, canon       the slots of residuals; ascending, none twice
+-- The laws are in `Successors/Laws.antt` and `Successors/Members.antt`. Assumes nothing.
+use Prim.Native.Nat.{ℕ, _+_, _-_, _*_, _<_, _≤_}
+use mathlib.Core.Path.{_≡_, _∙_}
+use mathlib.Core.List.{List, [], _∷_, _++_, map}
+use Rattle.table.specs.Table.{Table}
+use Rattle.step.specs.Residual.{Residual, words, after}
+use Rattle.step.specs.Distinct.{empty}
+use Rattle.step.specs.Walk.{onto}
+use Rattle.step.specs.Forest.{Valid, afterKept}
+use Rattle.step.specs.Stepped.{slotNodes}
+use Rattle.step.specs.Canon.{canonFrom}
+pub mod Members
+pub mod Laws
+
+-- the slots of an area, from the i-th on, are those of residuals
+abbrev pub Holds : Table → List ℕ → ℕ → List Residual → Type 0
+Holds t src i [] = Unit
+Holds t src i (r ∷ rs) = (slotNodes src i ≡ words r) × Valid t r × Holds t src (i + 1) rs
+
+unfoldable pub allAfter : Table → ℕ → List Residual → List Residual
+allAfter t e [] = []
+allAfter t e (r ∷ rs) = after t e r ++ allAfter t e rs
+
+unfoldable pub allKept : Table → ℕ → List Residual → List Residual
+allKept t e [] = []
+allKept t e (r ∷ rs) = afterKept t e r ++ allKept t e rs
+
+-- the slots of residuals
+unfoldable pub slotsOf : List Residual → List (List ℕ)
+slotsOf rs = onto empty (map words rs)
+
+-- ascending, none twice
+unfoldable pub canon : List Residual → List (List ℕ)
+canon rs = canonFrom [] (slotsOf rs)

@@ -1,0 +1,25 @@
+-- Whether a residual may take an event (01, "Operations": "exactly when the residuals after e, crowded or not, are not
+-- empty"), of the tree whose words stand at a place of an area.
+--     TreeAt     a tree's words stand there
+--     Takes      what is said of it
+-- The laws are in `Takes/Laws.antt`. Assumes nothing.
+use Prim.Native.Nat.{ℕ, _+_}
+use mathlib.Core.Path.{_≡_}
+use mathlib.Core.List.{List, _++_}
+use lib.ListN.{length, drop}
+use lib.Dec.{ltb}
+use Rattle.table.specs.Table.{Table}
+use Rattle.step.specs.declared.walk.Tree.{Tree}
+use Rattle.step.specs.Residual.{Residual, words, after}
+use Rattle.step.specs.Forest.{Valid}
+pub mod Laws
+
+pub record TreeAt (t : Table) (area : List ℕ) (k : ℕ) : Type 0 where
+  pub tree : Residual
+  pub tail : List ℕ
+  pub spelt : drop k area ≡ words tree ++ tail
+  pub valid : Valid t tree
+
+pub record Takes (t : Table) (e : ℕ) (area : List ℕ) (k : ℕ) (c : Tree) : Type 0 where
+  pub of : (r : Residual) (ws : List ℕ) → drop k area ≡ words r ++ ws → Valid t r
+      → (c .moves ≡ ltb 0 (length (after t e r))) × (c .next ≡ k + length (words r))

@@ -1,0 +1,19 @@
+// The step from one set of residuals to the next (01, "Residuals"), at the level of words: slots of sixteen words
+// in an area, ascending.
+mod leaves;
+mod resolve;
+mod slots;
+mod steps;
+mod takes;
+mod walk;
+mod words;
+
+pub use resolve::resolve_definition;
+pub use resolve::resolve_term;
+pub use slots::Held;
+pub use slots::Inserted;
+pub use slots::insert;
+pub use slots::put;
+pub use steps::step_set;
+pub use takes::takes_at;
+pub use walk::Tree;

@@ -1,0 +1,108 @@
+// A set of residuals and one event: all results of all residuals, held in another area.
+// The definitions are in `specs/Prepared.antt` and `specs/Stepped.antt`; `specs/Claims.antt` says what they come to.
+use crate::leaves::distinct;
+use crate::slots::Held;
+use crate::walk::walk;
+use crate::words::holds_at;
+use crate::words::kind_at;
+use crate::words::memory_of;
+use crate::words::remember;
+use crate::words::term_of;
+ghost use mathlib.Core.Path.{_≡_};
+ghost use Prim.Native.Nat.{ℕ, _+_, _*_, _<_, _≤_};
+ghost use lib.ListN.{length, getD, take};
+ghost use Rattle.table.specs.Index.{tableIn, Indexed};
+ghost use Rattle.step.specs.Distinct.{window};
+ghost use Rattle.step.specs.Holding.{putAll, Gave};
+ghost use Rattle.step.specs.Course.{nodeCount, Ready};
+ghost use Rattle.step.specs.Prepared.{Sound, Filled};
+ghost use Rattle.step.specs.Stepped.{gathered, Source};
+
+// Fills node k's part of the store: the number of its results and their indices.
+fn prepare_node(list: &[u16], work: &[u64], bound: usize, e: u64, store: &mut [u64], k: usize)
+    requires { ⌜ Indexed (now list) (now work) ⌝ }
+    requires { ⌜ Sound (tableIn (now list)) bound e (now store) ⌝ }
+    requires { ⌜ (1 ≤ k) × (k ≤ nodeCount (now store)) ⌝ }
+    ensures { λ _.
+        ⌜ Filled (tableIn (now (list .entry))) bound e (now (store .entry)) (now (store .exit)) k ⌝ }
+{
+    let w = store[k];
+    let at = k * 257;
+    if kind_at(list, work, w) != 2 {
+        store[at] = 0;
+        return;
+    }
+    if holds_at(list, work, w, e) {
+        let t = term_of(w);
+        let m = remember(e, memory_of(w));
+        let c = distinct(list, work, bound, t + 1, m, store, at + 1);
+        store[at] = c as u64;
+        return;
+    }
+    store[at] = 0;
+}
+
+// Fills the store for the residual in its first sixteen words.
+fn prepare(list: &[u16], work: &[u64], bound: usize, e: u64, store: &mut [u64])
+    requires { ⌜ Indexed (now list) (now work) ⌝ }
+    requires { ⌜ Sound (tableIn (now list)) bound e (now store) ⌝ }
+    ensures { λ _.
+        ⌜ Ready (tableIn (now (list .entry))) bound e (now (store .exit))
+        × (take 257 (now (store .exit)) ≡ take 257 (now (store .entry))) ⌝ }
+{
+    let n = store[0] as usize;
+    let mut k = 1;
+    while k <= n {
+        prepare_node(list, work, bound, e, store, k);
+        k += 1;
+    }
+}
+
+// Copies the sixteen words from p on to the front of the store.
+fn load(src: &[u64], p: usize, store: &mut [u64])
+    requires { ⌜ (p + 16 ≤ length (now src)) × (16 ≤ length (now store)) ⌝ }
+    ensures { λ _. ⌜ take 16 (now (store .exit)) ≡ window p 16 (now (src .entry)) ⌝ }
+{
+    let mut j = 0;
+    while j < 16 {
+        store[j] = src[p + j];
+        j += 1;
+    }
+}
+
+// Holds all results of the n residuals of an area in another, after event e. The store is for this function's own
+// use; any words may be in it.
+pub fn step_set(
+    list: &[u16],
+    work: &[u64],
+    e: u64,
+    src: &[u64],
+    n: usize,
+    store: &mut [u64],
+    dst: &mut [u64],
+) -> Held
+    requires { ⌜ Indexed (now list) (now work) ⌝ }
+    requires { ⌜ Source (tableIn (now list)) e (now src) n ⌝ }
+    requires { ⌜ length (now store) ≡ 4112 ⌝ }
+    ensures { λ r.
+        ⌜ Gave (putAll (now (dst .entry)) 0
+        (gathered (tableIn (now (list .entry))) e (now (src .entry)) n 0)) r (now (dst .exit)) ⌝ }
+{
+    let bound = index::definition_count(list, work);
+    let mut c = 0;
+    let mut i = 0;
+    while i < n {
+        load(src, i * 16, store);
+        prepare(list, work, bound, e, store);
+        match walk(list, work, store, bound, e, 1, 1, [0u64; 16], dst, c) {
+            Held::Count(d) => {
+                c = d;
+                i += 1;
+            }
+            Held::Exceeded => {
+                return Held::Exceeded;
+            }
+        }
+    }
+    Held::Count(c)
+}
