@@ -1,27 +1,33 @@
--- A proof of each claim of `specs/Claims.antt`. Assumes nothing.
-use mathlib.Core.List.{[], _∷_}
+-- A proof of each claim of `specs/Claims.antt`. The facts of the figures stand first in the uses and are checked first,
+-- so that a slip in a rule shows as a fact that fails. Assumes nothing.
+use mathlib.Core.List.{[]}
 use mathlib.Core.Logic.{⊎-elim}
 use mathlib.Core.Path.{refl}
+use Rattle.meaning.specs.FigureExamples.{facts}
 use Rattle.meaning.specs.Formed
 use Rattle.meaning.specs.Formed.{last-exists, body-formed}
 use Rattle.meaning.specs.Figure1.{call, body, last}
-use Rattle.meaning.specs.Figure2.Laws.{is-parallel, parallel-only}
+use Rattle.meaning.specs.Figure2.Laws.{parallel-closed, is-parallel, parallel-only}
 use Rattle.meaning.specs.Figure2.Closed.{model-closed}
 use Rattle.meaning.specs.Figure3.{event, τ}
+use Rattle.meaning.specs.Figure3.Laws
 use Rattle.meaning.specs.Holds.{Holds}
-use Rattle.meaning.specs.Holds.Alphabet.{holds-below}
+use Rattle.meaning.specs.Holds.Alphabet.{holds-below, step-below}
 use Rattle.meaning.specs.Theorem3
 use Rattle.meaning.specs.Doom
 use Rattle.meaning.specs.Doom.Branches
+use Rattle.meaning.specs.Doom.Falls
 use Rattle.meaning.specs.Models.{holds-model, holds-only, theorem3-model, lemma5-model}
-use Rattle.meaning.specs.FigureExamples.{facts}
+use Rattle.meaning.specs.Examples as E
 use Rattle.meaning.specs.Examples.{rows-meant, only-fail-rules}
 use Rattle.meaning.specs.Closing.Laws.{close-sub, close-plain, member-close}
 use Rattle.meaning.specs.Claims.{RulesGuarded, RulesScoped, BodyClosed, SubstitutedIsRemembered}
 use Rattle.meaning.specs.Claims.{MemberIsMember, ParallelEquations, ParallelUnique, ModelExists}
 use Rattle.meaning.specs.Claims.{ModelUnique, PrefixClosure, NonEmptyIsEmptyTrace, TracesInAlphabet}
-use Rattle.meaning.specs.Claims.{TracesAreSteps, TermsAreSteps, DoomedSilent, SilentKeeps, DoomedEmpty}
-use Rattle.meaning.specs.Claims.{DoomedBranches, TracesAfter, CallStuck, FigureFacts, ExamplesMeant}
+use Rattle.meaning.specs.Claims.{PrefixSteps, CallsStep, StepsFormed, StepsInAlphabet}
+use Rattle.meaning.specs.Claims.{TracesAreSteps, TermsAreSteps, DoomedSilent, DoomedFalls, CallStuck}
+use Rattle.meaning.specs.Claims.{SilentKeeps, DoomedEmpty, DoomedBranches, TracesAfter}
+use Rattle.meaning.specs.Claims.{FigureFacts, ExamplesMeant, TableBRead}
 
 -- ---- Figure 1
 
@@ -49,11 +55,11 @@ member-is-member = member-close
 
 pub parallel-equations : ParallelEquations
 unfolding ParallelEquations
-parallel-equations = is-parallel
+parallel-equations E = (is-parallel E, parallel-closed E)
 
 pub parallel-unique : ParallelUnique
 unfolding ParallelUnique
-parallel-unique E op is X Y s = parallel-only E op is s X Y
+parallel-unique E op is X Y x y s = parallel-only E op is s X Y x y
 
 pub model-exists : ModelExists
 unfolding ModelExists
@@ -82,6 +88,22 @@ traces-in-alphabet t r H model P g s h =
 
 -- ---- Figure 3
 
+pub prefix-steps : PrefixSteps
+unfolding PrefixSteps
+prefix-steps = Laws.prefix-steps
+
+pub calls-step : CallsStep
+unfolding CallsStep
+calls-step t d = (Laws.call-steps t d, Laws.call-dooms t d)
+
+pub steps-formed : StepsFormed
+unfolding StepsFormed
+steps-formed t r P Q a g s = Theorem3.step-formed t (Formed.rules-guarded t r) s g
+
+pub steps-in-alphabet : StepsInAlphabet
+unfolding StepsInAlphabet
+steps-in-alphabet t r P Q e s = step-below t (r .fields) s
+
 pub terms-are-steps : TermsAreSteps
 unfolding TermsAreSteps
 terms-are-steps t r H model P g s = theorem3-model t H model (Formed.rules-guarded t r) P g s
@@ -100,6 +122,22 @@ pub doomed-silent : DoomedSilent
 unfolding DoomedSilent
 doomed-silent t P Q (event e) d s = absurd (Doom.doomed-silent t d s)
 doomed-silent t P Q τ d s = (refl, Doom.doomed-stays t d s)
+
+pub doomed-falls : DoomedFalls
+unfolding DoomedFalls
+doomed-falls = Doom.Falls.falls
+
+pub call-stuck : CallStuck
+unfolding CallStuck
+call-stuck = (
+  only-fail-rules,
+  Doom.call-doomed,
+  Doom.call-is-no-fail 0,
+  λ a Q s. Doom.call-stuck s,
+  Doom.choice-doomed,
+  Doom.choice-is-no-fail (call 0) (call 0),
+  λ a Q s. Doom.choice-stuck s,
+)
 
 pub silent-keeps : SilentKeeps
 unfolding SilentKeeps
@@ -128,10 +166,6 @@ pub traces-after : TracesAfter
 unfolding TracesAfter
 traces-after t r H model P g e s = lemma5-model t H model (Formed.rules-guarded t r) P g e s
 
-pub call-stuck : CallStuck
-unfolding CallStuck
-call-stuck = (only-fail-rules, Doom.call-doomed, Doom.call-is-no-fail 0, λ a Q s. Doom.call-stuck s)
-
 -- ---- worked tables
 
 pub figure-facts : FigureFacts
@@ -141,3 +175,7 @@ figure-facts = facts
 pub examples-meant : ExamplesMeant
 unfolding ExamplesMeant
 examples-meant = rows-meant
+
+pub table-b-read : TableBRead
+unfolding TableBRead
+table-b-read = E.table-b-read

@@ -1,16 +1,22 @@
 -- What is proved of the meaning of a table (000, Figures 1 to 3): statements only. The proofs are in
--- `proofs/Theorems.antt`, under the same names. A term is well formed where each call in it names a definition.
+-- `proofs/Theorems.antt`, under the same names in kebab-case. A term is well formed where each call in it names a
+-- definition. "Every model" is every way to give terms trace sets that meets Figure 2's equations.
 --     RulesGuarded, RulesScoped            what the figures ask of a table, the rules give
 --     BodyClosed, SubstitutedIsRemembered, MemberIsMember    closed terms and the memory of residuals
---     ParallelEquations, ParallelUnique    equations (1) and (2) have one solution, `Parallel`
+--     ParallelEquations, ParallelUnique    of prefix-closed sets, equations (1) and (2) have one solution, `Parallel`
 --     ModelExists, ModelUnique             so have the equations of the trace semantics
 --     PrefixClosure, NonEmptyIsEmptyTrace, TracesInAlphabet    what every trace set is
+--     PrefixSteps, CallsStep               the steps of a prefix; a call has the steps and the doom of its body
+--     StepsFormed, StepsInAlphabet         steps keep a term well formed, and emit events of the table
 --     TracesAreSteps, TermsAreSteps        Theorem 3, of the last definition and of every well formed term
---     DoomedSilent, SilentKeeps            Proposition 2, as far as it holds with named definitions
---     DoomedEmpty, DoomedBranches          Proposition 4
+--     DoomedSilent, DoomedFalls            Proposition 2: what is true with calls; the rest, of terms without calls
+--     CallStuck                            with calls the rest is false
+--     SilentKeeps                          a silent step keeps the trace set (ours)
+--     DoomedEmpty                          Proposition 4
+--     DoomedBranches                       doomed is: without branches (ours)
 --     TracesAfter                          Lemma 5
---     CallStuck                            half of Proposition 2 fails with named definitions
---     FigureFacts, ExamplesMeant           small facts of each figure; worked tables
+--     FigureFacts                          small facts of each figure
+--     ExamplesMeant, TableBRead            worked tables; the bytes of table B
 -- Assumes nothing.
 use Prim.Native.Nat.{ℕ, _<_}
 use mathlib.Core.Bool.{Bool}
@@ -24,14 +30,17 @@ use Rattle.table.specs.Memory.{Memory, remember}
 use Rattle.table.specs.Member
 use Rattle.table.specs.Rules.{Rules}
 use Rattle.table.specs.Branches.{branches}
-use Rattle.meaning.specs.Figure1.{Term, fail, call, plain, body, count, last, member, sub}
-use Rattle.meaning.specs.Figure1.{WellFormed, GuardedTable}
+use Rattle.table.specs.Writing.{numbersOf}
+use Rattle.table.specs.Judge.{accepted, judgeBytes}
+use Rattle.table.specs.Examples as InBytes
+use Rattle.meaning.specs.Figure1.{SetRef, Term, fail, prefix, choice, call, plain, body, count, last, member, sub}
+use Rattle.meaning.specs.Figure1.{WellFormed, GuardedTable, CallFree}
 use Rattle.meaning.specs.Figure2.{TraceSet, NonEmpty, PrefixClosed, after, Parallel, IsParallel, Model}
-use Rattle.meaning.specs.Figure3.{Action, τ, Doomed, Viable, Step, Chain}
+use Rattle.meaning.specs.Figure3.{Action, event, τ, Doomed, Viable, In, Step, Chain}
 use Rattle.meaning.specs.Closing.{closeRef, close, Scoped}
 use Rattle.meaning.specs.Doom.{onlyFail}
 use Rattle.meaning.specs.FigureExamples.{Facts}
-use Rattle.meaning.specs.Examples.{rows, EachMeant}
+use Rattle.meaning.specs.Examples.{rows, EachMeant, tableB}
 
 -- ---- Figure 1
 
@@ -59,15 +68,16 @@ MemberIsMember =
 
 -- ---- Figure 2
 
--- `Parallel` meets equations (1) and (2)
+-- `Parallel` meets equations (1) and (2), and gives prefix-closed sets
 unfoldable pub ParallelEquations : Type 1
-ParallelEquations = (E : ℕ → Bool) → IsParallel E (Parallel E)
+ParallelEquations =
+    (E : ℕ → Bool) → IsParallel E (Parallel E) × ((X Y : TraceSet) → PrefixClosed (Parallel E X Y))
 
 -- 000, 2: "Thus, the solution is unique, and ||E is this unique solution"
 unfoldable pub ParallelUnique : Type 1
 ParallelUnique =
     (E : ℕ → Bool) (op : TraceSet → TraceSet → TraceSet) → IsParallel E op
-    → (X Y : TraceSet) (s : List ℕ) → op X Y s ↔ Parallel E X Y s
+    → (X Y : TraceSet) → PrefixClosed X → PrefixClosed Y → (s : List ℕ) → op X Y s ↔ Parallel E X Y s
 
 -- Figure 2 has a solution
 unfoldable pub ModelExists : Type 1
@@ -98,6 +108,27 @@ TracesInAlphabet =
 
 -- ---- Figure 3
 
+-- "(?x : E → P) –e→ [e/x]P" where "e ∈ E", and no other step
+unfoldable pub PrefixSteps : Type 0
+PrefixSteps =
+    (t : Table) (E : SetRef) (P Q : Term) (a : Action)
+    → Step t (prefix E P) a Q ↔ ((e : ℕ) × (a ≡ event e) × In t E e × (Q ≡ sub 0 e P))
+
+-- 01, "Meaning by steps": "A call steps as its body steps"; "a call of a doomed body"
+unfoldable pub CallsStep : Type 0
+CallsStep =
+    (t : Table) (d : ℕ)
+    → ((a : Action) (Q : Term) → Step t (call d) a Q ↔ Step t (body t d) a Q)
+    × (Doomed t (call d) ↔ Doomed t (body t d))
+
+-- a step leads to a well formed term
+unfoldable pub StepsFormed : Type 0
+StepsFormed = (t : Table) → Rules t → (P Q : Term) (a : Action) → WellFormed t P → Step t P a Q → WellFormed t Q
+
+-- "events are 0 to A-1": no step emits another
+unfoldable pub StepsInAlphabet : Type 0
+StepsInAlphabet = (t : Table) → Rules t → (P Q : Term) (e : ℕ) → Step t P (event e) Q → e < t .alphabet
+
 -- 000, Theorem 3; demand 3: "For every list of events, the last definition's trace set holds it exactly when some
 -- chain of steps from that definition emits it and ends in a term not doomed": from its call, and from its body
 unfoldable pub TracesAreSteps : Type 1
@@ -117,7 +148,22 @@ TermsAreSteps =
 unfoldable pub DoomedSilent : Type 0
 DoomedSilent = (t : Table) (P Q : Term) (a : Action) → Doomed t P → Step t P a Q → (a ≡ τ) × Doomed t Q
 
--- a silent step keeps the trace set, so also whether the term is doomed
+-- 000, Proposition 2: "a doomed term keeps transitioning until it reaches FAIL": it can, where it has no calls
+unfoldable pub DoomedFalls : Type 0
+DoomedFalls = (t : Table) (P : Term) → CallFree P → Doomed t P → Chain t P [] fail
+
+-- with calls it need not: a call of FAIL is doomed, is not FAIL and has no step, and so is a choice of two
+unfoldable pub CallStuck : Type 0
+CallStuck =
+    Rules onlyFail
+    × Doomed onlyFail (call 0)
+    × (call 0 ≡ fail → ⊥)
+    × ((a : Action) (Q : Term) → Step onlyFail (call 0) a Q → ⊥)
+    × Doomed onlyFail (choice (call 0) (call 0))
+    × (choice (call 0) (call 0) ≡ fail → ⊥)
+    × ((a : Action) (Q : Term) → Step onlyFail (choice (call 0) (call 0)) a Q → ⊥)
+
+-- a silent step keeps the trace set, so also, by StepsFormed and DoomedEmpty, whether the term is doomed
 unfoldable pub SilentKeeps : Type 1
 SilentKeeps =
     (t : Table) → Rules t → (H : Term → TraceSet) → Model t H
@@ -142,12 +188,6 @@ TracesAfter =
     → (P : Term) → WellFormed t P → (e : ℕ) (s : List ℕ)
     → after (H P) e s ↔ ((Q : Term) × Chain t P (e ∷ []) Q × H Q s)
 
--- 000, Proposition 2 also has "a doomed term keeps transitioning until it reaches FAIL": not a call of FAIL
-unfoldable pub CallStuck : Type 0
-CallStuck =
-    Rules onlyFail × Doomed onlyFail (call 0) × (call 0 ≡ fail → ⊥)
-    × ((a : Action) (Q : Term) → Step onlyFail (call 0) a Q → ⊥)
-
 -- ---- worked tables
 
 -- what a slip in one rule would change
@@ -157,3 +197,7 @@ FigureFacts = Facts
 -- 01, "Drawings on the wall", K1 to K12, and others
 unfoldable pub ExamplesMeant : Type 1
 ExamplesMeant = EachMeant rows
+
+-- 01, "The program and its lines": the bytes of table B are read as the table of K1 to K3
+unfoldable pub TableBRead : Type 0
+TableBRead = judgeBytes InBytes.tableB ≡ accepted (numbersOf tableB) tableB

@@ -17,8 +17,8 @@ use Rattle.meaning.specs.Figure1.{GuardedTable, WellFormed}
 use Rattle.meaning.specs.Holds.{m-both, m-left, m-right, Holds, h-prefix, h-par}
 use Rattle.meaning.specs.Theorem3.{guarded-sub}
 use Rattle.meaning.specs.ClosedResiduals.{pairs, resolve, afterEvent, run, residuals, Inhabited}
-use Rattle.meaning.specs.ClosedResiduals.Resolved.{any-pairs, all-pairs, Resolved, Into, resolve-into, resolve-out}
-use Rattle.meaning.specs.ClosedResiduals.Resolved.{resolve-resolved, resolved-holds, resolve-formed}
+use Rattle.meaning.specs.ClosedResiduals.Resolved.{any-pairs, all-pairs, Resolved, Into, resolve-into}
+use Rattle.meaning.specs.ClosedResiduals.Resolved.{resolve-out, resolve-resolved, resolved-holds, resolve-formed}
 pub use Rattle.meaning.specs.ClosedResiduals.Resolved.{Has}
 
 -- ---- of an answer by a test

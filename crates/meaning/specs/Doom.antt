@@ -2,12 +2,14 @@
 -- step changes no trace, and a doomed call may be stuck.
 --     doomed-silent, doomed-stays    a doomed term's steps are silent, and lead to doomed terms
 --     silent-complete                a silent step loses no trace
---     onlyFail, call-doomed, call-is-no-fail, call-stuck    one definition, FAIL, whose call does not go on
--- So the second half of 000, Proposition 2 is false of named definitions. No branches: `Doom/Branches.antt`.
--- Assumes nothing.
+--     onlyFail                       one definition, FAIL
+--     call-doomed, call-stuck        its call is doomed and does not go on
+--     choice-doomed, choice-stuck    nor does a choice of two such calls
+-- So the second half of 000, Proposition 2 is false of named definitions; of terms without calls it is in
+-- `Doom/Falls.antt`. No branches: `Doom/Branches.antt`. Assumes nothing.
 use Prim.Native.Nat.{ℕ}
 use mathlib.Core.List.{List, [], _∷_}
-use mathlib.Core.Path.{_≡_, subst}
+use mathlib.Core.Path.{_≡_, sym, subst}
 use Rattle.table.specs.Table
 use Rattle.table.specs.Table.{Table, bodyOf}
 use Rattle.meaning.specs.Figure1.{Term, stop, fail, prefix, choice, par, call, plain, body}
@@ -15,8 +17,10 @@ use Rattle.meaning.specs.Figure3.{Action, event, τ, Doomed, d-fail, d-c
 use Rattle.meaning.specs.Figure3.{Step, choice-τ-left, choice-τ-right, choice-left, choice-right}
 use Rattle.meaning.specs.Figure3.{par-left, par-right, par-both, doomed-left, doomed-right, choice-fail}
 use Rattle.meaning.specs.Figure3.{fail-left, fail-right, call-step}
+use Rattle.meaning.specs.Figure3.Laws.{fail-stuck}
 use Rattle.meaning.specs.Holds.{Holds, h-left, h-right, h-par, h-call}
 pub mod Branches
+pub mod Falls
 
 module _ (t : Table) where
   pub doomed-silent : {P Q : Term} {e : ℕ} → Doomed t P → Step t P (event e) Q → ⊥
@@ -63,24 +67,24 @@ module _ (t : Table) where
   silent-complete fail-right (h-par m h k) = elim k [ ]
   silent-complete (call-step p) (h-call h) = silent-complete p h
 
--- ---- a call of FAIL is doomed, is not FAIL, and has no step
+-- ---- a call of FAIL is doomed, is not FAIL, and has no step; likewise a choice of two
 
 unfoldable pub onlyFail : Table
 onlyFail = record { alphabet = 1; sets = []; definitions = record { level = 0; body = Table.fail } ∷ [] }
 
-abbrev IsCall : Term → Type 0
-IsCall stop = ⊥
-IsCall fail = ⊥
-IsCall (prefix S P) = ⊥
-IsCall (choice P Q) = ⊥
-IsCall (par S P Q) = ⊥
-IsCall (call d) = Unit
+abbrev IsFail : Term → Type 0
+IsFail stop = ⊥
+IsFail fail = Unit
+IsFail (prefix S P) = ⊥
+IsFail (choice P Q) = ⊥
+IsFail (par S P Q) = ⊥
+IsFail (call d) = ⊥
 
 pub call-is-no-fail : (d : ℕ) → call d ≡ fail → ⊥
-call-is-no-fail d e = subst (λ (P : Term). IsCall P) e tt
+call-is-no-fail d e = subst (λ (P : Term). IsFail P) (sym e) tt
 
-fail-stuck : (t : Table) {a : Action} {Q : Term} → Step t fail a Q → ⊥
-fail-stuck t s = elim s [ ]
+pub choice-is-no-fail : (P Q : Term) → choice P Q ≡ fail → ⊥
+choice-is-no-fail P Q e = subst (λ (R : Term). IsFail R) (sym e) tt
 
 pub call-doomed : Doomed onlyFail (call 0)
 unfolding onlyFail body bodyOf plain
@@ -89,3 +93,12 @@ call-doomed = d-call d-fail
 pub call-stuck : {a : Action} {Q : Term} → Step onlyFail (call 0) a Q → ⊥
 unfolding onlyFail body bodyOf plain
 call-stuck (call-step s) = fail-stuck onlyFail s
+
+pub choice-doomed : Doomed onlyFail (choice (call 0) (call 0))
+choice-doomed = d-choice call-doomed call-doomed
+
+pub choice-stuck : {a : Action} {Q : Term} → Step onlyFail (choice (call 0) (call 0)) a Q → ⊥
+choice-stuck (choice-τ-left s) = call-stuck s
+choice-stuck (choice-τ-right s) = call-stuck s
+choice-stuck (choice-left s) = call-stuck s
+choice-stuck (choice-right s) = call-stuck s

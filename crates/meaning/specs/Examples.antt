@@ -1,8 +1,10 @@
--- Worked tables and what they mean: 01's K1 to K12 ("Drawings on the wall") and rows that read older parameters, in
--- one theorem, by computing the residuals of closed terms.
---     Row, rows        definitions, a list of events, and whether the last definition holds it
+-- Worked tables and what they mean: 01's K1 to K12 ("Drawings on the wall") and rows that read parameters, in one
+-- theorem, by computing the residuals of closed terms.
+--     Row, rows        a table, a list of events, and whether the last definition holds it
 --     Meant            the table is accepted; every model of Figure 2 and the chains of Figure 3 say what the row says
---     rows-meant       it holds of each row;  only-fail-rules: the table whose one body is FAIL is accepted too
+--     rows-meant       it holds of each row
+--     tableB, table-b-read    01's table B, and that its bytes are read as that table
+--     only-fail-rules  the table whose one body is FAIL is accepted too
 -- "failed at n" is two rows: the events without the last are held, with it they are not. How many residuals there are
 -- is a matter of the monitor crate. Assumes nothing.
 use Prim.Native.Nat.{ℕ}
@@ -11,10 +13,10 @@ use mathlib.Core.List.{List, [], _∷_, map, flatMap}
 use mathlib.Core.Logic.{_↔_}
 use mathlib.Core.Path.{_≡_, refl, ap, subst}
 use lib.Dec.{T}
-use Rattle.numbers.specs.Number.{listBytes, bytesOf, groups}
+use Rattle.numbers.specs.Number.{listBytes, bytesOf, groups, scanWith, readNumber}
 use Rattle.table.specs.Table.{fixed, family, Term, stop, fail, prefix, choice, par, call, one, each}
 use Rattle.table.specs.Table.{Definition, Table, size, bodyOf}
-use Rattle.table.specs.Tokens.{listTokens, placeOf, trailing}
+use Rattle.table.specs.Tokens.{listTokens, byteToken, byteTokensWith, byteTokens, placeOf, trailing}
 use Rattle.table.specs.Parser.{number, pure, next, andThen, times}
 use Rattle.table.specs.Grammar.{events, row, setOfKind, set, refOfKind, setRef, termOfKind, termWith}
 use Rattle.table.specs.Grammar.{definition, definitionsOf, table}
@@ -25,12 +27,14 @@ use Rattle.table.specs.Grow.{grow}
 use Rattle.table.specs.Width.{widthWith, widest, callWidth, nextWidth, allWidths, firstAbove, tooWide}
 use Rattle.table.specs.Branches.{branchesWith, lookup, bodyIn, nextBranches, allBranches}
 use Rattle.table.specs.Branches.{followerAbove, bodyAbove, tooManyBranches}
-use Rattle.table.specs.Judge.{Judgement, accepted, unlessMet, placed, judgeRead, judge, sized, judgeList}
+use Rattle.table.specs.Judge.{Judgement, accepted, unlessMet, placed, judgeRead, judge, judgeBytes, sized, judgeList}
 use Rattle.table.specs.Judge.Laws.{list-out}
 use Rattle.table.specs.Rules.{Rules}
+use Rattle.table.specs.Member.{elem, rowIn}
+use Rattle.table.specs.Examples as InBytes
 use Rattle.meaning.specs.Formed.{rules-guarded, last-exists}
 use Rattle.meaning.specs.Figure1 as F
-use Rattle.meaning.specs.Figure1.{plainRef, plain, body, count, last, isIn, rowOf, member, subArg, subSet, sub}
+use Rattle.meaning.specs.Figure1.{plainRef, plain, body, count, last, member, subArg, subSet, sub}
 use Rattle.meaning.specs.Figure2.{TraceSet, Model}
 use Rattle.meaning.specs.Figure3.{Viable, Chain}
 use Rattle.meaning.specs.Theorem3.{theorem3}
@@ -51,17 +55,15 @@ tableOf ds =
     }
 
 pub record Row : Type 0 where
-  pub definitions : List Definition
+  pub table : Table
   pub events : List ℕ
   pub held : Bool
 
 pub record Meant (r : Row) : Type 1 where
-  pub rules : Rules (tableOf (r .definitions))
-  pub traces : (H : F.Term → TraceSet) → Model (tableOf (r .definitions)) H
-      → H (F.call (last (tableOf (r .definitions)))) (r .events) ↔ T (r .held)
-  pub steps : ((Q : F.Term)
-      × Chain (tableOf (r .definitions)) (F.call (last (tableOf (r .definitions)))) (r .events) Q
-      × Viable (tableOf (r .definitions)) Q) ↔ T (r .held)
+  pub rules : Rules (r .table)
+  pub traces : (H : F.Term → TraceSet) → Model (r .table) H → H (F.call (last (r .table))) (r .events) ↔ T (r .held)
+  pub steps : ((Q : F.Term) × Chain (r .table) (F.call (last (r .table))) (r .events) Q × Viable (r .table) Q)
+      ↔ T (r .held)
 
 pub data EachMeant : List Row → Type 1 where
   no-row : EachMeant []
@@ -72,8 +74,11 @@ pub data EachMeant : List Row → Type 1 where
 abbrev level : ℕ → Term → Definition
 level l p = record { level = l; body = p }
 
+abbrev of : List Definition → List ℕ → Bool → Row
+of ds es b = record { table = tableOf ds; events = es; held = b }
+
 abbrev alone : Term → List ℕ → Bool → Row
-alone p es b = record { definitions = level 0 p ∷ []; events = es; held = b }
+alone p es b = of (level 0 p ∷ []) es b
 
 -- "With a = prefix {0}, b = prefix {1}"; x in {0, 1}; the row of the k-th enclosing prefix's event
 abbrev a : Term → Term
@@ -87,6 +92,18 @@ x p = prefix (fixed 3) p
 
 abbrev byRow : ℕ → Term → Term
 byRow k p = prefix (family 4 k) p
+
+-- 01, "The program and its lines": "Table B, A = 3, sets {0} and {1}, prefix {0}, prefix {1}, call 0"
+unfoldable pub tableB : Table
+tableB =
+    record {
+      alphabet = 3;
+      sets = one (0 ∷ []) ∷ one (1 ∷ []) ∷ [];
+      definitions = level 0 (a (b (call 0))) ∷ [];
+    }
+
+abbrev onB : List ℕ → Bool → Row
+onB es v = record { table = tableB; events = es; held = v }
 
 -- x in {0, 1}, then two of 1 beside one of 1, over row x
 abbrev beside : Term
@@ -102,12 +119,12 @@ twice = level 0 (a (call 0)) ∷ level 1 (par (fixed 2) (call 0) (call 0)) ∷ [
 
 abbrev pub rows : List Row
 rows =
-    -- K1, K2, K3: table B
-    alone (a (b (call 0))) (0 ∷ []) true
-    ∷ alone (a (b (call 0))) (0 ∷ 0 ∷ []) false
-    ∷ alone (a (b (call 0))) [] true
-    ∷ alone (a (b (call 0))) (2 ∷ []) false
-    ∷ alone (a (b (call 0))) (0 ∷ 1 ∷ 0 ∷ []) true
+    -- K1, K2, K3
+    onB (0 ∷ []) true
+    ∷ onB (0 ∷ 0 ∷ []) false
+    ∷ onB [] true
+    ∷ onB (2 ∷ []) false
+    ∷ onB (0 ∷ 1 ∷ 0 ∷ []) true
     -- K4
     ∷ alone (a fail) [] true
     ∷ alone (a fail) (0 ∷ []) false
@@ -137,15 +154,21 @@ rows =
     ∷ alone (x (x (x (byRow 2 stop)))) (0 ∷ 1 ∷ 1 ∷ 0 ∷ []) false
     ∷ alone (x (x (x (x (byRow 3 stop))))) (0 ∷ 1 ∷ 1 ∷ 1 ∷ 1 ∷ []) true
     ∷ alone (x (x (x (x (byRow 3 stop))))) (0 ∷ 1 ∷ 1 ∷ 1 ∷ 0 ∷ []) false
+    -- parameters within a choice and within a parallel
+    ∷ alone (x (choice (byRow 0 stop) (b fail))) (1 ∷ 0 ∷ []) true
+    ∷ alone (x (choice (byRow 0 stop) (b fail))) (1 ∷ 1 ∷ []) false
+    ∷ alone (x (choice (b fail) (byRow 0 stop))) (1 ∷ 0 ∷ []) true
+    ∷ alone (x (par (fixed 2) (byRow 0 stop) (byRow 0 stop))) (1 ∷ 0 ∷ 0 ∷ []) true
+    ∷ alone (x (par (fixed 2) (byRow 0 stop) (byRow 0 stop))) (1 ∷ 0 ∷ 1 ∷ []) false
     -- a parallel keeps its set through later events
     ∷ alone beside (0 ∷ 1 ∷ []) true
     ∷ alone beside (0 ∷ 1 ∷ 1 ∷ []) false
     ∷ alone beside (1 ∷ 1 ∷ 1 ∷ 1 ∷ []) true
     -- calls
-    ∷ record { definitions = called; events = 1 ∷ 0 ∷ 1 ∷ []; held = true }
-    ∷ record { definitions = called; events = 1 ∷ 0 ∷ 0 ∷ []; held = false }
-    ∷ record { definitions = twice; events = 0 ∷ 0 ∷ 0 ∷ []; held = true }
-    ∷ record { definitions = twice; events = 0 ∷ 1 ∷ []; held = false }
+    ∷ of called (1 ∷ 0 ∷ 1 ∷ []) true
+    ∷ of called (1 ∷ 0 ∷ 0 ∷ []) false
+    ∷ of twice (0 ∷ 0 ∷ 0 ∷ []) true
+    ∷ of twice (0 ∷ 1 ∷ []) false
     ∷ []
 
 -- ---- by computing
@@ -163,17 +186,17 @@ inhabited-some rs v e = subst (λ (u : Bool). C.Inhabited rs ↔ T u) e (by rs)
 
 -- what is computed of a row: how its table is judged, and whether a residual is left
 abbrev judged : Row → Judgement
-judged r = judgeList (numbersOf (tableOf (r .definitions)))
+judged r = judgeList (numbersOf (r .table))
 
 abbrev taken : Row → Judgement
-taken r = accepted (numbersOf (tableOf (r .definitions))) (tableOf (r .definitions))
+taken r = accepted (numbersOf (r .table)) (r .table)
 
 abbrev left : Row → Bool
-left r = some (residuals (tableOf (r .definitions)) (F.call (last (tableOf (r .definitions)))) (r .events))
+left r = some (residuals (r .table) (F.call (last (r .table))) (r .events))
 
 row-meant : (r : Row) → judged r ≡ taken r → left r ≡ r .held → Meant r
 row-meant r j e =
-    let t = tableOf (r .definitions) in
+    let t = r .table in
     let c = F.call (last t) in
     let k : Rules t = list-out (numbersOf t) (numbersOf t) t j .rules in
     let w = rules-guarded t k in
@@ -205,33 +228,29 @@ each-meant (r ∷ rs) j e =
     (row-meant r (ap (headOr (judged r)) j) (ap (headOr (left r)) e))
     (each-meant rs (ap tail j) (ap tail e))
 
-rows-judged : map judged rows ≡ map taken rows
-unfolding tableOf judgeList judge judgeRead sized listBytes bytesOf groups unlessMet placed placeOf trailing
+-- the tables of the rows, 01's bytes of table B, and the table of one definition, FAIL
+all-judged : (map judged rows ≡ map taken rows)
+    × (judgeBytes InBytes.tableB ≡ accepted (numbersOf tableB) tableB)
+    × (judgeList (numbersOf onlyFail) ≡ accepted (numbersOf onlyFail) onlyFail)
+unfolding tableOf tableB onlyFail judgeBytes judgeList judge judgeRead sized listBytes bytesOf groups unlessMet placed
+    placeOf trailing byteTokens byteTokensWith byteToken readNumber scanWith
     listTokens table number andThen next pure times events row setOfKind set refOfKind setRef termOfKind termWith
     definition definitionsOf size numbersOf rowNumbers setNumbers refNumbers termNumbers definitionNumbers flatMap
     orElse unless levelIn paramFits callFits wrongRef wrongIn wrongFrom firstWrong grow
     widthWith widest callWidth nextWidth allWidths firstAbove tooWide
     branchesWith lookup bodyIn nextBranches allBranches followerAbove bodyAbove tooManyBranches
-rows-judged = refl
+all-judged = (refl, refl, refl)
 
 rows-left : map left rows ≡ map (λ r. r .held) rows
-unfolding tableOf count body bodyOf plain plainRef member rowOf isIn sub subSet subArg
+unfolding tableOf tableB count body bodyOf plain plainRef member rowIn elem sub subSet subArg
     residuals run afterEvent resolve resolveCall resolveWith pairs flatMap
 rows-left = refl
 
 pub rows-meant : EachMeant rows
-rows-meant = each-meant rows rows-judged rows-left
+rows-meant = each-meant rows (all-judged .0) rows-left
 
--- ---- the table of one definition, FAIL
-
-only-fail-judged : judgeList (numbersOf onlyFail) ≡ accepted (numbersOf onlyFail) onlyFail
-unfolding onlyFail judgeList judge judgeRead sized listBytes bytesOf groups unlessMet placed placeOf trailing
-    listTokens table number andThen next pure times events row setOfKind set refOfKind setRef termOfKind termWith
-    definition definitionsOf size numbersOf rowNumbers setNumbers refNumbers termNumbers definitionNumbers flatMap
-    orElse unless levelIn paramFits callFits wrongRef wrongIn wrongFrom firstWrong grow
-    widthWith widest callWidth nextWidth allWidths firstAbove tooWide
-    branchesWith lookup bodyIn nextBranches allBranches followerAbove bodyAbove tooManyBranches
-only-fail-judged = refl
+pub table-b-read : judgeBytes InBytes.tableB ≡ accepted (numbersOf tableB) tableB
+table-b-read = all-judged .1
 
 pub only-fail-rules : Rules onlyFail
-only-fail-rules = list-out (numbersOf onlyFail) (numbersOf onlyFail) onlyFail only-fail-judged .rules
+only-fail-rules = list-out (numbersOf onlyFail) (numbersOf onlyFail) onlyFail (all-judged .2) .rules

@@ -7,14 +7,19 @@
 --     sub                  [e/x]P
 --     Guarded, WellFormed  the calls with no prefix around them are below a bound; every call names a definition
 --     GuardedTable         what the bodies' calls keep
--- `Member.antt` has event sets under a memory; `Closing.antt` says that they are the same. Assumes nothing.
+--     CallFree             there is no call: a term of 000
+-- A term that steps is closed: each variable in it has its prefix around it. So `sub` need not lower the other
+-- variables. A variable's own set is empty, and a call of no definition reads as FAIL.
+-- Crate table has event sets under a memory (`Member.antt`); of closed terms they are these (`Claims.antt`:
+-- MemberIsMember). Assumes nothing.
 use Prim.Native.Nat.{ℕ, suc, _-_, _<_}
-use mathlib.Core.Bool.{Bool, false, cond, _||_}
-use mathlib.Core.List.{List, [], _∷_}
+use mathlib.Core.Bool.{Bool, false, cond}
+use mathlib.Core.List.{[]}
 use lib.ListN.{getD, length}
 use lib.Dec.{eqb}
 use Rattle.table.specs.Table
-use Rattle.table.specs.Table.{Table, SetDef, one, each, bodyOf}
+use Rattle.table.specs.Table.{Table, one, bodyOf}
+use Rattle.table.specs.Member.{elem, rowIn}
 
 -- 000, Figure 1: "Event Set Param y ::= x | e". A variable is the number of its prefix: 01, "the k-th enclosing prefix
 -- of this definition, the nearest being 0"
@@ -62,19 +67,11 @@ last t = count t - 1
 
 -- ---- event sets
 
-unfoldable pub isIn : ℕ → List ℕ → Bool
-isIn e [] = false
-isIn e (x ∷ xs) = eqb e x || isIn e xs
-
--- 01, "Numbers and table": "row v is the set for parameter v"
-unfoldable pub rowOf : SetDef → ℕ → List ℕ
-rowOf (one row) v = row
-rowOf (each rows) v = getD rows v []
-
--- e ∈ E. A variable stands for no event yet, and its set has none.
+-- e ∈ E; 01, "Numbers and table": "row v is the set for parameter v". A variable stands for no event yet, and its set
+-- has none.
 unfoldable pub member : Table → SetRef → ℕ → Bool
-member t (fixed n) e = isIn e (rowOf (getD (t .sets) n (one [])) 0)
-member t (family n (ev v)) e = isIn e (rowOf (getD (t .sets) n (one [])) v)
+member t (fixed n) e = elem e (rowIn (getD (t .sets) n (one [])) 0)
+member t (family n (ev v)) e = elem e (rowIn (getD (t .sets) n (one [])) v)
 member t (family n (var k)) e = false
 
 -- ---- 000, "Prefix ?x : E → P chooses and emits an event e ∈ E, then executes [e/x]P": x is the variable of number k
@@ -110,6 +107,10 @@ Guarded n d (call c) = c < d
 -- 01, "References": "A call names an existing definition"
 abbrev pub WellFormed : Table → Term → Type 0
 WellFormed t P = Guarded (count t) (count t) P
+
+-- 000: "we omit recursion": no definition number is below 0
+abbrev pub CallFree : Term → Type 0
+CallFree P = Guarded 0 0 P
 
 -- 01, "References": "A call with no prefix around it names a lower definition number", any other an existing one
 pub record GuardedTable (t : Table) : Type 0 where

@@ -1,5 +1,5 @@
 -- The trace sets of terms (000, Figure 2), as equations: a model is any way to give each term a set that meets them.
---     TraceSet, NonEmpty, PrefixClosed    a set of traces; it has one; it has the beginnings of each
+--     TraceSet, NonEmpty, PrefixClosed    any set of traces; it has one; it has the beginnings of each
 --     prepend, after                      e T and T(e)
 --     Parallel, IsParallel                T1 ||E T2, by recursion on the trace; equations (1) and (2)
 --     traces, Model                       the right sides of the trace semantics; a solution
@@ -15,7 +15,8 @@ use Rattle.meaning.specs.Figure1.{Term, stop, fail, prefix, choice, par,
 pub mod Laws
 pub mod Closed
 
--- "Trace s, t ∈ Σ∗". Events that are no event of the table are in no set of it, so in no trace.
+-- "Trace s, t ∈ Σ∗". Events that are no event of the table are in no set of it, so in no trace. A TraceSet here is any
+-- set of traces; what 000 calls a trace set is one that is prefix-closed.
 abbrev pub TraceSet : Type 1
 TraceSet = List ℕ → Type 0
 
@@ -48,12 +49,14 @@ Parallel E X Y (e ∷ s) =
     × ((T (E e) × Parallel E (after X e) (after Y e) s)
     ⊎ (T (not (E e)) × (Parallel E (after X e) Y s ⊎ Parallel E X (after Y e) s)))
 
--- The equations themselves, of any operator; `Parallel` alone meets them. (1) "takes precedence over eq. (2)".
+-- The equations themselves, of any operator on prefix-closed sets; `Parallel` alone meets them. (1) "takes precedence
+-- over eq. (2)".
 pub record IsParallel (E : ℕ → Bool) (op : TraceSet → TraceSet → TraceSet) : Type 1 where
   -- (1) "∅ ||E T := T ||E ∅ := ∅": where there is a trace, both sides have one
-  pub empty : (X Y : TraceSet) (s : List ℕ) → op X Y s → NonEmpty X × NonEmpty Y
+  pub empty : (X Y : TraceSet) → PrefixClosed X → PrefixClosed Y
+      → (s : List ℕ) → op X Y s → NonEmpty X × NonEmpty Y
   -- (2) "T1 ||E T2 := ⋃ e∈E e(T1(e) ||E T2(e)) ∪ ⋃ e∈Σ−E (e(T1(e) ||E T2) ∪ e(T1 ||E T2(e)))"
-  pub other : (X Y : TraceSet) → NonEmpty X → NonEmpty Y → (s : List ℕ)
+  pub other : (X Y : TraceSet) → PrefixClosed X → PrefixClosed Y → NonEmpty X → NonEmpty Y → (s : List ℕ)
       → op X Y s ↔ (((e : ℕ) × T (E e) × prepend e (op (after X e) (after Y e)) s)
       ⊎ ((e : ℕ) × T (not (E e)) × (prepend e (op (after X e) Y) s ⊎ prepend e (op X (after Y e)) s)))
 

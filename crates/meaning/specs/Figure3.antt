@@ -2,14 +2,15 @@
 --     Action, Doomed, Viable    e or τ; the doomed terms; the others
 --     Step                      P goes to Q by one action
 --     Chain                     P goes to Q by steps that emit a list of events
--- A rule is quoted as premises ⊢ conclusion; D is a doomed term, and a hat, as in P^, marks one that is not.
--- Assumes nothing.
+-- A rule is quoted as premises ⊢ conclusion; D is a doomed term, and a hat, as in P̂, marks one that is not.
+-- The laws are in `Figure3/Laws.antt`. Assumes nothing.
 use Prim.Native.Nat.{ℕ}
 use mathlib.Core.Bool.{not}
 use mathlib.Core.List.{List, [], _∷_}
 use lib.Dec.{T}
 use Rattle.table.specs.Table.{Table}
 use Rattle.meaning.specs.Figure1.{SetRef, Term, fail, prefix, choice, par, call, body, member, sub}
+pub mod Laws
 
 -- "Action a ::= e | τ"
 pub data Action : Type 0 where
@@ -17,7 +18,7 @@ pub data Action : Type 0 where
   τ : Action
 
 module _ (t : Table) where
-  -- "Doomed Term D ::= FAIL | D □ D | D ||E P | P ||E D"
+  -- "Doomed Term D ∈ Doomed ::= FAIL | D □ D | D ||E P | P ||E D"
   pub data Doomed : Term → Type 0 where
     d-fail : Doomed fail
     d-choice : {P Q : Term} → Doomed P → Doomed Q → Doomed (choice P Q)
@@ -26,7 +27,7 @@ module _ (t : Table) where
     -- ours; 01, "Meaning by steps": "a call of a doomed body"
     d-call : {d : ℕ} → Doomed (body t d) → Doomed (call d)
 
-  -- "Viable Term P^ ∈ Terms − Doomed"
+  -- "Viable Term P̂ , Q̂ ∈ Terms−Doomed"
   abbrev pub Viable : Term → Type 0
   Viable P = Doomed P → ⊥
 
@@ -50,15 +51,15 @@ module _ (t : Table) where
     choice-left : {P P′ Q : Term} {e : ℕ} → Step P (event e) P′ → Step (choice P Q) (event e) P′
     -- Q –e→ Q′  ⊢  P □ Q –e→ Q′
     choice-right : {P Q Q′ : Term} {e : ℕ} → Step Q (event e) Q′ → Step (choice P Q) (event e) Q′
-    -- P –a→ P′, a ∉ E  ⊢  P ||E Q^ –a→ P′ ||E Q^
+    -- P –a→ P′, a ∉ E  ⊢  P ||E Q̂ –a→ P′ ||E Q̂
     par-left : {E : SetRef} {P P′ Q : Term} {a : Action}
         → Step P a P′ → Outside E a → Viable Q
         → Step (par E P Q) a (par E P′ Q)
-    -- Q –a→ Q′, a ∉ E  ⊢  P^ ||E Q –a→ P^ ||E Q′
+    -- Q –a→ Q′, a ∉ E  ⊢  P̂ ||E Q –a→ P̂ ||E Q′
     par-right : {E : SetRef} {P Q Q′ : Term} {a : Action}
         → Step Q a Q′ → Outside E a → Viable P
         → Step (par E P Q) a (par E P Q′)
-    -- P^ –e→ P′, Q^ –e→ Q′, e ∈ E  ⊢  P^ ||E Q^ –e→ P′ ||E Q′
+    -- P̂ –e→ P′, Q̂ –e→ Q′, e ∈ E  ⊢  P̂ ||E Q̂ –e→ P′ ||E Q′
     par-both : {E : SetRef} {P P′ Q Q′ : Term} {e : ℕ}
         → Viable P → Viable Q → Step P (event e) P′ → Step Q (event e) Q′ → In E e
         → Step (par E P Q) (event e) (par E P′ Q′)

@@ -2,6 +2,7 @@
 --     guarded-more, guarded-sub     a larger bound; [e/x]P has the calls of P
 --     doomed-empty                  a doomed term holds no trace
 --     silent-sound, visible-sound, visible-complete    what a step does to the traces
+--     term-decided                  a term is doomed or holds the empty trace, where the bodies that it calls are or do
 --     doomed-or-holds               a well formed term is doomed or holds the empty trace
 --     step-formed, chain-formed     steps keep a term well formed
 --     theorem3, lemma5              the theorem; the lemma
@@ -110,7 +111,7 @@ module _ (t : Table) where
   par-decided (inr h) (inr k) = inr (h-par m-none h k)
 
   -- of a term, from the same of the definitions that it calls with no prefix around
-  term-decided : (n d : ℕ) → ((c : ℕ) → c < d → Decided (body t c)) → (P : Term) → Guarded n d P → Decided P
+  pub term-decided : (n d : ℕ) → ((c : ℕ) → c < d → Decided (body t c)) → (P : Term) → Guarded n d P → Decided P
   term-decided n d below stop g = inr h-stop
   term-decided n d below fail g = inl d-fail
   term-decided n d below (prefix S P) g = inr h-wait

@@ -7,18 +7,14 @@
 use Prim.Native.Nat.{ℕ, suc, _-_, _≤_, _<_}
 use native.Mathlib.Omega.{arith}
 use native.Mathlib.Decide.{decLt}
-use mathlib.Core.Bool.{Bool, true, false, _||_}
-use mathlib.Core.List.{List, [], _∷_}
 use mathlib.Core.Path.{_≡_, refl, ap, ap₂, sym, _∙_}
 use borrow.Author.Tests.{le-ltb, lt-ltb, eq-eqb, ne-eqb}
-use lib.Dec.{eqb}
-use lib.ListN.{getD}
 use Rattle.table.specs.Table
-use Rattle.table.specs.Table.{Table, SetDef, one, each}
+use Rattle.table.specs.Table.{Table}
 use Rattle.table.specs.Memory.{Memory, digit, remember}
 use Rattle.table.specs.Memory.Laws.{digit-first, digit-remember}
 use Rattle.table.specs.Member
-use Rattle.meaning.specs.Figure1.{Arg, var, ev, family, Term, prefix, choice, par, isIn, rowOf, member}
+use Rattle.meaning.specs.Figure1.{Arg, var, ev, family, Term, prefix, choice, par, member}
 use Rattle.meaning.specs.Figure1.{subArg, subSet, sub, plainRef, plain, Guarded}
 use Rattle.meaning.specs.Closing.{closeArg, closeRef, close, ScopedRef, Scoped}
 
@@ -117,34 +113,14 @@ close-plain c m (Table.call n) s = refl
 
 -- ---- event sets
 
-either-elim : (a b : Bool) → (a || b) ≡ elim a [ true ↦ true | false ↦ b ]
-either-elim true b = refl
-either-elim false b = refl
-
-isIn-elem : (e : ℕ) (l : List ℕ) → isIn e l ≡ Member.elem e l
-unfolding isIn Member.elem
-isIn-elem e [] = refl
-isIn-elem e (x ∷ l) = ap (λ (b : Bool). eqb e x || b) (isIn-elem e l) ∙ either-elim (eqb e x) (Member.elem e l)
-
-rowOf-rowIn : (s : SetDef) (v : ℕ) → rowOf s v ≡ Member.rowIn s v
-unfolding rowOf Member.rowIn
-rowOf-rowIn (one r) v = refl
-rowOf-rowIn (each rs) v = refl
-
-row-member : (t : Table) (n v e : ℕ) → isIn e (rowOf (getD (t .sets) n (one [])) v)
-    ≡ Member.elem e (Member.rowIn (getD (t .sets) n (one [])) v)
-row-member t n v e =
-    isIn-elem e (rowOf (getD (t .sets) n (one [])) v) ∙ ap (Member.elem e) (rowOf-rowIn (getD (t .sets) n (one [])) v)
-
 pub member-close : (t : Table) (m : Memory) (r : Table.SetRef) (e : ℕ)
     → member t (closeRef 0 m r) e ≡ Member.member t r m e
 unfolding member closeRef Member.member Member.inRow Member.rowOf Member.recalled
-member-close t m (Table.fixed n) e = row-member t n 0 e
+member-close t m (Table.fixed n) e = refl
 member-close t m (Table.family n k) e =
     let z : k - 0 ≡ k = omega arith in
     ap (λ (a : Arg). member t (family n a) e) (closeArg-out 0 m k (omega arith))
     ∙ ap (λ (x : ℕ). member t (family n (ev (digit m x))) e) z
-    ∙ row-member t n (digit m k) e
 
 -- ---- calls
 

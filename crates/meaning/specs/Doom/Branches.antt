@@ -16,6 +16,7 @@ use Rattle.table.specs.Equations.{branches-call}
 use Rattle.table.specs.Rules.{Rules}
 use Rattle.meaning.specs.Figure1.{SetRef, Term, choice, par, call, plain, body, count, Guarded, WellFormed}
 use Rattle.meaning.specs.Figure3.{Doomed, d-fail, d-choice, d-left, d-right, d-call}
+use Rattle.meaning.specs.Figure3.Laws.{call-doomed}
 use Rattle.meaning.specs.Closing.{close}
 use Rattle.meaning.specs.Closing.Laws.{close-plain}
 use Rattle.meaning.specs.Formed.{rules-guarded, rules-scoped}
@@ -33,9 +34,6 @@ module _ (t : Table) where
   par-doomed : {S : SetRef} {P Q : Term} → Doomed t (par S P Q) → Doomed t P ⊎ Doomed t Q
   par-doomed (d-left p) = inl p
   par-doomed (d-right q) = inr q
-
-  call-doomed : {d : ℕ} → Doomed t (call d) → Doomed t (body t d)
-  call-doomed (d-call p) = p
 
   -- ---- of a term, from the same of the definitions that it calls with no prefix around
 
@@ -78,7 +76,7 @@ module _ (t : Table) where
         let x = term-barren (count t) e (λ e′ k. call-barren d (omega arith) e′ (omega arith)) p g 0 noMemory in
         let y : close 0 noMemory p ≡ body t e = close-plain 0 noMemory p (rules-scoped t rules e l) in
         let z = branches-call t (no-wrong t rules) e l in (
-          λ k. z ∙ x .0 (subst (λ (P : Term). Doomed t P) (sym y) (call-doomed k)),
+          λ k. z ∙ x .0 (subst (λ (P : Term). Doomed t P) (sym y) (call-doomed t k)),
           λ k. d-call (subst (λ (P : Term). Doomed t P) y (x .1 (sym z ∙ k))),
         )
 

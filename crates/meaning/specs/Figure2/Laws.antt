@@ -1,5 +1,5 @@
--- The parallel of trace sets: it is prefix-closed whatever its sides are, meets equations (1) and (2), and nothing
--- else does.
+-- The parallel of trace sets: it is prefix-closed whatever its sides are, meets equations (1) and (2), and of
+-- prefix-closed sides nothing else does.
 --     parallel-sides     its two sides have a trace
 --     parallel-closed    it holds the beginnings of its traces
 --     is-parallel, parallel-only    it meets the equations; any operator that does is the same
@@ -78,25 +78,28 @@ module _ (E : ℕ → Bool) where
       (λ h. next-in (Parallel E) X Y e s (h .2), λ h. (x, y, next-out (Parallel E) X Y e s h))
 
   pub is-parallel : IsParallel E (Parallel E)
-  is-parallel = record { empty = parallel-sides; other = parallel-splits }
+  is-parallel = record { empty = λ X Y cx cy. parallel-sides X Y; other = λ X Y cx cy. parallel-splits X Y }
 
   -- 000, 2: "the solution is unique", "by straightforward induction on the trace's length"
   module _ (op : TraceSet → TraceSet → TraceSet) (is : IsParallel E op) where
-    pub parallel-only : (s : List ℕ) (X Y : TraceSet) → op X Y s ↔ Parallel E X Y s
-    parallel-only [] X Y = (is .empty X Y [], λ h. is .other X Y (h .0) (h .1) [] .1 (split-empty op X Y))
-    parallel-only (e ∷ s) X Y =
-        let both = parallel-only s (after X e) (after Y e) in
-        let left = parallel-only s (after X e) Y in
-        let right = parallel-only s X (after Y e) in (
-          λ h. let (x, y) = is .empty X Y (e ∷ s) h in (
+    pub parallel-only : (s : List ℕ) (X Y : TraceSet) → PrefixClosed X → PrefixClosed Y → op X Y s ↔ Parallel E X Y s
+    parallel-only [] X Y cx cy =
+        (is .empty X Y cx cy [], λ h. is .other X Y cx cy (h .0) (h .1) [] .1 (split-empty op X Y))
+    parallel-only (e ∷ s) X Y cx cy =
+        let dx : PrefixClosed (after X e) = λ r. cx (e ∷ r) in
+        let dy : PrefixClosed (after Y e) = λ r. cy (e ∷ r) in
+        let both = parallel-only s (after X e) (after Y e) dx dy in
+        let left = parallel-only s (after X e) Y dx cy in
+        let right = parallel-only s X (after Y e) cx dy in (
+          λ h. let (x, y) = is .empty X Y cx cy (e ∷ s) h in (
             x,
             y,
             ⊎-elim
                 (λ p. inl (p .0, both .0 (p .1)))
                 (λ p. inr (p .0, ⊎-elim (λ q. inl (left .0 q)) (λ q. inr (right .0 q)) (p .1)))
-                (next-out op X Y e s (is .other X Y x y (e ∷ s) .0 h)),
+                (next-out op X Y e s (is .other X Y cx cy x y (e ∷ s) .0 h)),
           ),
-          λ h. is .other X Y (h .0) (h .1) (e ∷ s) .1 (next-in op X Y e s (⊎-elim
+          λ h. is .other X Y cx cy (h .0) (h .1) (e ∷ s) .1 (next-in op X Y e s (⊎-elim
               (λ p. inl (p .0, both .1 (p .1)))
               (λ p. inr (p .0, ⊎-elim (λ q. inl (left .1 q)) (λ q. inr (right .1 q)) (p .1)))
               (h .2))),
