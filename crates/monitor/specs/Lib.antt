@@ -20,6 +20,8 @@ pub mod Offers
 pub mod Examples
 pub mod Cases
 pub mod Buffers
+pub mod Record
+pub mod Walk
 pub mod Claims
 pub mod Part
 pub mod Regular

@@ -1,4 +1,4 @@
--- View: the part that it hands back (01, "Operations"). The law is in `View/Laws.antt`. Assumes nothing.
+-- View: the part that it hands back (01, "Operations"). The laws are in `View/`: `Laws`, `Cases`. Assumes nothing.
 use Prim.Native.Nat.{ℕ, _*_}
 use mathlib.Core.Bool.{true, false}
 use mathlib.Core.List.{List, []}
@@ -6,6 +6,7 @@ use lib.ListN.{length, take}
 use lib.Dec.{ltb}
 use Rattle.monitor.specs.State.{Verdict, running, failedAt, Monitor, even, choose}
 pub mod Laws
+pub mod Cases
 
 -- "If count × 16 exceeds that area, or after failure, it is the empty beginning of area 0."
 unfoldable pub viewBy : Verdict → ℕ → List ℕ → List ℕ

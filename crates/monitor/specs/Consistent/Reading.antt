@@ -56,7 +56,7 @@ unfolding ascends
 ascends-split [] h = tt
 ascends-split (x ∷ l) h = ascends-split-from l x h
 
-zero-split : (l : List ℕ) → allZero l ≡ true → l ≡ zeros (length l)
+pub zero-split : (l : List ℕ) → allZero l ≡ true → l ≡ zeros (length l)
 unfolding allZero every
 zero-split [] h = refl
 zero-split (x ∷ l) h =
@@ -119,7 +119,7 @@ area-empty n a l z = let d : length a ≡ (n - 0) * 16 = omega arith in zero-spl
 not-split : (b : Bool) → not b ≡ true → b ≡ false
 not-split b h = not-true b h
 
-verdict-room : (v : Verdict) (k c n : ℕ) → verdictFits v k c n ≡ true → c ≤ n
+pub verdict-room : (v : Verdict) (k c n : ℕ) → verdictFits v k c n ≡ true → c ≤ n
 unfolding verdictFits
 verdict-room running k c n h =
     let (x, y) = and-split (ltb 0 c) (not (ltb n c)) h in

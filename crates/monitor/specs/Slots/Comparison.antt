@@ -10,15 +10,15 @@ use Rattle.monitor.specs.Slots.{Order, below, same, above, compareWords}
 abbrev pub Less : List ℕ → List ℕ → Type 0
 Less a b = compareWords a b ≡ below
 
-cmp-lt : (x y : ℕ) (a b : List ℕ) → x < y → compareWords (x ∷ a) (y ∷ b) ≡ below
+pub cmp-lt : (x y : ℕ) (a b : List ℕ) → x < y → compareWords (x ∷ a) (y ∷ b) ≡ below
 unfolding compareWords
 cmp-lt x y a b h = rw (lt-ltb _ _ h, compareWords)
 
-cmp-gt : (x y : ℕ) (a b : List ℕ) → y < x → compareWords (x ∷ a) (y ∷ b) ≡ above
+pub cmp-gt : (x y : ℕ) (a b : List ℕ) → y < x → compareWords (x ∷ a) (y ∷ b) ≡ above
 unfolding compareWords
 cmp-gt x y a b h = let k : y ≤ x = omega arith in rw (le-ltb _ _ k, lt-ltb _ _ h, compareWords)
 
-cmp-eq : (x y : ℕ) (a b : List ℕ) → x ≡ y → compareWords (x ∷ a) (y ∷ b) ≡ compareWords a b
+pub cmp-eq : (x y : ℕ) (a b : List ℕ) → x ≡ y → compareWords (x ∷ a) (y ∷ b) ≡ compareWords a b
 unfolding compareWords
 cmp-eq x y a b h =
     let k : y ≤ x = omega arith in

@@ -90,7 +90,7 @@ pub chunks-fill : (n : ℕ) (ss : List (List ℕ)) → All Sixteen ss → chunks
 unfolding fill
 chunks-fill n ss h = chunks-concat ss (zeros ((n - length ss) * 16)) h
 
-zero-zeros : (n : ℕ) → allZero (zeros n) ≡ true
+pub zero-zeros : (n : ℕ) → allZero (zeros n) ≡ true
 unfolding allZero every
 zero-zeros zero = refl
 zero-zeros (suc n) = zero-zeros n

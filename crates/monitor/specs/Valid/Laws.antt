@@ -58,7 +58,7 @@ module _ (t : Table) where
   memories-fit (pair n m l r) (f, a, b) =
       and-true (memory-fits (t .alphabet) (enclosing t n) m f) (and-true (memories-fit l a) (memories-fit r b))
 
-  valid-at : (w : List ℕ) (r : Residual) → slotResidual t w ≡ some r
+  pub valid-at : (w : List ℕ) (r : Residual) → slotResidual t w ≡ some r
       → validSlot t w ≡ (isSame (compareWords (slotOf r) w) && (memoriesFit t r && leb (reachSum t r) 8))
   unfolding validSlot
   valid-at w r e = rw (e, validSlot)
@@ -99,10 +99,10 @@ fits-memory a c m h (suc (suc (suc zero))) l =
     (and-split (digitFits a c 1 (m .m1)) _ (and-split (digitFits a c 0 (m .m0)) _ h .1) .1) .1)
 fits-memory a c m h (suc (suc (suc (suc i)))) l = absurd (omega arith)
 
-some-same : {A : Type 0} (x y : A) → some x ≡ some y → x ≡ y
+pub some-same : {A : Type 0} (x y : A) → some x ≡ some y → x ≡ y
 some-same x y p = cc
 
-none-some : {A X : Type 0} (x : A) → none ≡ some x → X
+pub none-some : {A X : Type 0} (x : A) → none ≡ some x → X
 none-some x p = absurd (let z : _≡_ {A = ℕ} 0 1 = cc in omega arith)
 
 module _ (t : Table) where
@@ -135,20 +135,20 @@ module _ (t : Table) where
   plant-sound n m (par s x y) e rs qs h p = join-sound n m x x y s e rs qs h p
   plant-sound n m (call d) e rs qs h p = none-some qs p
 
-  plant-none : (w : ℕ) (rs : List Residual) → termAt t (termOf w) ≡ none → plantWord t w rs ≡ none
+  pub plant-none : (w : ℕ) (rs : List Residual) → termAt t (termOf w) ≡ none → plantWord t w rs ≡ none
   unfolding plantWord
   plant-none w rs e = rw (e, plantWord)
 
-  plant-some : (w : ℕ) (rs : List Residual) (x : Term) → termAt t (termOf w) ≡ some x
+  pub plant-some : (w : ℕ) (rs : List Residual) (x : Term) → termAt t (termOf w) ≡ some x
       → plantWord t w rs ≡ plant (termOf w) (memoryOf w) rs x
   unfolding plantWord
   plant-some w rs x e = rw (e, plantWord)
 
-  forest-none : (w : ℕ) (ws : List ℕ) → forest t ws ≡ none → forest t (w ∷ ws) ≡ none
+  pub forest-none : (w : ℕ) (ws : List ℕ) → forest t ws ≡ none → forest t (w ∷ ws) ≡ none
   unfolding forest
   forest-none w ws e = rw (e, forest)
 
-  forest-some : (w : ℕ) (ws : List ℕ) (rs : List Residual) → forest t ws ≡ some rs
+  pub forest-some : (w : ℕ) (ws : List ℕ) (rs : List Residual) → forest t ws ≡ some rs
       → forest t (w ∷ ws) ≡ plantWord t w rs
   unfolding forest
   forest-some w ws rs e = rw (e, forest)
@@ -174,11 +174,11 @@ module _ (t : Table) where
   one-sound (q ∷ []) r h p = subst (Sound t) (some-same q r p) (h .0)
   one-sound (q ∷ q′ ∷ rs) r h p = none-some r p
 
-  slot-none : (c : ℕ) (ws : List ℕ) → forest t (take c ws) ≡ none → slotResidual t (c ∷ ws) ≡ none
+  pub slot-none : (c : ℕ) (ws : List ℕ) → forest t (take c ws) ≡ none → slotResidual t (c ∷ ws) ≡ none
   unfolding slotResidual
   slot-none c ws e = rw (e, slotResidual)
 
-  slot-some : (c : ℕ) (ws : List ℕ) (rs : List Residual) → forest t (take c ws) ≡ some rs
+  pub slot-some : (c : ℕ) (ws : List ℕ) (rs : List Residual) → forest t (take c ws) ≡ some rs
       → slotResidual t (c ∷ ws) ≡ oneTree rs
   unfolding slotResidual
   slot-some c ws rs e = rw (e, slotResidual)
@@ -192,7 +192,7 @@ module _ (t : Table) where
       by none e = none-some r (sym (slot-none c ws e) ∙ p)
       by (some rs) e = one-sound rs r (forest-sound (take c ws) rs e) (sym (slot-some c ws rs e) ∙ p)
 
-  valid-none : (w : List ℕ) → slotResidual t w ≡ none → validSlot t w ≡ false
+  pub valid-none : (w : List ℕ) → slotResidual t w ≡ none → validSlot t w ≡ false
   unfolding validSlot
   valid-none w e = rw (e, validSlot)
 

@@ -1,0 +1,42 @@
+-- `consistent::area_fits` meets its contract: valid slots, their order, and then the rest decide. Assumes nothing.
+use mathlib.Core.Path.{sym, _∙_}
+use borrow.Author.Tests.{not-true, not-false}
+use Rattle.monitor.proofs.consistent.Cases.{slots-unfit, slots-mixed, rest-zero}
+use borrow.Author.Needs.{needs}
+use Rattle.monitor.proofs.consistent.area_fits.Statement.{statement}
+use Rattle.monitor.proofs.consistent.area_fits.Tie as tie
+
+slots-fit-requires : tie.Need-slots-fit-requires
+slots-fit-requires c κs = search needs
+
+returns : tie.Need-returns
+returns c = slots-unfit _ _ _ (sym (c .before .slots-fit .ensures) ∙ not-true _ (c .if1 .taken))
+
+slots-ascend-requires : tie.Need-slots-ascend-requires
+slots-ascend-requires c κs = search needs
+
+returns-2 : tie.Need-returns-2
+returns-2 c = slots-mixed _ _ _ (sym (c .before .before .before .slots-fit .ensures) ∙ not-false _ (c .before .before .if1 .left)) (sym (c .before .slots-ascend .ensures) ∙ not-true _ (c .if2 .taken))
+
+mul-all-zero : tie.Need-mul-all-zero
+mul-all-zero c = search needs
+
+all-zero-requires : tie.Need-all-zero-requires
+all-zero-requires c κs = search needs
+
+returns-3 : tie.Need-returns-3
+returns-3 c =
+    rest-zero _ _ _ _ (sym (c .before .before .before .before .slots-fit .ensures) ∙ not-false _ (c .before .before .before .if1 .left)) (sym (c .before .before .slots-ascend .ensures) ∙ not-false _ (c .before .if2 .left))
+    (c .all-zero .ensures)
+
+pub area-fits-spec : {M : Type 1} → statement M
+area-fits-spec =
+    tie.close
+    (tie.spec
+    slots-fit-requires
+    returns
+    slots-ascend-requires
+    returns-2
+    mul-all-zero
+    all-zero-requires
+    returns-3)

@@ -1,0 +1,89 @@
+-- `consistent::slots_fit` meets its contract. The invariant: the slots from the i-th on are valid exactly where all are.
+-- The measure is what is left of the count. Assumes nothing.
+use native.Mathlib.Omega.{arith}
+use Prim.Native.Nat.{_+_, _-_, _*_, _≤_}
+use mathlib.Core.Path.{_≡_, refl, ap, sym, _∙_}
+use borrow.Author.Tests.{not-true, not-false}
+use Rattle.table.specs.Index.{tableIn}
+use Rattle.monitor.specs.State.{chunks}
+use Rattle.monitor.specs.Valid.{validSlot}
+use Rattle.monitor.specs.Consistent.{every}
+use Rattle.monitor.proofs.consistent.SlotsTurn.{part-length, slotsFrom, slots-first, every-next, every-not, every-done}
+use borrow.Author.Needs.{needs}
+use Rattle.monitor.proofs.consistent.slots_fit.Statement.{statement}
+use Rattle.monitor.proofs.consistent.slots_fit.Tie as tie
+
+abbrev Inv-loop : tie.InvT-loop
+Inv-loop list work area count i₀ i =
+    (i ≤ count)
+    × (every (validSlot (tableIn list)) (slotsFrom area count i) ≡ every (validSlot (tableIn list)) (chunks count area))
+
+abbrev μ-loop : tie.MeasureT-loop
+μ-loop list work area count i₀ i = count - i
+
+loop-holds : tie.Need-loop-holds Inv-loop μ-loop
+loop-holds c = (omega arith, ap (every (validSlot (tableIn (c .before .before .before .args .list .now)))) (slots-first _ _))
+
+mul-p : tie.Need-mul-p Inv-loop μ-loop
+mul-p c = search needs
+
+add-q : tie.Need-add-q Inv-loop μ-loop
+add-q c = search needs
+
+mul-slot-fits : tie.Need-mul-slot-fits Inv-loop μ-loop
+mul-slot-fits c = search needs
+
+sub-slot-fits : tie.Need-sub-slot-fits Inv-loop μ-loop
+sub-slot-fits c = search needs
+
+part-slot-fits-start : tie.Need-part-slot-fits-start Inv-loop μ-loop
+part-slot-fits-start c = search needs
+
+part-slot-fits-end : tie.Need-part-slot-fits-end Inv-loop μ-loop
+part-slot-fits-end c = search needs
+
+slot-fits-requires : tie.Need-slot-fits-requires Inv-loop μ-loop
+slot-fits-requires c κs =
+    let i = c .before .before .loop .i in
+    (c .before .before .before .before .before .before .pre .0, part-length (i * 16) (i * 16 + 16) _ refl (omega arith))
+
+returns : tie.Need-returns Inv-loop μ-loop
+returns c =
+    every-not (c .before .before .before .before .before .before .before .before .args .area .now) (c .before .before .before .before .before .before .before .before .args .count) (c .before .before .before .before .loop .i) (validSlot (tableIn (c .before .before .before .before .before .before .before .before .args .list .now))) (c .before .before .before .loop-test .taken)
+    (sym (c .before .slot-fits .ensures) ∙ not-true _ (c .if1 .taken))
+    ∙ c .before .before .before .before .loop .inv .1
+
+add-i : tie.Need-add-i Inv-loop μ-loop
+add-i c = search needs
+
+loop-less : tie.Need-loop-less Inv-loop μ-loop
+loop-less c = search needs
+
+loop-again : tie.Need-loop-again Inv-loop μ-loop
+loop-again c =
+    let e = every-next (c .before .before .before .before .before .before .before .before .args .area .now) (c .before .before .before .before .before .before .before .before .args .count) (c .before .before .before .before .loop .i) (validSlot (tableIn (c .before .before .before .before .before .before .before .before .args .list .now))) (c .before .before .before .loop-test .taken)
+    (sym (c .before .slot-fits .ensures) ∙ not-false _ (c .if1 .left)) in
+    (omega arith, e ∙ c .before .before .before .before .loop .inv .1)
+
+returns-2 : tie.Need-returns-2 Inv-loop μ-loop
+returns-2 c = every-done (c .before .before .before .before .before .args .area .now) (c .before .before .before .before .before .args .count) (c .before .loop .i) (validSlot (tableIn (c .before .before .before .before .before .args .list .now))) (c .loop-test .left) ∙ c .before .loop .inv .1
+
+pub slots-fit-spec : {M : Type 1} → statement M
+slots-fit-spec =
+    tie.close
+    (tie.spec
+    Inv-loop
+    μ-loop
+    loop-holds
+    mul-p
+    add-q
+    mul-slot-fits
+    sub-slot-fits
+    part-slot-fits-start
+    part-slot-fits-end
+    slot-fits-requires
+    returns
+    add-i
+    loop-less
+    loop-again
+    returns-2)

@@ -1,0 +1,8 @@
+-- What the proofs on valid slots share, on plain values, one law for each way out of a turn.
+--     Digits                           of `digit_fits` and `memory_fits`, and `digit` of words
+--     ZeroTurn, BelowTurn, WalkTurn    of `all_zero`, `below` and `walk`
+-- Assumes nothing.
+pub mod Digits
+pub mod ZeroTurn
+pub mod BelowTurn
+pub mod WalkTurn

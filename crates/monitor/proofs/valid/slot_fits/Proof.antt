@@ -1,0 +1,51 @@
+-- `valid::slot_fits` meets its contract: the count, the words after the nodes, and then the walk decide.
+-- Assumes nothing.
+use mathlib.Core.Path.{sym, _∙_}
+use borrow.Author.Tests.{not-true, not-false}
+use Rattle.monitor.specs.Walk.Validity.{slot-empty, slot-large, slot-rest, slot-walk}
+use borrow.Author.Needs.{needs}
+use Rattle.monitor.proofs.valid.slot_fits.Statement.{statement}
+use Rattle.monitor.proofs.valid.slot_fits.Tie as tie
+
+shared-slice-read-count : tie.Need-shared-slice-read-count
+shared-slice-read-count c = search needs
+
+returns : tie.Need-returns
+returns c = slot-empty _ _ (c .before .before .before .before .before .pre .1) (c .if1 .taken)
+
+returns-2 : tie.Need-returns-2
+returns-2 c = slot-large _ _ (c .before .before .before .before .before .before .pre .1) (c .if2 .taken)
+
+add-all-zero : tie.Need-add-all-zero
+add-all-zero c = search needs
+
+all-zero-requires : tie.Need-all-zero-requires
+all-zero-requires c κs = search needs
+
+returns-3 : tie.Need-returns-3
+returns-3 c = slot-rest _ _ (c .before .before .before .before .before .before .before .before .pre .1) (c .before .before .if2 .left) (sym (c .before .all-zero .ensures) ∙ not-true _ (c .if3 .taken))
+
+walk-requires : tie.Need-walk-requires
+walk-requires c κs = search needs
+
+whole-requires : tie.Need-whole-requires
+whole-requires c κs = search needs
+
+returns-4 : tie.Need-returns-4
+returns-4 c =
+    slot-walk _ _ (c .before .before .before .before .before .before .before .before .before .before .pre .1) (c .before .before .before .before .if2 .left)
+    (sym (c .before .before .before .all-zero .ensures) ∙ not-false _ (c .before .before .if3 .left)) _ _ (c .before .walk .ensures) (c .whole .ensures)
+
+pub slot-fits-spec : {M : Type 1} → statement M
+slot-fits-spec =
+    tie.close
+    (tie.spec
+    shared-slice-read-count
+    returns
+    returns-2
+    add-all-zero
+    all-zero-requires
+    returns-3
+    walk-requires
+    whole-requires
+    returns-4)
