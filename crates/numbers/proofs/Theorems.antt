@@ -1,12 +1,13 @@
 -- The claims of `specs/Claims.antt`, proved from the laws of `specs/Number/`, and the worked examples, by computing.
 -- Assumes nothing.
 use Rattle.numbers.specs.Claims.{ReadBack, Canonical, TruncatedExactly, MalformedExactly, RefusalNumbers}
-use Rattle.numbers.specs.Claims.{AtMostThree, Limit}
+use Rattle.numbers.specs.Claims.{AtMostThree, Fewest, ByteCount, Limit}
+use mathlib.Core.Path.{sym}
 use Rattle.numbers.specs.Examples.{Examples}
 use Rattle.numbers.specs.Number.{groups, carry, later, scanWith}
 use Rattle.numbers.specs.Number.Groups.{limit-65536, scan-written, scan-is-written}
 use Rattle.numbers.specs.Number.Unread.{truncated-out, truncated-in, malformed-out, malformed-in}
-use Rattle.numbers.specs.Number.Laws.{bytes-few}
+use Rattle.numbers.specs.Number.Laws.{bytes-few, fewest as few-groups, length-bytesOf}
 use Rattle.numbers.specs.Position.Laws.{number-3, number-4}
 
 pub read-back : ReadBack
@@ -32,6 +33,14 @@ refusal-numbers s at w = (number-3 s at w, number-4 s at w)
 pub at-most-three : AtMostThree
 unfolding AtMostThree
 at-most-three v = bytes-few v
+
+pub fewest : Fewest
+unfolding Fewest
+fewest gs h a = few-groups gs h a
+
+pub byte-count : ByteCount
+unfolding ByteCount
+byte-count v = sym (length-bytesOf v)
 
 pub limit : Limit
 unfolding Limit

@@ -5,9 +5,12 @@
 --     TruncatedExactly, MalformedExactly    when nothing is read: bytes that end within a number, and all others
 --     RefusalNumbers 01's numbers of what `read` answers, by the bytes at the position
 --     AtMostThree    a number's bytes are three at most
+--     Fewest         no other groups of seven bits that give the number are fewer
+--     ByteCount      how many bytes a number has, by its size
 --     Limit          the numbers of three bytes are those up to 65,535
 --     Examples       the worked examples, in `Examples.antt`
--- The first four are of any count of bytes (`more` after the first) and any greatest last byte, `top`.
+-- The first four are of any count of bytes (`more` after the first) and any greatest last byte, `top`, the last two of
+-- these for `top` from 1 on.
 -- Assumes nothing.
 use Prim.Native.Nat.{ℕ, _≤_, _<_}
 use mathlib.Core.Path.{_≡_}
@@ -15,6 +18,8 @@ use mathlib.Core.Logic.{_↔_}
 use mathlib.Core.List.{List, _++_}
 use lib.ListN.{length, drop}
 use Rattle.numbers.specs.Number.{Bytes, groups, bytesOf, value, truncated, malformed, scanWith, limitOf, Scanned}
+use Rattle.numbers.specs.Every.{All}
+use Rattle.numbers.specs.Number.{valueOf, byteCount}
 use Rattle.numbers.specs.Number.{IncompleteWith, IllWrittenWith, Incomplete, IllWritten}
 use Rattle.numbers.specs.Position.{refusalNumber, readAt}
 
@@ -24,7 +29,7 @@ ReadBack =
     (more top v : ℕ) (s : List ℕ) → v < limitOf more top
     → scanWith more top (groups more v ++ s) ≡ value v (length (groups more v)) s
 
--- 01, "Numbers and table": "It has the fewest bytes", "and is at most 65,535"
+-- 01, "Numbers and table": "and is at most 65,535"
 unfoldable pub Canonical : Type 0
 Canonical =
     (more top : ℕ) (s : List ℕ) (v n : ℕ) (rest : List ℕ) → Bytes s
@@ -49,6 +54,14 @@ RefusalNumbers = (s : List ℕ) (at : ℕ) → Bytes s
 -- 01, "Numbers and table": "at most three"
 unfoldable pub AtMostThree : Type 0
 AtMostThree = (v : ℕ) → length (bytesOf v) ≤ 3
+
+-- 01, "Numbers and table": "It has the fewest bytes": of all nonempty lists of groups below 128 that give the number,
+-- lowest first
+unfoldable pub Fewest : Type 0
+Fewest = (gs : List ℕ) → 1 ≤ length gs → All (λ g. g < 128) gs → length (bytesOf (valueOf gs)) ≤ length gs
+
+unfoldable pub ByteCount : Type 0
+ByteCount = (v : ℕ) → byteCount v ≡ length (bytesOf v)
 
 -- 01, "Numbers and table": "at most 65,535"
 unfoldable pub Limit : Type 0

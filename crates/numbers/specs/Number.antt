@@ -1,6 +1,7 @@
 -- A number's bytes (01, "Numbers and table": "A number is written in groups of seven bits").
 --     groups, bytesOf       the bytes of a number, with a given count of bytes that may follow the first, and with two
 --     scanWith, readNumber  the number at the head of some bytes, likewise;  Scan: what stands there
+--     valueOf               the number that groups of seven bits give
 --     byteCount, listBytes  how many bytes a number takes; the bytes of a list of numbers
 --     limitOf               the first number that no longer fits
 --     Scanned               what was read is just what would be written
@@ -34,6 +35,11 @@ groups (suc k) v = cond (ltb v 128) (v ∷ []) ((v % 128 + 128) ∷ groups k (v 
 -- "at most three"
 unfoldable pub bytesOf : ℕ → List ℕ
 bytesOf v = groups 2 v
+
+-- the number that groups of seven bits give, "lowest group first"
+unfoldable pub valueOf : List ℕ → ℕ
+valueOf [] = 0
+valueOf (g ∷ gs) = g + valueOf gs * 128
 
 -- value: the number, how many bytes it takes, and the bytes after it.
 -- 01, "When the monitor declines": truncated is "cut short", malformed "loose number"

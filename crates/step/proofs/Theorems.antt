@@ -1,6 +1,6 @@
--- The claims of `specs/Claims.antt`, proved from the laws of `specs/Successors/`, and the worked examples, by computing.
+-- The claims of `specs/Claims.antt`, proved from the laws of `specs/Successors/`, and the worked examples, by
+-- computing.
 -- Assumes nothing.
-use lib.Dec.{T}
 use Rattle.table.specs.Table.{size, sizes, bodyNumber}
 use Rattle.table.specs.Writing.{refNumbers, termNumbers, definitionNumbers, rowNumbers, setNumbers}
 use Rattle.table.specs.Branches.{bodyIn}
@@ -8,7 +8,8 @@ use Rattle.table.specs.Node.{nodes, nodesFrom, nodesOf, nodeAt, definitionsAt, 
 use Rattle.table.specs.Member.{elem, rowIn, rowOf, inRow}
 use Rattle.step.specs.Slots.{order}
 use Rattle.step.specs.Words.{nodeWord, digitOf, remember, inSet}
-use Rattle.step.specs.Residual.{resolve, resolvedBelow, resolved, leafAfter, after, pairs, words, pushed, pushAll}
+use Rattle.step.specs.Residual.{resolve, resolvedBelow, resolved, leafAfter, after, pairs, words, pushed}
+use Rattle.step.specs.Residual.{pushAll}
 use Rattle.step.specs.Distinct.{sameWords}
 use Rattle.step.specs.Walk.{onto}
 use Rattle.step.specs.Canon.{insertSlot, canonFrom}
@@ -26,5 +27,8 @@ unfolding StepExceeds
 step-exceeds t e src rs h s most k = exceeded t e src rs h s most k
 
 pub examples : Examples
-unfolding Examples holds standing sameWords canon slotsOf onto allAfter after leafAfter resolved resolvedBelow resolve pairs words nodeWord pushAll pushed canonFrom insertSlot order termOf nodeAt nodesOf nodesFrom nodes definitionsAt size sizes bodyIn bodyNumber kindOf refOf digitOf elem rowIn rowOf inRow inSet remember refNumbers termNumbers definitionNumbers rowNumbers setNumbers
+unfolding Examples holds standing sameWords canon slotsOf onto allAfter after leafAfter resolved resolvedBelow resolve
+    pairs words nodeWord pushAll pushed canonFrom insertSlot order termOf nodeAt nodesOf nodesFrom nodes definitionsAt
+    size sizes bodyIn bodyNumber kindOf refOf digitOf elem rowIn rowOf inRow inSet remember refNumbers termNumbers
+    definitionNumbers rowNumbers setNumbers
 examples = tt

@@ -5,7 +5,7 @@
 --     Slots                     lists of sixteen words
 -- The laws are in `Canon/Laws.antt` (areas) and `Canon/Sets.antt` (what comes out depends on the members only).
 -- Assumes nothing.
-use Prim.Native.Nat.{ℕ, _+_, _-_, _*_, _<_, _≤_}
+use Prim.Native.Nat.{ℕ, _-_, _*_}
 use mathlib.Core.Path.{_≡_}
 use mathlib.Core.List.{List, [], _∷_, _++_}
 use lib.ListN.{length, replicate}

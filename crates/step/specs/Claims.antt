@@ -3,7 +3,8 @@
 --     StepHolds       the slots of the residuals after the event, where they fit
 --     StepExceeds     no room, where they do not
 --     Examples        the worked examples, in `Examples.antt`
--- The first two are of `putAll .. (gathered ..)`, the value that `step_set` promises, from a zeroed area of `most` slots,
+-- The first two are of `putAll .. (gathered ..)`, the value that `step_set` promises, from a zeroed area of `most`
+-- slots,
 -- where an area holds the residuals `rs`. Assumes nothing.
 use Prim.Native.Nat.{ℕ, _*_, _<_, _≤_}
 use mathlib.Core.Path.{_≡_}

@@ -8,7 +8,7 @@
 -- after it. The laws are in `Course/Laws.antt`. Assumes nothing.
 use Prim.Native.Nat.{ℕ, _+_, _-_, _*_, _<_, _≤_, _^_}
 use mathlib.Core.Path.{_≡_}
-use mathlib.Core.List.{List, [], _∷_, _++_}
+use mathlib.Core.List.{List, [], _++_}
 use lib.ListN.{length, getD, drop}
 use Rattle.table.specs.Table.{Table}
 use Rattle.step.specs.Residual.{Residual, words}
@@ -30,7 +30,8 @@ nodesFrom store k = window k (nodeCount store + 1 - k) store
 pub record Node (t : Table) (bound e : ℕ) (store : List ℕ) (k : ℕ) : Type 0 where
   pub number : getD store (k * 257) 0 ≡ length (leafKept t e (getD store k 0))
   pub indices : window (k * 257 + 1) (length (leafKept t e (getD store k 0))) store ≡ leafKept t e (getD store k 0)
-  pub resolvable : 0 < length (leafKept t e (getD store k 0)) → Resolvable t bound (termOfWord (getD store k 0) + 1) (remember e (memoryOfWord (getD store k 0)))
+  pub resolvable : 0 < length (leafKept t e (getD store k 0)) → Resolvable t bound (termOfWord (getD store k 0) + 1)
+      (remember e (memoryOfWord (getD store k 0)))
 
 pub record Ready (t : Table) (bound e : ℕ) (store : List ℕ) : Type 0 where
   pub size : length store ≡ 4112
@@ -55,11 +56,13 @@ walked t e store k modes slot area count = putAll area count (onto slot (results
 -- what is left of a leaf's results from the j-th on
 unfoldable pub leafRest : Table → ℕ → List ℕ → ℕ → ℕ → List ℕ → List ℕ → ℕ → ℕ → Outcome
 leafRest t e store k rest slot area c j =
-    putAll area c (onto slot (joins (drop j (options t e (getD store k 0))) (results t e (nodesFrom store (k + 1)) rest)))
+    putAll area c
+    (onto slot (joins (drop j (options t e (getD store k 0))) (results t e (nodesFrom store (k + 1)) rest)))
 
 -- what is said of the tree at k: whether it may take the event, and where the next one starts
 pub record Told (t : Table) (e : ℕ) (store : List ℕ) (k : ℕ) (c : Tree) : Type 0 where
-  pub of : (r : Residual) (ws : List ℕ) → nodesFrom store k ≡ words r ++ ws → Valid t r → (c .moves ≡ mayMove t e r) × (c .next ≡ k + length (words r))
+  pub of : (r : Residual) (ws : List ℕ) → nodesFrom store k ≡ words r ++ ws → Valid t r → (c .moves ≡ mayMove t e r)
+      × (c .next ≡ k + length (words r))
 
 -- a tree stands at k
 pub record Stands (t : Table) (store : List ℕ) (k : ℕ) : Type 0 where

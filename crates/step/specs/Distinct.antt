@@ -6,7 +6,7 @@
 --     slotAt, Resolvable    the slot of the i-th residual of a term; what resolving all of a term's residuals asks
 --     Stored                indices stored in a list
 -- The laws are in `Distinct/Laws.antt`. Assumes nothing.
-use Prim.Native.Nat.{ℕ, zero, suc, _+_, _<_, _≤_}
+use Prim.Native.Nat.{ℕ, zero, suc, _<_, _≤_}
 use mathlib.Core.Path.{_≡_}
 use mathlib.Core.Bool.{Bool, true, false}
 use mathlib.Core.List.{List, [], _∷_, _++_}

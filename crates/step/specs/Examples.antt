@@ -5,8 +5,8 @@ use mathlib.Core.Bool.{Bool, true, _&&_}
 use mathlib.Core.List.{List, [], _∷_}
 use lib.ListN.{length}
 use lib.Dec.{T}
-use Rattle.table.specs.Table.{SetRef, fixed, family, Term, stop, fail, prefix, choice, par, call, one, each}
-use Rattle.table.specs.Table.{Definition, Table}
+use Rattle.table.specs.Table.{fixed, family, Term, stop, fail, prefix, choice, par, call, one, each, Definition}
+use Rattle.table.specs.Table.{Table}
 use Rattle.step.specs.Residual.{resolved}
 use Rattle.step.specs.Distinct.{sameWords}
 use Rattle.step.specs.Successors.{allAfter, canon}
@@ -61,14 +61,32 @@ rows =
     -- K7: a choice that the next event decides
     record { table = alone (choice (a stop) (a (b stop))); term = 0; first = 0; second = 1; counts = 2 ∷ 2 ∷ 1 ∷ [] }
     -- K8: one side at a time
-    ∷ record { table = alone (par (fixed 1) (a stop) (a stop)); term = 0; first = 0; second = 0; counts = 1 ∷ 2 ∷ 1 ∷ [] }
+    ∷ record {
+      table = alone (par (fixed 1) (a stop) (a stop));
+      term = 0;
+      first = 0;
+      second = 0;
+      counts = 1 ∷ 2 ∷ 1 ∷ [];
+    }
     -- K9: both sides together
-    ∷ record { table = alone (par (fixed 0) (a stop) (a stop)); term = 0; first = 0; second = 0; counts = 1 ∷ 1 ∷ 0 ∷ [] }
+    ∷ record {
+      table = alone (par (fixed 0) (a stop) (a stop));
+      term = 0;
+      first = 0;
+      second = 0;
+      counts = 1 ∷ 1 ∷ 0 ∷ [];
+    }
     -- a set picked by the event before
     ∷ record { table = alone (x (y stop)); term = 0; first = 0; second = 1; counts = 1 ∷ 1 ∷ 1 ∷ [] }
     ∷ record { table = alone (x (y stop)); term = 0; first = 0; second = 0; counts = 1 ∷ 1 ∷ 0 ∷ [] }
     -- STOP after 0 and STOP after 1 are two residuals
-    ∷ record { table = alone (par (fixed 1) (x stop) (x stop)); term = 0; first = 0; second = 1; counts = 1 ∷ 2 ∷ 2 ∷ [] }
+    ∷ record {
+      table = alone (par (fixed 1) (x stop) (x stop));
+      term = 0;
+      first = 0;
+      second = 1;
+      counts = 1 ∷ 2 ∷ 2 ∷ [];
+    }
     -- a pair of two calls of 0, then itself: one residual, from both sides
     ∷ record {
       table = tableWith (record { level = 0; body = a (call 0) }

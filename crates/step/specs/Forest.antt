@@ -4,7 +4,7 @@
 --     mayMove      whether a residual may take an event: false only where there is no residual after it
 --     Forest       node words that are those of trees, one after the other
 -- The laws are in `Forest/Laws.antt` (results are afterKept). Assumes nothing.
-use Prim.Native.Nat.{ℕ, _+_, _*_, _<_, _≤_}
+use Prim.Native.Nat.{ℕ, _+_, _<_}
 use mathlib.Core.Path.{_≡_}
 use mathlib.Core.Bool.{Bool, true, false}
 use mathlib.Core.List.{List, [], _∷_, _++_, map}

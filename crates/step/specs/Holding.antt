@@ -1,11 +1,12 @@
--- Slots held one after the other in an area (01, "Residuals": "A residual already held is not held twice"; "crowded").
+-- Slots held one after the other in an area (01, "Residuals": "A residual already held is not held twice";
+-- "crowded").
 --     Outcome, said      the area afterwards, and how many slots it holds or that there was no room
 --     putOne, putAll     one slot more; several, one after the other
 --     Gave               an outcome that was given
 -- The laws are in `Holding/Laws.antt`. Assumes nothing.
-use Prim.Native.Nat.{ℕ, _+_, _*_, _/_, _%_, _<_, _≤_, _^_}
+use Prim.Native.Nat.{ℕ, _+_, _*_, _≤_}
 use mathlib.Core.Path.{_≡_}
-use mathlib.Core.List.{List, [], _∷_, _++_}
+use mathlib.Core.List.{List, [], _∷_}
 use lib.ListN.{length}
 use Rattle.step.specs.Slots.{insertAnswer, insertWords}
 use Rattle.step.specs.declared.slots.Inserted.{Inserted}

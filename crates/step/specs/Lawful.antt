@@ -41,7 +41,8 @@ pub record Lawful (t : Table) : Type 0 where
 
 -- ---- calls
 
-below-each : (b : ℕ) (c : Context) (p : Term) → Throughout (λ k. OfCall (λ e. e < b)) c p → Below b p × Each (Below b) p
+below-each : (b : ℕ) (c : Context) (p : Term) → Throughout (λ k. OfCall (λ e. e < b)) c p → Below b p
+    × Each (Below b) p
 below-each b c stop h = (tt, tt)
 below-each b c fail h = (tt, tt)
 below-each b c (prefix r p) h = (tt, (tt, below-each b (underPrefix c) p (h .1) .1))

@@ -1,3 +1,5 @@
+-- The step in reading order: slots and how an area holds them, node words, what resolving gives, one residual and one
+-- event, a whole set and one event, and what that comes to. Assumes nothing.
 pub mod Slots
 pub mod Holding
 pub mod Words

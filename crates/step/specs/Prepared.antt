@@ -2,9 +2,9 @@
 --     Sound           the nodes of a residual in a store: known trees whose results fit a slot
 --     Filled, UpTo    one node is filled; the nodes before one are
 -- The laws are in `Prepared/Laws.antt`. Assumes nothing.
-use Prim.Native.Nat.{ℕ, _+_, _-_, _*_, _<_, _≤_}
+use Prim.Native.Nat.{ℕ, _*_, _<_, _≤_}
 use mathlib.Core.Path.{_≡_}
-use mathlib.Core.List.{List, [], _∷_, _++_}
+use mathlib.Core.List.{List, []}
 use lib.ListN.{length, take}
 use Rattle.table.specs.Table.{Table}
 use Rattle.step.specs.Walk.{room}

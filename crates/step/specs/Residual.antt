@@ -7,7 +7,7 @@
 --     pushed, pushAll                 a slot with one word more, with several more
 --     Resolves, resolvedInto          what resolving the i-th residual of a term asks; the slot it gives
 -- The laws are in `Residual/Resolved.antt` (lists) and `Residual/Into.antt` (slots). Assumes nothing.
-use Prim.Native.Nat.{ℕ, zero, suc, _+_, _*_, _<_, _≤_}
+use Prim.Native.Nat.{ℕ, zero, suc, _+_, _<_, _≤_}
 use mathlib.Core.Path.{_≡_}
 use mathlib.Core.Bool.{true, false}
 use mathlib.Core.List.{List, [], _∷_, _++_, map}
@@ -48,12 +48,16 @@ resolve f n m (call d) = f d
 unfoldable pub resolvedBelow : Table → ℕ → ℕ → List Residual
 resolvedBelow t zero d = []
 resolvedBelow t (suc b) d =
-    elim (eqb d b) [ true ↦ resolve (resolvedBelow t b) (bodyNumber t d) 0 (bodyIn (t .definitions) d) | false ↦ resolvedBelow t b d ]
+    elim (eqb d b) [
+      | true ↦ resolve (resolvedBelow t b) (bodyNumber t d) 0 (bodyIn (t .definitions) d)
+      | false ↦ resolvedBelow t b d
+    ]
 
 unfoldable pub resolved : Table → ℕ → ℕ → List Residual
 resolved t n m = resolve (resolvedBelow t (length (t .definitions))) n m (termOf t n)
 
--- "STOP gives nothing; a prefix whose set holds e settles its follower with memory (e, m0, m1, m2), otherwise nothing"
+-- "STOP gives nothing; a prefix whose set holds e settles its follower with memory (e, m0, m1, m2), otherwise
+-- nothing"
 unfoldable pub leafAfter : Table → ℕ → ℕ → ℕ → List Residual
 leafAfter t e n m =
     elim (eqb (kindOf (termOf t n)) 2) [

@@ -3,9 +3,8 @@
 --     gathered               the slots of all results of n residuals, from the i-th on
 --     SoundSlot, Source      what a step asks of the area it starts from
 -- The laws are in `Stepped/Laws.antt`. Assumes nothing.
-use Prim.Native.Nat.{ℕ, zero, suc, _+_, _-_, _*_, _<_, _≤_}
-use mathlib.Core.Path.{_≡_}
-use mathlib.Core.List.{List, [], _∷_, _++_}
+use Prim.Native.Nat.{ℕ, zero, suc, _+_, _*_, _<_, _≤_}
+use mathlib.Core.List.{List, [], _++_}
 use lib.ListN.{length, getD}
 use Rattle.table.specs.Table.{Table}
 use Rattle.step.specs.Distinct.{window, empty}

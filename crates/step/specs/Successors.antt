@@ -1,11 +1,12 @@
--- The residuals after an event, of all residuals of a set (01, "Residuals": "The set after a list is the union, event by
+-- The residuals after an event, of all residuals of a set (01, "Residuals": "The set after a list is the union, event
+-- by
 -- event").
 --     Holds                the slots of an area, from the i-th on, are those of residuals
 --     allAfter, allKept    the residuals after an event, of all; with each leaf's repeats dropped
 --     slotsOf, canon       the slots of residuals; ascending, none twice
 -- The laws are in `Successors/Laws.antt` and `Successors/Members.antt`. Assumes nothing.
-use Prim.Native.Nat.{ℕ, _+_, _-_, _*_, _<_, _≤_}
-use mathlib.Core.Path.{_≡_, _∙_}
+use Prim.Native.Nat.{ℕ, _+_}
+use mathlib.Core.Path.{_≡_}
 use mathlib.Core.List.{List, [], _∷_, _++_, map}
 use Rattle.table.specs.Table.{Table}
 use Rattle.step.specs.Residual.{Residual, words, after}

@@ -1,4 +1,5 @@
--- Whether a residual may take an event (01, "Operations": "exactly when the residuals after e, crowded or not, are not
+-- Whether a residual may take an event (01, "Operations": "exactly when the residuals after e, crowded or not, are
+-- not
 -- empty"), of the tree whose words stand at a place of an area.
 --     TreeAt     a tree's words stand there
 --     Takes      what is said of it

@@ -1,12 +1,11 @@
 -- One residual and one event: all results, as lists of words, from the node words in reading order.
 --     leafKept, options     the results of a leaf, repeats dropped: their indices, their words
---     results               the ways to go on: the lowest bit of the modes says whether the next tree takes the event (1)
+-- results the ways to go on: the lowest bit of the modes says whether the next tree takes the event (1)
 --                           or is kept (0)
 --     leafResults, room     the residuals after an event of a leaf; the words that nodes can become at most
 --     onto                  a slot followed by each
 -- The laws are in `Walk/Results.antt`. Assumes nothing.
-use Prim.Native.Nat.{ℕ, _+_, _*_, _/_, _%_, _<_, _≤_, max, _^_}
-use mathlib.Core.Path.{_≡_}
+use Prim.Native.Nat.{ℕ, _+_, _*_, _/_, _%_, max}
 use mathlib.Core.Bool.{true, false}
 use mathlib.Core.List.{List, [], _∷_, _++_, map}
 use lib.ListN.{length}
@@ -23,7 +22,8 @@ unfoldable pub leafKept : Table → ℕ → ℕ → List ℕ
 leafKept t e w =
     elim (eqb (kindAt t w) 2) [
       | true ↦ elim (holdsAt t e w) [
-        | true ↦ kept (slotAt t (termOfWord w + 1) (remember e (memoryOfWord w))) (length (resolved t (termOfWord w + 1) (remember e (memoryOfWord w))))
+        | true ↦ kept (slotAt t (termOfWord w + 1) (remember e (memoryOfWord w)))
+            (length (resolved t (termOfWord w + 1) (remember e (memoryOfWord w))))
         | false ↦ []
       ]
       | false ↦ []

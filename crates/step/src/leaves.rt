@@ -6,7 +6,8 @@ ghost use Prim.Native.Nat.{ℕ, _+_, _*_, _<_, _≤_};
 ghost use lib.ListN.{length, getD};
 ghost use Rattle.table.specs.Index.{tableIn, Indexed};
 ghost use Rattle.step.specs.Residual.{resolved};
-ghost use Rattle.step.specs.Distinct.{sameWords, window, heldIn, kept, slotAt, Resolvable, Stored};
+ghost use Rattle.step.specs.Distinct.{sameWords, window, heldIn, kept};
+ghost use Rattle.step.specs.Distinct.{slotAt, Resolvable, Stored};
 
 // Whether two slots are equal.
 fn same(a: [u64; 16], b: [u64; 16]) -> bool
@@ -50,7 +51,8 @@ fn found(
     requires { ⌜ ((j : ℕ) → j < c
         → getD (now store) (at + j) 0 < length (resolved (tableIn (now list)) n m)) ⌝ }
     ensures { λ r.
-        ⌜ r ≡ heldIn (slotAt (tableIn (now (list .entry))) n m) (window at c (now (store .entry))) slot ⌝ }
+        ⌜ r ≡ heldIn (slotAt (tableIn (now (list .entry))) n m)
+        (window at c (now (store .entry))) slot ⌝ }
 {
     let mut j = 0;
     while j < c {

@@ -1,11 +1,12 @@
-// Resolving (01, "Residuals": settling): the nodes of the i-th residual of a term, written into a slot.
-// The definitions are in `specs/Residual.antt`.
+// Resolving (01, "Residuals": settling): the nodes of the i-th residual of a term, written into a
+// slot. The definitions are in `specs/Residual.antt`.
 use crate::words::node;
 ghost use mathlib.Core.Path.{_≡_};
 ghost use Prim.Native.Nat.{ℕ, _+_, _*_, _<_, _≤_};
 ghost use lib.ListN.{length, getD};
 ghost use Rattle.table.specs.Index.{tableIn, Indexed};
-ghost use Rattle.step.specs.Residual.{pushed, Resolves, resolvedInto, ResolvesDefinition, definitionInto};
+ghost use Rattle.step.specs.Residual.{pushed, Resolves, resolvedInto};
+ghost use Rattle.step.specs.Residual.{ResolvesDefinition, definitionInto};
 
 // A slot with one word more.
 pub fn push(slot: [u64; 16], w: u64) -> [u64; 16]
@@ -20,8 +21,8 @@ pub fn push(slot: [u64; 16], w: u64) -> [u64; 16]
     s
 }
 
-// The i-th residual of term n with memory m, after what the slot has. The calls of the term with no prefix around
-// them name definitions below `bound`, which serves the proof that this ends.
+// The i-th residual of term n with memory m, after what the slot has. The calls of the term with
+// no prefix around them name definitions below `bound`, which serves the proof that this ends.
 pub fn resolve_term(
     list: &[u16],
     work: &[u64],

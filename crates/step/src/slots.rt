@@ -1,5 +1,6 @@
-// Slots in an area (01, "Residuals": "An area holds slots ascending by first differing word"): where a slot belongs
-// among those held, and holding one more. The definitions are in `specs/Slots.antt`.
+// Slots in an area (01, "Residuals": "An area holds slots ascending by first differing word"):
+// where a slot belongs among those held, and holding one more. The definitions are in
+// `specs/Slots.antt`.
 ghost use mathlib.Core.Path.{_≡_};
 ghost use Prim.Native.Nat.{ℕ, _+_, _*_, _≤_};
 ghost use lib.ListN.{length};

@@ -1,5 +1,6 @@
-// A set of residuals and one event: all results of all residuals, held in another area.
-// The definitions are in `specs/Prepared.antt` and `specs/Stepped.antt`; `specs/Claims.antt` says what they come to.
+// A set of residuals and one event: all results of all residuals, held in another area. The
+// definitions are in `specs/Prepared.antt` and `specs/Stepped.antt`; `specs/Claims.antt` says what
+// they come to.
 use crate::leaves::distinct;
 use crate::slots::Held;
 use crate::walk::walk;
@@ -24,7 +25,8 @@ fn prepare_node(list: &[u16], work: &[u64], bound: usize, e: u64, store: &mut [u
     requires { ⌜ Sound (tableIn (now list)) bound e (now store) ⌝ }
     requires { ⌜ (1 ≤ k) × (k ≤ nodeCount (now store)) ⌝ }
     ensures { λ _.
-        ⌜ Filled (tableIn (now (list .entry))) bound e (now (store .entry)) (now (store .exit)) k ⌝ }
+        ⌜ Filled (tableIn (now (list .entry))) bound e (now (store .entry))
+        (now (store .exit)) k ⌝ }
 {
     let w = store[k];
     let at = k * 257;
@@ -70,8 +72,8 @@ fn load(src: &[u64], p: usize, store: &mut [u64])
     }
 }
 
-// Holds all results of the n residuals of an area in another, after event e. The store is for this function's own
-// use; any words may be in it.
+// Holds all results of the n residuals of an area in another, after event e. The store is for this
+// function's own use; any words may be in it.
 pub fn step_set(
     list: &[u16],
     work: &[u64],
@@ -86,7 +88,8 @@ pub fn step_set(
     requires { ⌜ length (now store) ≡ 4112 ⌝ }
     ensures { λ r.
         ⌜ Gave (putAll (now (dst .entry)) 0
-        (gathered (tableIn (now (list .entry))) e (now (src .entry)) n 0)) r (now (dst .exit)) ⌝ }
+        (gathered (tableIn (now (list .entry))) e (now (src .entry)) n 0))
+        r (now (dst .exit)) ⌝ }
 {
     let bound = index::definition_count(list, work);
     let mut c = 0;

@@ -1,6 +1,6 @@
-// One residual and one event: every result, held in an area. The nodes are gone through once, in reading order; for
-// each tree a mode says whether it takes the event or is kept. The definitions are in `specs/Walk.antt`,
-// `specs/Forest.antt` and `specs/Course.antt`.
+// One residual and one event: every result, held in an area. The nodes are gone through once, in
+// reading order; for each tree a mode says whether it takes the event or is kept. The definitions
+// are in `specs/Walk.antt`, `specs/Forest.antt` and `specs/Course.antt`.
 use crate::resolve::push;
 use crate::resolve::resolve_term;
 use crate::slots::Held;
@@ -67,8 +67,9 @@ pub fn can_at(list: &[u16], work: &[u64], store: &[u64], bound: usize, e: u64, k
     }
 }
 
-// All ways to go on from node k: the lowest bit of `modes` says whether that node's tree takes the event (1) or is
-// kept (0), the others say it of the trees after it. Each whole result is held in `area`.
+// All ways to go on from node k: the lowest bit of `modes` says whether that node's tree takes the
+// event (1) or is kept (0), the others say it of the trees after it. Each whole result is held in
+// `area`.
 pub fn walk(
     list: &[u16],
     work: &[u64],
@@ -168,18 +169,9 @@ fn walk_pair(
                 area,
                 count,
             ) {
-                Held::Count(c) => walk(
-                    list,
-                    work,
-                    store,
-                    bound,
-                    e,
-                    k + 1,
-                    rest * 4 + 2,
-                    s,
-                    area,
-                    c,
-                ),
+                Held::Count(c) => {
+                    walk(list, work, store, bound, e, k + 1, rest * 4 + 2, s, area, c)
+                }
                 Held::Exceeded => Held::Exceeded,
             };
         }

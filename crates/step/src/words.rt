@@ -1,12 +1,12 @@
-// Node words (01, "Residuals": "A node word is term × 2^24 + m0 × 2^18 + m1 × 2^12 + m2 × 2^6 + m3").
-// The definitions are in `specs/Words.antt`.
+// Node words (01, "Residuals": "A node word is term × 2^24 + m0 × 2^18 + m1 × 2^12 + m2 × 2^6 +
+// m3"). The definitions are in `specs/Words.antt`.
 ghost use mathlib.Core.Path.{_≡_};
 ghost use mathlib.Core.Logic.{_⊎_};
 ghost use Prim.Native.Nat.{ℕ, _<_};
 ghost use Rattle.table.specs.Table.{termCount};
 ghost use Rattle.table.specs.Index.{tableIn, Indexed};
-ghost use Rattle.step.specs.Words.{nodeWord, termOfWord, memoryOfWord, digitOf, kindAt, holdsAt};
-ghost use Rattle.step.specs.Words.{KnownWord, remember as remembered};
+ghost use Rattle.step.specs.Words.{nodeWord, termOfWord, memoryOfWord, digitOf};
+ghost use Rattle.step.specs.Words.{kindAt, holdsAt, KnownWord, remember as remembered};
 
 // The node word of a term with a memory.
 pub fn node(n: usize, m: u64) -> u64
@@ -38,7 +38,8 @@ pub fn remember(e: u64, m: u64) -> u64
     e * 262144 + m / 64
 }
 
-// The event of a memory that a set reference recalls: k is 0 where the set is of kind 0, else its parameter and 1.
+// The event of a memory that a set reference recalls: k is 0 where the set is of kind 0, else its
+// parameter and 1.
 fn digit(k: u64, m: u64) -> u64
     ensures { λ r. ⌜ r ≡ digitOf k m ⌝ }
 {

@@ -2,6 +2,7 @@
 // openings).
 //     wrong_reference     the list place of the first number that breaks a reference rule
 //     wide_level          the lowest level whose width (01: hands) is above 8
+//     level_widths        the widths of all levels
 //     branching_term      the lowest body or follower whose branches (01: openings) are above 256
 // Widths and branches are saturating: only whether they are 0, and how they stand to 8 and 256,
 // counts.
@@ -82,16 +83,18 @@ fn call_stands(table: &Table, called: usize, here: Context) -> bool {
 }
 
 pub fn wide_level(table: &Table) -> Option<usize> {
+    level_widths(table).iter().position(|&width| width > MOST_WIDTH)
+}
+
+// The width of each level, "the largest among its bodies".
+pub fn level_widths(table: &Table) -> Vec<u128> {
     let mut widths: Vec<u128> = Vec::new();
     for level in 0..=MOST_LEVEL {
         let bodies = table.definitions.iter().filter(|definition| definition.level == level);
         let width = bodies.map(|d| width_of(table, &d.body, level, &widths)).max().unwrap_or(0);
-        if width > MOST_WIDTH {
-            return Some(level as usize);
-        }
         widths.push(width);
     }
-    None
+    widths
 }
 
 // "STOP and FAIL 1; prefix those of its follower; choice the larger; parallel the sum; call to

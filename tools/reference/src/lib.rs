@@ -9,12 +9,14 @@
 //     role         what each number of a table is          damage      tables with one known fault
 //     worked       cases worked by hand                    case        a case of test data
 //     cases        the test data file                      summary     what its test prints
+//     monitor      residuals, Start, Feed, Offer, View, and the test data of histories
 
 pub mod case;
 pub mod cases;
 pub mod damage;
 pub mod generate;
 pub mod judge;
+pub mod monitor;
 pub mod numbers;
 pub mod operations;
 pub mod random;

@@ -1,5 +1,5 @@
-// The command line of the reference: judge a file of table bytes, write test data, or say what
-// the test program prints of it.
+// The command line of the reference: judge a file of table bytes or of the program's input, write
+// test data, or say what the test programs print of it.
 
 use reference::operations::table_of_bytes;
 use reference::refusal::word;
@@ -7,7 +7,7 @@ use std::io::Write;
 use std::process::ExitCode;
 
 const HELP: &str = "\
-reference: another implementation of the CSP_E line monitor's tables, for test answers
+reference: another implementation of the CSP_E line monitor, for test answers
 
     reference check FILE
         Judges the bytes of a file as Read does. Prints one line: `accepted NUMBERS TERMS`
@@ -20,6 +20,21 @@ reference: another implementation of the CSP_E line monitor's tables, for test a
     reference summary FILE
         Prints what the test program prints of a file of test data when every answer is the
         stored one: a line `NAME CASES` for each group, then `ok`.
+
+    reference line FILE
+        Prints the line that the program prints of a file as its standard input.
+
+    reference histories --seed N --count M
+        Writes test data of the monitor to standard output: the histories worked by hand, and
+        about M drawn at random. The same seed and count give the same file.
+
+    reference monitor-summary FILE
+        Prints what the monitor's test program prints of a file of histories when every answer
+        is the stored one: a line `NAME CALLS` for each group, then `ok`.
+
+    reference replay FILE
+        Makes the calls of a file of histories again. Prints the same as monitor-summary, or the
+        first answer that is not the stored one.
 
     reference --help
         Prints this text.
@@ -34,9 +49,18 @@ fn main() -> ExitCode {
     let done = match args.as_slice() {
         ["check", file] => check(file),
         ["check", ..] => Err("check takes one file".to_string()),
-        ["cases", options @ ..] => cases(options),
-        ["summary", file] => summary(file),
+        ["cases", options @ ..] => written("cases", options, reference::cases::file),
+        ["summary", file] => summary(file, reference::summary::summary),
         ["summary", ..] => Err("summary takes one file".to_string()),
+        ["line", file] => line(file),
+        ["line", ..] => Err("line takes one file".to_string()),
+        ["histories", options @ ..] => {
+            written("histories", options, reference::monitor::histories::file)
+        }
+        ["monitor-summary", file] => summary(file, reference::monitor::summary::summary),
+        ["replay", file] => summary(file, reference::monitor::replay::replay),
+        ["replay", ..] => Err("replay takes one file".to_string()),
+        ["monitor-summary", ..] => Err("monitor-summary takes one file".to_string()),
         [] => Err("a command is missing".to_string()),
         [command, ..] => Err(format!("`{command}` is not a command")),
     };
@@ -66,13 +90,23 @@ fn check(file: &str) -> Result<ExitCode, String> {
     })
 }
 
-fn summary(file: &str) -> Result<ExitCode, String> {
-    let text =
-        std::fs::read_to_string(file).map_err(|error| format!("cannot read {file}: {error}"))?;
-    Ok(print(&reference::summary::summary(&text).map_err(|error| format!("{file}: {error}"))?))
+fn line(file: &str) -> Result<ExitCode, String> {
+    let bytes = std::fs::read(file).map_err(|error| format!("cannot read {file}: {error}"))?;
+    Ok(print(&(reference::monitor::program::line(&bytes) + "\n")))
 }
 
-fn cases(options: &[&str]) -> Result<ExitCode, String> {
+fn summary(file: &str, summary: fn(&str) -> Result<String, String>) -> Result<ExitCode, String> {
+    let text =
+        std::fs::read_to_string(file).map_err(|error| format!("cannot read {file}: {error}"))?;
+    Ok(print(&summary(&text).map_err(|error| format!("{file}: {error}"))?))
+}
+
+// Test data by a seed and a count.
+fn written(
+    command: &str,
+    options: &[&str],
+    file: fn(u64, usize) -> Result<String, String>,
+) -> Result<ExitCode, String> {
     let (mut seed, mut count) = (None, None);
     let mut rest = options;
     while let [name, after @ ..] = rest {
@@ -83,7 +117,7 @@ fn cases(options: &[&str]) -> Result<ExitCode, String> {
         match *name {
             "--seed" => seed = Some(number()?),
             "--count" => count = Some(number()?),
-            _ => return Err(format!("`{name}` is not an option of cases")),
+            _ => return Err(format!("`{name}` is not an option of {command}")),
         }
         rest = after;
     }
@@ -92,5 +126,5 @@ fn cases(options: &[&str]) -> Result<ExitCode, String> {
     if count > 1_000_000 {
         return Err("--count is at most 1,000,000".to_string());
     }
-    Ok(print(&reference::cases::file(seed, count as usize)?))
+    Ok(print(&file(seed, count as usize)?))
 }

@@ -16,13 +16,17 @@ pub const TRAILING_INPUT: u8 = 6;
 pub const WRONG_REFERENCE: u8 = 7;
 pub const TOO_WIDE: u8 = 8;
 pub const TOO_MANY_BRANCHES: u8 = 9;
+pub const INCONSISTENT: u8 = 10;
+pub const UNKNOWN_EVENT: u8 = 11;
+pub const COUNTER_FULL: u8 = 12;
+pub const CAPACITY_EXCEEDED: u8 = 13;
 
 // The refusal of this number, as the answer of an operation.
 pub fn refuse<T>(number: u8, place: usize) -> Result<T, Refusal> {
     Err(Refusal { number, place })
 }
 
-// 01's word for a refusal of tables.
+// 01's word for a refusal.
 pub fn word(number: u8) -> &'static str {
     match number {
         WRONG_LENGTH => "wrong measure",
@@ -34,6 +38,10 @@ pub fn word(number: u8) -> &'static str {
         WRONG_REFERENCE => "wrong reference",
         TOO_WIDE => "too many hands",
         TOO_MANY_BRANCHES => "too many openings",
-        _ => "not a refusal of tables",
+        INCONSISTENT => "disturbed",
+        UNKNOWN_EVENT => "strange event",
+        COUNTER_FULL => "counter full",
+        CAPACITY_EXCEEDED => "crowded",
+        _ => "not a refusal",
     }
 }

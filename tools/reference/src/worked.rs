@@ -14,11 +14,11 @@ pub fn hex(text: &str) -> Vec<u8> {
 }
 
 // A = 3, one set, {0}
-const ONE_SET: &str = "03 01 00 01 00";
+pub const ONE_SET: &str = "03 01 00 01 00";
 // A = 3, sets {0} and {1}
-const TWO_SETS: &str = "03 02 00 01 00 00 01 01";
+pub const TWO_SETS: &str = "03 02 00 01 00 00 01 01";
 // A = 3, sets {0}, {1} and {}
-const THREE_SETS: &str = "03 03 00 01 00 00 01 01 00 00";
+pub const THREE_SETS: &str = "03 03 00 01 00 00 01 01 00 00";
 pub const TABLE_B: &str = "03 02 00 01 00 00 01 01 01 00 02 00 02 01 05 00";
 
 struct Cases(Vec<Case>);
@@ -100,12 +100,12 @@ fn numbers(cases: &mut Cases) {
 }
 
 // The body of `count` prefixes {0} and STOP.
-fn nested(count: usize) -> String {
+pub fn nested(count: usize) -> String {
     "02 00 ".repeat(count) + "00"
 }
 
 // A choice of `count` of these, halved again and again.
-fn chosen(count: usize, one: &str) -> String {
+pub fn chosen(count: usize, one: &str) -> String {
     if count == 1 {
         return one.to_string();
     }
@@ -113,7 +113,7 @@ fn chosen(count: usize, one: &str) -> String {
 }
 
 // A parallel over set 0 of `count` of these.
-fn beside(count: usize, one: &str) -> String {
+pub fn beside(count: usize, one: &str) -> String {
     "04 00 ".repeat(count - 1) + &[one].repeat(count).join(" ")
 }
 

@@ -3,14 +3,15 @@
 --     count1, count2, count3          byteCount by cases;  byteCount-le
 --     read-written, read-is-written   a written number reads back; what is read is just what would be written
 -- Not here: numbers at a position, `Position/Laws.antt`. Assumes nothing.
-use Prim.Native.Nat.{ℕ, _+_, _/_, _%_, _≤_, _<_}
+use Prim.Native.Nat.{ℕ, _+_, _*_, _/_, _%_, _≤_, _<_}
 use native.Mathlib.Omega.{arith}
 use native.Mathlib.Decide.{decLt}
 use mathlib.Core.Path.{_≡_, refl, ap, _∙_, subst}
 use mathlib.Core.List.{List, [], _∷_, _++_}
 use lib.ListN.{length}
 use borrow.Author.Tests.{le-ltb, lt-ltb}
-use Rattle.numbers.specs.Number.{Bytes, groups, bytesOf, byteCount, value, readNumber}
+use Rattle.numbers.specs.Every.{All}
+use Rattle.numbers.specs.Number.{Bytes, groups, bytesOf, byteCount, value, readNumber, valueOf}
 use Rattle.numbers.specs.Number.Groups.{groups-short, groups-long, groups-some, groups-few, groups-bytes}
 use Rattle.numbers.specs.Number.Groups.{limit-65536, scan-written, scan-is-written}
 
@@ -87,3 +88,26 @@ unfolding readNumber bytesOf
 read-is-written s v n rest w e =
     let h = scan-is-written 2 3 s v n rest w e in
     record { whole = h .whole; small = omega (arith, limit-65536, h .small); taken = h .taken }
+
+-- ---- the fewest bytes
+
+under : (v n : ℕ) → byteCount v ≤ n → length (bytesOf v) ≤ n
+under v n h = omega (arith, length-bytesOf v)
+
+pub fewest : (gs : List ℕ) → 1 ≤ length gs → All (λ g. g < 128) gs → length (bytesOf (valueOf gs)) ≤ length gs
+unfolding valueOf
+fewest [] h a = absurd (omega arith)
+fewest (g ∷ []) h a =
+    let small = a .0 in
+    let e = count1 (g + 0 * 128) (omega arith) in
+    under (g + 0 * 128) 1 (omega arith)
+fewest (g ∷ k ∷ []) h a =
+    let v = g + (k + 0 * 128) * 128 in
+    let s1 = a .0 in
+    let s2 = a .1 .0 in
+    by v (omega arith) (decLt v 128)
+  where
+    by : (v : ℕ) → v < 16384 → Dec (v < 128) → length (bytesOf v) ≤ 2
+    by v l (yes q) = let e = count1 v q in under v 2 (omega arith)
+    by v l (no q) = let b : 128 ≤ v = omega arith in let e = count2 v b l in under v 2 (omega arith)
+fewest (g ∷ k ∷ j ∷ gs) h a = let e = bytes-few (valueOf (g ∷ k ∷ j ∷ gs)) in unfold valueOf in omega arith

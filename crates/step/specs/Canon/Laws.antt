@@ -28,20 +28,24 @@ use Rattle.step.specs.Canon.{byOrder, insertSlot, canonFrom, joined, are
 unfoldable pub stepOrder : ℕ → ℕ → Order → Order
 stepOrder y x o = elim (ltb y x) [ true ↦ below | false ↦ elim (ltb x y) [ true ↦ above | false ↦ o ] ]
 
-pub order-step : (n : ℕ) (a : List ℕ) (p : ℕ) (b : List ℕ) (q : ℕ) → order (suc n) a p b q ≡ stepOrder (getD b q 0) (getD a p 0) (order n a (p + 1) b (q + 1))
+pub order-step : (n : ℕ) (a : List ℕ) (p : ℕ) (b : List ℕ) (q : ℕ) → order (suc n) a p b q
+    ≡ stepOrder (getD b q 0) (getD a p 0) (order n a (p + 1) b (q + 1))
 unfolding order stepOrder
 order-step n a p b q = refl
 
-order-within : (n : ℕ) (pre y rest s : List ℕ) (p q : ℕ) → p + n ≤ length y → order n (pre ++ (y ++ rest)) (length pre + p) s q ≡ order n y p s q
+order-within : (n : ℕ) (pre y rest s : List ℕ) (p q : ℕ) → p + n ≤ length y
+    → order n (pre ++ (y ++ rest)) (length pre + p) s q ≡ order n y p s q
 unfolding order
 order-within zero pre y rest s p q h = refl
 order-within (suc n) pre y rest s p q h =
-    let g : getD (pre ++ (y ++ rest)) (length pre + p) 0 ≡ getD y p 0 = getD-append-add pre (y ++ rest) p 0 ∙ List·getD-append y rest 0 p (omega arith) in
+    let g : getD (pre ++ (y ++ rest)) (length pre + p) 0 ≡ getD y p 0 = getD-append-add pre (y ++ rest) p 0
+    ∙ List·getD-append y rest 0 p (omega arith) in
     let z : length pre + p + 1 ≡ length pre + (p + 1) = omega arith in
     order-step n (pre ++ (y ++ rest)) (length pre + p) s q
     ∙ ap (λ (x : ℕ). stepOrder (getD s q 0) x (order n (pre ++ (y ++ rest)) (length pre + p + 1) s (q + 1))) g
     ∙ ap (λ (k : ℕ). stepOrder (getD s q 0) (getD y p 0) (order n (pre ++ (y ++ rest)) k s (q + 1))) z
-    ∙ ap (λ (o : Order). stepOrder (getD s q 0) (getD y p 0) o) (order-within n pre y rest s (p + 1) (q + 1) (omega arith))
+    ∙ ap (λ (o : Order). stepOrder (getD s q 0) (getD y p 0) o)
+    (order-within n pre y rest s (p + 1) (q + 1) (omega arith))
     ∙ sym (order-step n y p s q)
 
 -- the place among slots, the first of which is the i-th
@@ -49,14 +53,17 @@ placeIn : List (List ℕ) → List ℕ → ℕ → Place
 placeIn [] s i = place.At i
 placeIn (y ∷ ys) s i = placeBy (order 16 y 0 s 0) (place.At i) (placeIn ys s (i + 1))
 
-seek-in : (ys : List (List ℕ)) (pre zs s : List ℕ) (i : ℕ) → length pre ≡ i * 16 → Slots ys → seek (length ys) (pre ++ (joined ys ++ zs)) s i ≡ placeIn ys s i
+seek-in : (ys : List (List ℕ)) (pre zs s : List ℕ) (i : ℕ) → length pre ≡ i * 16 → Slots ys
+    → seek (length ys) (pre ++ (joined ys ++ zs)) s i ≡ placeIn ys s i
 unfolding seek placeIn joined
 seek-in [] pre zs s i h v = refl
 seek-in (y ∷ ys) pre zs s i h v =
-    let e : pre ++ ((y ++ joined ys) ++ zs) ≡ pre ++ (y ++ (joined ys ++ zs)) = ap (λ (l : List ℕ). pre ++ l) (append-assoc y (joined ys) zs) in
+    let e : pre ++ ((y ++ joined ys) ++ zs) ≡ pre ++ (y ++ (joined ys ++ zs)) = ap (λ (l : List ℕ). pre ++ l)
+    (append-assoc y (joined ys) zs) in
     let o : order 16 (pre ++ (y ++ (joined ys ++ zs))) (i * 16) s 0 ≡ order 16 y 0 s 0 =
     let z : i * 16 ≡ length pre + 0 = omega arith in
-    ap (λ (k : ℕ). order 16 (pre ++ (y ++ (joined ys ++ zs))) k s 0) z ∙ order-within 16 pre y (joined ys ++ zs) s 0 0 (omega (arith, v .0)) in
+    ap (λ (k : ℕ). order 16 (pre ++ (y ++ (joined ys ++ zs))) k s 0) z
+    ∙ order-within 16 pre y (joined ys ++ zs) s 0 0 (omega (arith, v .0)) in
     let r : seek (length ys) (pre ++ (y ++ (joined ys ++ zs))) s (i + 1) ≡ placeIn ys s (i + 1) =
     ap (λ (l : List ℕ). seek (length ys) l s (i + 1)) (sym (append-assoc pre y (joined ys ++ zs)))
     ∙ seek-in ys (pre ++ y) zs s (i + 1) (length-append pre y ∙ omega (arith, v .0)) (v .1) in
@@ -79,21 +86,30 @@ held-not-at e = absurd (let z : _≡_ {A = ℕ} 0 1 = cc in omega arith)
 at-not-held : {A : Type 0} {j : ℕ} → place.At j ≡ place.Held → A
 at-not-held e = absurd (let z : _≡_ {A = ℕ} 0 1 = cc in omega arith)
 
-split-by : (o : Order) (y : List ℕ) (ys : List (List ℕ)) (s : List ℕ) (i j : ℕ) → order 16 y 0 s 0 ≡ o → placeBy o (place.At i) (placeIn ys s (i + 1)) ≡ place.At j
+split-by : (o : Order) (y : List ℕ) (ys : List (List ℕ)) (s : List ℕ) (i j : ℕ) → order 16 y 0 s 0 ≡ o
+    → placeBy o (place.At i) (placeIn ys s (i + 1)) ≡ place.At j
     → (placeIn ys s (i + 1) ≡ place.At j → Split ys s (i + 1) j) → Split (y ∷ ys) s i j
 unfolding insertSlot
-split-by below y ys s i j eo e ih = record { a = []; b = y ∷ ys; whole = refl; count = omega (arith, at-inj e); put = rw eo }
+split-by below y ys s i j eo e ih =
+    record { a = []; b = y ∷ ys; whole = refl; count = omega (arith, at-inj e); put = rw eo }
 split-by same y ys s i j eo e ih = held-not-at e
 split-by above y ys s i j eo e ih =
     let r = ih e in
-    record { a = y ∷ r .a; b = r .b; whole = ap (λ (l : List (List ℕ)). y ∷ l) (r .whole); count = omega (arith, r .count); put = rw eo (ap (λ (l : List (List ℕ)). y ∷ l) (r .put)) }
+    record {
+      a = y ∷ r .a;
+      b = r .b;
+      whole = ap (λ (l : List (List ℕ)). y ∷ l) (r .whole);
+      count = omega (arith, r .count);
+      put = rw eo (ap (λ (l : List (List ℕ)). y ∷ l) (r .put));
+    }
 
 split-at : (xs : List (List ℕ)) (s : List ℕ) (i j : ℕ) → placeIn xs s i ≡ place.At j → Split xs s i j
 unfolding placeIn insertSlot
 split-at [] s i j e = record { a = []; b = []; whole = refl; count = omega (arith, at-inj e); put = refl }
 split-at (y ∷ ys) s i j e = split-by (order 16 y 0 s 0) y ys s i j refl e (split-at ys s (i + 1) j)
 
-held-by : (o : Order) (y : List ℕ) (ys : List (List ℕ)) (s : List ℕ) (i : ℕ) → order 16 y 0 s 0 ≡ o → placeBy o (place.At i) (placeIn ys s (i + 1)) ≡ place.Held
+held-by : (o : Order) (y : List ℕ) (ys : List (List ℕ)) (s : List ℕ) (i : ℕ) → order 16 y 0 s 0 ≡ o
+    → placeBy o (place.At i) (placeIn ys s (i + 1)) ≡ place.Held
     → (placeIn ys s (i + 1) ≡ place.Held → insertSlot s ys ≡ ys) → insertSlot s (y ∷ ys) ≡ y ∷ ys
 unfolding insertSlot
 held-by below y ys s i eo e ih = at-not-held e
@@ -123,7 +139,9 @@ length-joined (x ∷ xs) v = length-append x (joined xs) ∙ omega (arith, v .0,
 
 length-area : (cap : ℕ) (xs : List (List ℕ)) → Slots xs → length xs ≤ cap → length (areaOf cap xs) ≡ cap * 16
 unfolding areaOf
-length-area most xs v h = length-append (joined xs) _ ∙ omega (arith, length-joined xs v, length-replicate {A = ℕ} ((most - length xs) * 16) 0)
+length-area most xs v h =
+    length-append (joined xs) _
+    ∙ omega (arith, length-joined xs v, length-replicate {A = ℕ} ((most - length xs) * 16) 0)
 
 zeros-less : (n : ℕ) → drop {A = ℕ} 16 (replicate (n + 16) 0) ≡ replicate n 0
 zeros-less n =
@@ -139,7 +157,8 @@ module _ (a b s : List ℕ) (z p n : ℕ) (ep : length a ≡ p) (en : length a +
 
   long : length words-of ≡ n + (z + 16)
   unfolding words-of
-  long = length-append a _ ∙ omega (arith, length-append b (replicate (z + 16) 0), length-replicate {A = ℕ} (z + 16) 0)
+  long =
+      length-append a _ ∙ omega (arith, length-append b (replicate (z + 16) 0), length-replicate {A = ℕ} (z + 16) 0)
 
   front : length (take (p + 16) words-of) ≡ p + 16
   front = length-take-le (p + 16) words-of (omega (arith, long))
@@ -149,7 +168,9 @@ module _ (a b s : List ℕ) (z p n : ℕ) (ep : length a ≡ p) (en : length a +
   regroup = sym (append-assoc a b (replicate (z + 16) 0))
 
   middle : drop p (take n words-of) ≡ b
-  middle = ap (λ (l : List ℕ). drop p (take n l)) regroup ∙ ap (drop p) (take-at (a ++ b) (replicate (z + 16) 0) n (length-append a b ∙ en)) ∙ drop-at a b p ep
+  middle =
+      ap (λ (l : List ℕ). drop p (take n l)) regroup
+      ∙ ap (drop p) (take-at (a ++ b) (replicate (z + 16) 0) n (length-append a b ∙ en)) ∙ drop-at a b p ep
 
   end : drop (n + 16) words-of ≡ replicate z 0
   end =
@@ -175,7 +196,8 @@ module _ (a b s : List ℕ) (z p n : ℕ) (ep : length a ≡ p) (en : length a +
         start,
         drop-at (take (p + 16) words-of) (b ++ replicate z 0) (p + 16) front,
         take-all 16 s (omega arith),
-      ) (append-assoc a s (b ++ replicate z 0))
+      )
+      (append-assoc a s (b ++ replicate z 0))
 
 -- ---- one slot
 
@@ -198,53 +220,66 @@ module _ (most : ℕ) (xs : List (List ℕ)) (s : List ℕ) (v : Slots xs) (es :
     longer = ap length (d .put) ∙ length-append (d .a) (s ∷ d .b) ∙ omega (arith, lengths)
 
     module _ (w : length xs < most) where
-      area-before : areaOf most xs ≡ joined (d .a) ++ (joined (d .b) ++ replicate ((most - length xs - 1) * 16 + 16) 0)
+      area-before : areaOf most xs
+          ≡ joined (d .a) ++ (joined (d .b) ++ replicate ((most - length xs - 1) * 16 + 16) 0)
       unfolding areaOf
       area-before =
           let z : (most - length xs) * 16 ≡ (most - length xs - 1) * 16 + 16 = omega arith in
           ap (λ (k : ℕ). joined xs ++ replicate k 0) z
-          ∙ ap (λ (l : List ℕ). l ++ replicate ((most - length xs - 1) * 16 + 16) 0) (ap joined (d .whole) ∙ joined-append (d .a) (d .b))
+          ∙ ap (λ (l : List ℕ). l ++ replicate ((most - length xs - 1) * 16 + 16) 0)
+          (ap joined (d .whole) ∙ joined-append (d .a) (d .b))
           ∙ append-assoc (joined (d .a)) (joined (d .b)) _
 
-      area-after : areaOf most (insertSlot s xs) ≡ joined (d .a) ++ (s ++ (joined (d .b) ++ replicate ((most - length xs - 1) * 16) 0))
+      area-after : areaOf most (insertSlot s xs)
+          ≡ joined (d .a) ++ (s ++ (joined (d .b) ++ replicate ((most - length xs - 1) * 16) 0))
       unfolding areaOf joined
       area-after =
           let z : (most - length (insertSlot s xs)) * 16 ≡ (most - length xs - 1) * 16 = omega (arith, longer) in
           ap (λ (k : ℕ). joined (insertSlot s xs) ++ replicate k 0) z
-          ∙ ap (λ (l : List ℕ). l ++ replicate ((most - length xs - 1) * 16) 0) (ap joined (d .put) ∙ joined-append (d .a) (s ∷ d .b))
+          ∙ ap (λ (l : List ℕ). l ++ replicate ((most - length xs - 1) * 16) 0)
+          (ap joined (d .put) ∙ joined-append (d .a) (s ∷ d .b))
           ∙ append-assoc (joined (d .a)) (s ++ joined (d .b)) _
           ∙ ap (λ (l : List ℕ). joined (d .a) ++ l) (append-assoc s (joined (d .b)) _)
 
-      inserted : stored (gapped (areaOf most xs) (i * 16) (length xs * 16)) (i * 16) s 16 ≡ areaOf most (insertSlot s xs)
+      inserted : stored (gapped (areaOf most xs) (i * 16) (length xs * 16)) (i * 16) s 16
+          ≡ areaOf most (insertSlot s xs)
       inserted =
           ap (λ (l : List ℕ). stored (gapped l (i * 16) (length xs * 16)) (i * 16) s 16) area-before
           ∙ opened (joined (d .a)) (joined (d .b)) s ((most - length xs - 1) * 16) (i * 16) (length xs * 16)
-          (length-joined (d .a) (parts .0) ∙ omega (arith, d .count)) (omega (arith, length-joined (d .a) (parts .0), length-joined (d .b) (parts .1), lengths)) es
+          (length-joined (d .a) (parts .0) ∙ omega (arith, d .count))
+          (omega (arith, length-joined (d .a) (parts .0), length-joined (d .b) (parts .1), lengths)) es
           ∙ sym area-after
 
-      put-new-slot : putOne (areaOf most xs) (length xs) s ≡ said (Count (length (insertSlot s xs))) (areaOf most (insertSlot s xs))
+      put-new-slot : putOne (areaOf most xs) (length xs) s
+          ≡ said (Count (length (insertSlot s xs))) (areaOf most (insertSlot s xs))
       unfolding putOne insertAnswer insertWords
       put-new-slot =
-          let f : ltb (length (areaOf most xs) - length xs * 16) 16 ≡ false = le-ltb (length (areaOf most xs) - length xs * 16) 16 (omega (arith, length-area most xs v h)) in
+          let f : ltb (length (areaOf most xs) - length xs * 16) 16
+          ≡ false = le-ltb (length (areaOf most xs) - length xs * 16) 16 (omega (arith, length-area most xs v h))
+          in
           rw (there, e, f, inserted, longer)
 
     put-full : length xs ≡ most → (putOne (areaOf most xs) (length xs) s) .held ≡ Exceeded
     unfolding putOne insertAnswer
     put-full w =
-        let f : ltb (length (areaOf most xs) - length xs * 16) 16 ≡ true = lt-ltb (length (areaOf most xs) - length xs * 16) 16 (omega (arith, length-area most xs v h)) in
+        let f : ltb (length (areaOf most xs) - length xs * 16) 16
+        ≡ true = lt-ltb (length (areaOf most xs) - length xs * 16) 16 (omega (arith, length-area most xs v h)) in
         rw (there, e, f)
 
-  put-held-slot : placeIn xs s 0 ≡ place.Held → putOne (areaOf most xs) (length xs) s ≡ said (Count (length (insertSlot s xs))) (areaOf most (insertSlot s xs))
+  put-held-slot : placeIn xs s 0 ≡ place.Held → putOne (areaOf most xs) (length xs) s
+      ≡ said (Count (length (insertSlot s xs))) (areaOf most (insertSlot s xs))
   unfolding putOne insertAnswer insertWords
   put-held-slot e = rw (there, e, held-same xs s 0 e)
 
   -- a slot is held, or refused exactly where the slots would be more than fit
   pub record PutSlot : Type 0 where
-    pub held : length (insertSlot s xs) ≤ most → putOne (areaOf most xs) (length xs) s ≡ said (Count (length (insertSlot s xs))) (areaOf most (insertSlot s xs))
+    pub held : length (insertSlot s xs) ≤ most → putOne (areaOf most xs) (length xs) s
+        ≡ said (Count (length (insertSlot s xs))) (areaOf most (insertSlot s xs))
     pub refused : most < length (insertSlot s xs) → (putOne (areaOf most xs) (length xs) s) .held ≡ Exceeded
 
   by-place : (q : Place) → placeIn xs s 0 ≡ q → PutSlot
-  by-place place.Held e = record { held = λ w. put-held-slot e; refused = λ w. absurd (omega (arith, ap length (held-same xs s 0 e))) }
+  by-place place.Held e =
+      record { held = λ w. put-held-slot e; refused = λ w. absurd (omega (arith, ap length (held-same xs s 0 e))) }
   by-place (place.At i) e = record {
     held = λ w. put-new-slot i e (omega (arith, longer i e));
     refused = λ w. put-full i e (omega (arith, longer i e));
@@ -255,7 +290,8 @@ module _ (most : ℕ) (xs : List (List ℕ)) (s : List ℕ) (v : Slots xs) (es :
 
 -- ---- all slots
 
-insert-slots-by : (o : Order) (s x : List ℕ) (xs : List (List ℕ)) → length s ≡ 16 → Slots (x ∷ xs) → Slots (insertSlot s xs) → Slots (byOrder o (s ∷ (x ∷ xs)) (x ∷ xs) (x ∷ insertSlot s xs))
+insert-slots-by : (o : Order) (s x : List ℕ) (xs : List (List ℕ)) → length s ≡ 16 → Slots (x ∷ xs)
+    → Slots (insertSlot s xs) → Slots (byOrder o (s ∷ (x ∷ xs)) (x ∷ xs) (x ∷ insertSlot s xs))
 insert-slots-by below s x xs es v ih = (es, v)
 insert-slots-by same s x xs es v ih = v
 insert-slots-by above s x xs es v ih = (v .0, ih)
@@ -265,7 +301,8 @@ unfolding insertSlot
 insert-slots s [] es v = (es, tt)
 insert-slots s (x ∷ xs) es v = insert-slots-by (order 16 x 0 s 0) s x xs es v (insert-slots s xs es (v .1))
 
-grows-by : (o : Order) (s x : List ℕ) (xs : List (List ℕ)) → length xs ≤ length (insertSlot s xs) → suc (length xs) ≤ length (byOrder o (s ∷ (x ∷ xs)) (x ∷ xs) (x ∷ insertSlot s xs))
+grows-by : (o : Order) (s x : List ℕ) (xs : List (List ℕ)) → length xs ≤ length (insertSlot s xs)
+    → suc (length xs) ≤ length (byOrder o (s ∷ (x ∷ xs)) (x ∷ xs) (x ∷ insertSlot s xs))
 grows-by below s x xs h = omega arith
 grows-by same s x xs h = omega arith
 grows-by above s x xs h = omega arith
@@ -283,23 +320,32 @@ canon-grows xs (s ∷ ss) = omega (arith, grows s xs, canon-grows (insertSlot s 
 stays : (o : Outcome) (f : List ℕ → ℕ → Outcome) → o .held ≡ Exceeded → (chain (o .held) (o .area) f) .held ≡ Exceeded
 stays o f e = rw e
 
--- holding slots in an area gives the ascending slots without repeats; it is exceeded exactly where these are more than fit
-pub put-canon : (most : ℕ) (xs ss : List (List ℕ)) → Slots xs → Slots ss → length xs ≤ most → length (canonFrom xs ss) ≤ most
+-- holding slots in an area gives the ascending slots without repeats; it is exceeded exactly where these are more
+-- than fit
+pub put-canon : (most : ℕ) (xs ss : List (List ℕ)) → Slots xs → Slots ss → length xs ≤ most
+    → length (canonFrom xs ss) ≤ most
     → putAll (areaOf most xs) (length xs) ss ≡ said (Count (length (canonFrom xs ss))) (areaOf most (canonFrom xs ss))
 unfolding putAll canonFrom
 put-canon most xs [] v w h k = refl
 put-canon most xs (s ∷ ss) v w h k =
     let g : length (insertSlot s xs) ≤ most = omega (arith, canon-grows (insertSlot s xs) ss) in
-    rw (put-slot most xs s v (w .0) h .held g) (put-canon most (insertSlot s xs) ss (insert-slots s xs (w .0) v) (w .1) g k)
+    rw (put-slot most xs s v (w .0) h .held g)
+    (put-canon most (insertSlot s xs) ss (insert-slots s xs (w .0) v) (w .1) g k)
 
-exceeded-by : (most : ℕ) (xs : List (List ℕ)) (s : List ℕ) (ss : List (List ℕ)) → Slots xs → length s ≡ 16 → Slots ss → length xs ≤ most → most < length (canonFrom (insertSlot s xs) ss)
-    → (length (insertSlot s xs) ≤ most → (putAll (areaOf most (insertSlot s xs)) (length (insertSlot s xs)) ss) .held ≡ Exceeded) → Dec (most < length (insertSlot s xs))
-    → (chain ((putOne (areaOf most xs) (length xs) s) .held) ((putOne (areaOf most xs) (length xs) s) .area) (λ l c. putAll l c ss)) .held ≡ Exceeded
+exceeded-by : (most : ℕ) (xs : List (List ℕ)) (s : List ℕ) (ss : List (List ℕ)) → Slots xs → length s ≡ 16 → Slots ss
+    → length xs ≤ most → most < length (canonFrom (insertSlot s xs) ss)
+    → (length (insertSlot s xs) ≤ most → (putAll (areaOf most (insertSlot s xs)) (length (insertSlot s xs)) ss) .held
+    ≡ Exceeded) → Dec (most < length (insertSlot s xs))
+    → (chain ((putOne (areaOf most xs) (length xs) s) .held) ((putOne (areaOf most xs) (length xs) s) .area)
+    (λ l c. putAll l c ss)) .held ≡ Exceeded
 exceeded-by most xs s ss v es w h k ih (yes z) = stays _ _ (put-slot most xs s v es h .refused z)
 exceeded-by most xs s ss v es w h k ih (no z) = rw (put-slot most xs s v es h .held (omega arith)) (ih (omega arith))
 
-pub put-exceeded-canon : (most : ℕ) (xs ss : List (List ℕ)) → Slots xs → Slots ss → length xs ≤ most → most < length (canonFrom xs ss) → (putAll (areaOf most xs) (length xs) ss) .held ≡ Exceeded
+pub put-exceeded-canon : (most : ℕ) (xs ss : List (List ℕ)) → Slots xs → Slots ss → length xs ≤ most
+    → most < length (canonFrom xs ss) → (putAll (areaOf most xs) (length xs) ss) .held ≡ Exceeded
 unfolding putAll canonFrom
 put-exceeded-canon most xs [] v w h k = absurd (omega arith)
 put-exceeded-canon most xs (s ∷ ss) v w h k =
-    exceeded-by most xs s ss v (w .0) (w .1) h k (λ g. put-exceeded-canon most (insertSlot s xs) ss (insert-slots s xs (w .0) v) (w .1) g k) (decLt most (length (insertSlot s xs)))
+    exceeded-by most xs s ss v (w .0) (w .1) h k
+    (λ g. put-exceeded-canon most (insertSlot s xs) ss (insert-slots s xs (w .0) v) (w .1) g k)
+    (decLt most (length (insertSlot s xs)))

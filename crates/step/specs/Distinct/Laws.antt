@@ -58,8 +58,11 @@ unfolding sameWords
 same-none a b j h k = rw (lib.ListN.drop-of-length-le a h, lib.ListN.drop-of-length-le b k)
 
 module _ (a b : List ℕ) (j : ℕ) (h : j < length a) (k : j < length b) where
-  pub same-on : getD a j 0 ≡ getD b j 0 → sameWords (drop (j + 1) a) (drop (j + 1) b) ≡ sameWords (drop j a) (drop j b)
-  same-on e = rw (add-one, drop-cons a j 0 h, drop-cons b j 0 k, e) (sym (same-cons (getD b j 0) (drop (suc j) a) (drop (suc j) b)))
+  pub same-on : getD a j 0 ≡ getD b j 0 → sameWords (drop (j + 1) a) (drop (j + 1) b)
+      ≡ sameWords (drop j a) (drop j b)
+  same-on e =
+      rw (add-one, drop-cons a j 0 h, drop-cons b j 0 k, e)
+      (sym (same-cons (getD b j 0) (drop (suc j) a) (drop (suc j) b)))
 
   pub same-off : (getD a j 0 ≡ getD b j 0 → ⊥) → false ≡ sameWords (drop j a) (drop j b)
   same-off e = rw (drop-cons a j 0 h, drop-cons b j 0 k) (sym (differ-cons _ _ (drop (suc j) a) (drop (suc j) b) e))
@@ -96,7 +99,8 @@ held-skip : (f : ℕ → List ℕ) (k : ℕ) (ks s : List ℕ) → sameWords s (
 unfolding heldIn
 held-skip f k ks s e = rw (e, heldIn)
 
-module _ (f : ℕ → List ℕ) (l s : List ℕ) (p n m : ℕ) (e : n ≡ suc m) (h : p < length l) (r : List ℕ) (er : r ≡ f (getD l p 0)) (b : Bool) (eb : b ≡ sameWords s r) where
+module _ (f : ℕ → List ℕ) (l s : List ℕ) (p n m : ℕ) (e : n ≡ suc m) (h : p < length l) (r : List ℕ)
+    (er : r ≡ f (getD l p 0)) (b : Bool) (eb : b ≡ sameWords s r) where
   tested : sameWords s (f (getD l p 0)) ≡ b
   tested = rw (← er) (sym eb)
 
@@ -120,16 +124,19 @@ pub kept-held : (f : ℕ → List ℕ) (i j : ℕ) → j ≡ i + 1 → heldIn f 
 unfolding kept
 kept-held f i j ej e = rw (ej, add-one) (keep-held f (kept f i) i e)
 
-pub kept-new : (f : ℕ → List ℕ) (i j : ℕ) → j ≡ i + 1 → heldIn f (kept f i) (f i) ≡ false → kept f j ≡ kept f i ++ (i ∷ [])
+pub kept-new : (f : ℕ → List ℕ) (i j : ℕ) → j ≡ i + 1 → heldIn f (kept f i) (f i) ≡ false → kept f j
+    ≡ kept f i ++ (i ∷ [])
 unfolding kept
 kept-new f i j ej e = rw (ej, add-one) (keep-new f (kept f i) i e)
 
-by-held : (f : ℕ → List ℕ) (i : ℕ) (b : Bool) → heldIn f (kept f i) (f i) ≡ b → (P : List ℕ → Type 0) → P (kept f i) → P (kept f i ++ (i ∷ [])) → P (kept f (suc i))
+by-held : (f : ℕ → List ℕ) (i : ℕ) (b : Bool) → heldIn f (kept f i) (f i) ≡ b → (P : List ℕ → Type 0) → P (kept f i)
+    → P (kept f i ++ (i ∷ [])) → P (kept f (suc i))
 by-held f i true e P x y = rw (kept-held f i (suc i) (omega arith) e) x
 by-held f i false e P x y = rw (kept-new f i (suc i) (omega arith) e) y
 
 snoc-below : (ks : List ℕ) (i : ℕ) → Indices ks i → Indices (ks ++ (i ∷ [])) (suc i)
-snoc-below ks i a = record { at = λ j h. go j (omega (arith, length-append ks (i ∷ []))) (native.Mathlib.Decide.decLt j (length ks)) }
+snoc-below ks i a =
+    record { at = λ j h. go j (omega (arith, length-append ks (i ∷ []))) (native.Mathlib.Decide.decLt j (length ks)) }
   where
     go : (j : ℕ) → j ≤ length ks → Dec (j < length ks) → getD (ks ++ (i ∷ [])) j 0 < suc i
     go j w (yes z) = rw (List·getD-append ks (i ∷ []) 0 j z) (omega (arith, a .at j z))
@@ -142,23 +149,27 @@ pub kept-below : (f : ℕ → List ℕ) (i : ℕ) → Indices (kept f i) i
 unfolding kept
 kept-below f zero = record { at = λ j h. absurd (omega arith) }
 kept-below f (suc i) =
-    by-held f i (heldIn f (kept f i) (f i)) refl (λ l. Indices l (suc i)) (more (kept f i) i (kept-below f i)) (snoc-below (kept f i) i (kept-below f i))
+    by-held f i (heldIn f (kept f i) (f i)) refl (λ l. Indices l (suc i)) (more (kept f i) i (kept-below f i))
+    (snoc-below (kept f i) i (kept-below f i))
 
 pub kept-few : (f : ℕ → List ℕ) (i : ℕ) → length (kept f i) ≤ i
 unfolding kept
 kept-few f zero = omega arith
 kept-few f (suc i) =
-    by-held f i (heldIn f (kept f i) (f i)) refl (λ l. length l ≤ suc i) (omega (arith, kept-few f i)) (omega (arith, kept-few f i, length-append (kept f i) (i ∷ [])))
+    by-held f i (heldIn f (kept f i) (f i)) refl (λ l. length l ≤ suc i) (omega (arith, kept-few f i))
+    (omega (arith, kept-few f i, length-append (kept f i) (i ∷ [])))
 
 -- ---- the store
 
-snoc-window : (l : List ℕ) (p n v : ℕ) → p + n < length l → window p (suc n) (set l (p + n) v) ≡ window p n l ++ (v ∷ [])
+snoc-window : (l : List ℕ) (p n v : ℕ) → p + n < length l → window p (suc n) (set l (p + n) v)
+    ≡ window p n l ++ (v ∷ [])
 unfolding window
 snoc-window l p n v h = rw (drop-set-add p l n v) (take-suc-set (drop p l) n v (simp length-drop (omega arith)))
 
 -- ---- what resolving asks
 
-pub resolves-empty : (t : Table) (b n m i : ℕ) → Resolvable t b n m → i < length (resolved t n m) → Resolves t b n m i empty
+pub resolves-empty : (t : Table) (b n m i : ℕ) → Resolvable t b n m → i < length (resolved t n m)
+    → Resolves t b n m i empty
 resolves-empty t b n m i s h = record {
   within = s .within;
   below = s .below;
@@ -177,28 +188,37 @@ unfolding kept
 head-first t n m old at = record { before = refl; number = refl; here = window-none at old }
 
 module _ (t : Table) (n m : ℕ) (old new : List ℕ) (at k i : ℕ) (h : Stored old new at k (kept (slotAt t n m) i)) where
-  module _ (s : List ℕ) (es : s ≡ slotAt t n m i) (b : Bool) (eb : b ≡ heldIn (slotAt t n m) (window at k new) s) where
-    judged : heldIn (slotAt t n m) (kept (slotAt t n m) i) (slotAt t n m i) ≡ b
-    judged = rw (← es, ← (h .here)) (sym eb)
+  module _ (s : List ℕ) (es : s ≡ slotAt t n m i) (b : Bool) (eb : b ≡ heldIn (slotAt t n m) (window at k new) s)
+    where
+      judged : heldIn (slotAt t n m) (kept (slotAt t n m) i) (slotAt t n m i) ≡ b
+      judged = rw (← es, ← (h .here)) (sym eb)
 
-    pub head-held : b ≡ true → Stored old new at k (kept (slotAt t n m) (i + 1))
-    head-held e = rw (kept-held (slotAt t n m) i (i + 1) refl (judged ∙ e)) h
+      pub head-held : b ≡ true → Stored old new at k (kept (slotAt t n m) (i + 1))
+      head-held e = rw (kept-held (slotAt t n m) i (i + 1) refl (judged ∙ e)) h
 
-    pub head-new : b ≡ false → at + k < length new → Stored old (set new (at + k) i) at (k + 1) (kept (slotAt t n m) (i + 1))
-    head-new e w =
-        rw (kept-new (slotAt t n m) i (i + 1) refl (judged ∙ e))
-        (record {
-          before = take-set-le at new (at + k) i (omega arith) ∙ h .before;
-          number = omega (arith, h .number, length-append (kept (slotAt t n m) i) (i ∷ []));
-          here = rw (add-one) (snoc-window new at k i w ∙ ap (λ (l : List ℕ). l ++ (i ∷ [])) (h .here));
-        })
+      pub head-new : b ≡ false → at + k < length new
+          → Stored old (set new (at + k) i) at (k + 1) (kept (slotAt t n m) (i + 1))
+      head-new e w =
+          rw (kept-new (slotAt t n m) i (i + 1) refl (judged ∙ e))
+          (record {
+            before = take-set-le at new (at + k) i (omega arith) ∙ h .before;
+            number = omega (arith, h .number, length-append (kept (slotAt t n m) i) (i ∷ []));
+            here = rw (add-one) (snoc-window new at k i w ∙ ap (λ (l : List ℕ). l ++ (i ∷ [])) (h .here));
+          })
 
   pub indices-below : (c : ℕ) → i ≤ c → at + k ≤ length new → (j : ℕ) → j < k → getD new (at + j) 0 < c
-  indices-below c w r j jh = omega (arith, kept-below (slotAt t n m) i .at j (rw (← (h .number)) jh), sym (at-window at k new j jh) ∙ ap (λ (l : List ℕ). getD l j 0) (h .here))
+  indices-below c w r j jh =
+      omega (
+        arith,
+        kept-below (slotAt t n m) i .at j (rw (← (h .number)) jh),
+        sym (at-window at k new j jh)
+            ∙ ap (λ (l : List ℕ). getD l j 0) (h .here),
+      )
 
   pub few : k ≤ i
   few = omega (arith, h .number, kept-few (slotAt t n m) i)
 
-pub branches-exact : (t : Table) (b n m c : ℕ) → Resolvable t b n m → c ≡ capped (branches t (termOf t n)) → (c ≡ length (resolved t n m)) × (c ≤ 256)
+pub branches-exact : (t : Table) (b n m c : ℕ) → Resolvable t b n m → c ≡ capped (branches t (termOf t n))
+    → (c ≡ length (resolved t n m)) × (c ≤ 256)
 unfolding capped
 branches-exact t b n m c s e = omega (arith, s .small, length-resolved t n m)

@@ -4,7 +4,7 @@
 --     may-not, none-left, ..             a tree that cannot take the event has no results
 --     PairHead, pair-head, leaf-tail, pair-tail, node-known         the first tree of a forest
 -- Assumes nothing.
-use Prim.Native.Nat.{ℕ, _+_, _*_, _/_, _%_, _<_, _≤_}
+use Prim.Native.Nat.{ℕ, _+_, _*_, _/_, _<_, _≤_}
 use native.Mathlib.Omega.{arith}
 use mathlib.Core.Path.{_≡_, refl, ap, sym, _∙_}
 use mathlib.Core.Bool.{Bool, true, false}
@@ -38,11 +38,13 @@ module _ (n m : ℕ) (h : m < 16777216) where
   unfolding holdsAt
   holds-of-node t e = rw (term-of-node, memory-of-node)
 
-  options-of-node : (t : Table) (e : ℕ) → options t e (nodeWord n m) ≡ map words (map (nth (resolved t (n + 1) (remember e m))) (leafKept t e (nodeWord n m)))
+  options-of-node : (t : Table) (e : ℕ) → options t e (nodeWord n m)
+      ≡ map words (map (nth (resolved t (n + 1) (remember e m))) (leafKept t e (nodeWord n m)))
   unfolding options option
   options-of-node t e = same-options (leafKept t e (nodeWord n m))
     where
-      same-options : (ks : List ℕ) → map (option t e (nodeWord n m)) ks ≡ map words (map (nth (resolved t (n + 1) (remember e m))) ks)
+      same-options : (ks : List ℕ) → map (option t e (nodeWord n m)) ks
+          ≡ map words (map (nth (resolved t (n + 1) (remember e m))) ks)
       same-options [] = refl
       same-options (k ∷ ks) = rw (same-option k, same-options ks)
         where
@@ -65,7 +67,8 @@ joins-append (o ∷ a) b c = rw (joins-append a b c) (sym (append-assoc (map (λ
 map-joins : (o : List ℕ) (b c : List (List ℕ)) → map (λ x. o ++ x) (joins b c) ≡ joins (map (λ x. o ++ x) b) c
 unfolding joins
 map-joins o [] c = refl
-map-joins o (p ∷ b) c = map-append (λ (x : List ℕ). o ++ x) (map (λ x. p ++ x) c) (joins b c) ∙ rw (map-joins o b c, heads c)
+map-joins o (p ∷ b) c =
+    map-append (λ (x : List ℕ). o ++ x) (map (λ x. p ++ x) c) (joins b c) ∙ rw (map-joins o b c, heads c)
   where
     heads : (c : List (List ℕ)) → map (λ x. o ++ x) (map (λ x. p ++ x) c) ≡ map (λ x. (o ++ p) ++ x) c
     heads [] = refl
@@ -74,12 +77,14 @@ map-joins o (p ∷ b) c = map-append (λ (x : List ℕ). o ++ x) (map (λ x. p +
 joins-joins : (a b c : List (List ℕ)) → joins a (joins b c) ≡ joins (joins a b) c
 unfolding joins
 joins-joins [] b c = refl
-joins-joins (o ∷ a) b c = rw (joins-joins a b c, map-joins o b c) (sym (joins-append (map (λ x. o ++ x) b) (joins a b) c))
+joins-joins (o ∷ a) b c =
+    rw (joins-joins a b c, map-joins o b c) (sym (joins-append (map (λ x. o ++ x) b) (joins a b) c))
 
 before-joins : (w : ℕ) (a c : List (List ℕ)) → before w (joins a c) ≡ joins (before w a) c
 unfolding joins before
 before-joins w [] c = refl
-before-joins w (o ∷ a) c = map-append (λ (x : List ℕ). w ∷ x) (map (λ x. o ++ x) c) (joins a c) ∙ rw (before-joins w a c, heads c)
+before-joins w (o ∷ a) c =
+    map-append (λ (x : List ℕ). w ∷ x) (map (λ x. o ++ x) c) (joins a c) ∙ rw (before-joins w a c, heads c)
   where
     heads : (c : List (List ℕ)) → map (λ x. w ∷ x) (map (λ x. o ++ x) c) ≡ map (λ x. (w ∷ o) ++ x) c
     heads [] = refl
@@ -89,25 +94,30 @@ joins-one : (o : List ℕ) (c : List (List ℕ)) → joins (o ∷ []) c ≡ map 
 unfolding joins
 joins-one o c = append-nil (map (λ x. o ++ x) c)
 
-pub words-pairs : (n m : ℕ) (ls rs : List Residual) → map words (pairs n m ls rs) ≡ before (nodeWord n m) (joins (map words ls) (map words rs))
+pub words-pairs : (n m : ℕ) (ls rs : List Residual) → map words (pairs n m ls rs)
+    ≡ before (nodeWord n m) (joins (map words ls) (map words rs))
 unfolding pairs joins before words
 words-pairs n m [] rs = refl
 words-pairs n m (l ∷ ls) rs =
     map-append words (map (pair n m l) rs) (pairs n m ls rs)
     ∙ (rw (words-pairs n m ls rs, heads rs))
-    ∙ sym (map-append (λ (x : List ℕ). nodeWord n m ∷ x) (map (λ x. words l ++ x) (map words rs)) (joins (map words ls) (map words rs)))
+    ∙ sym (map-append (λ (x : List ℕ). nodeWord n m ∷ x) (map (λ x. words l ++ x) (map words rs))
+    (joins (map words ls) (map words rs)))
   where
-    heads : (rs : List Residual) → map words (map (pair n m l) rs) ≡ map (λ x. nodeWord n m ∷ x) (map (λ x. words l ++ x) (map words rs))
+    heads : (rs : List Residual) → map words (map (pair n m l) rs)
+        ≡ map (λ x. nodeWord n m ∷ x) (map (λ x. words l ++ x) (map words rs))
     heads [] = refl
     heads (r ∷ rs) = rw (heads rs, words)
 
 -- ---- a tree that is kept
 
-spelt-pair : (n m : ℕ) (l r : Residual) (ws : List ℕ) → words (pair n m l r) ++ ws ≡ nodeWord n m ∷ (words l ++ (words r ++ ws))
+spelt-pair : (n m : ℕ) (l r : Residual) (ws : List ℕ) → words (pair n m l r) ++ ws
+    ≡ nodeWord n m ∷ (words l ++ (words r ++ ws))
 unfolding words
 spelt-pair n m l r ws = ap (λ (x : List ℕ). nodeWord n m ∷ x) (append-assoc (words l) (words r) ws)
 
-one-pair : (n m : ℕ) (l r : Residual) → before (nodeWord n m) (joins (words l ∷ []) (words r ∷ [])) ≡ words (pair n m l r) ∷ []
+one-pair : (n m : ℕ) (l r : Residual) → before (nodeWord n m) (joins (words l ∷ []) (words r ∷ []))
+    ≡ words (pair n m l r) ∷ []
 unfolding words joins before
 one-pair n m l r = refl
 
@@ -124,7 +134,8 @@ unfolding words
 spelt-leaf n m ws = refl
 
 module _ (t : Table) (e : ℕ) where
-  pub results-kept : (r : Residual) → Valid t r → (ws : List ℕ) (rest : ℕ) → results t e (words r ++ ws) (rest * 2) ≡ joins (words r ∷ []) (results t e ws rest)
+  pub results-kept : (r : Residual) → Valid t r → (ws : List ℕ) (rest : ℕ) → results t e (words r ++ ws) (rest * 2)
+      ≡ joins (words r ∷ []) (results t e ws rest)
   results-kept (leaf n m) v ws rest =
       let d : rest * 2 / 2 ≡ rest = omega arith in
       rw (spelt-leaf n m ws)
@@ -133,13 +144,15 @@ module _ (t : Table) (e : ℕ) where
   results-kept (pair n m l r) v ws rest =
       let d : rest * 2 / 2 * 4 ≡ rest * 2 * 2 = omega arith in
       rw (spelt-pair n m l r ws)
-      (kept-pair t e (nodeWord n m) (words l ++ (words r ++ ws)) (rest * 2) (omega arith) (kind-of-node n m (v .0 .0) t ∙ v .1)
+      (kept-pair t e (nodeWord n m) (words l ++ (words r ++ ws)) (rest * 2) (omega arith)
+      (kind-of-node n m (v .0 .0) t ∙ v .1)
       ∙ rw (d, results-kept l (v .2) (words r ++ ws) (rest * 2), results-kept r (v .3) ws rest)
       (grouped (nodeWord n m) (words l ∷ []) (words r ∷ []) (results t e ws rest) ∙ rw (one-pair n m l r)))
 
   -- ---- a tree that takes the event
 
-  kept-both : (n m : ℕ) (l r : Residual) → inSet t (termOf t n) m e ≡ true → afterKept t e (pair n m l r) ≡ pairs n m (afterKept t e l) (afterKept t e r)
+  kept-both : (n m : ℕ) (l r : Residual) → inSet t (termOf t n) m e ≡ true → afterKept t e (pair n m l r)
+      ≡ pairs n m (afterKept t e l) (afterKept t e r)
   unfolding afterKept
   kept-both n m l r h = rw (h, afterKept)
 
@@ -149,14 +162,18 @@ module _ (t : Table) (e : ℕ) where
   kept-either n m l r h = rw (h, afterKept)
 
   Moved : Residual → Type 0
-  Moved r = (ws : List ℕ) (rest : ℕ) → results t e (words r ++ ws) (rest * 2 + 1) ≡ joins (map words (afterKept t e r)) (results t e ws rest)
+  Moved r =
+      (ws : List ℕ) (rest : ℕ) → results t e (words r ++ ws) (rest * 2 + 1)
+      ≡ joins (map words (afterKept t e r)) (results t e ws rest)
 
-  pair-moved : (n m : ℕ) (l r : Residual) → Valid t (pair n m l r) → Moved l → Moved r → (b : Bool) → inSet t (termOf t n) m e ≡ b → Moved (pair n m l r)
+  pair-moved : (n m : ℕ) (l r : Residual) → Valid t (pair n m l r) → Moved l → Moved r → (b : Bool)
+      → inSet t (termOf t n) m e ≡ b → Moved (pair n m l r)
   unfolding Moved
   pair-moved n m l r v ml mr true h ws rest =
       let d : rest * 4 + 3 ≡ (rest * 2 + 1) * 2 + 1 = omega arith in
       rw (spelt-pair n m l r ws)
-      (both-sides t e (nodeWord n m) (words l ++ (words r ++ ws)) (rest * 2 + 1) (odd rest) (kind-of-node n m (v .0 .0) t ∙ v .1) (holds-of-node n m (v .0 .0) t e ∙ h)
+      (both-sides t e (nodeWord n m) (words l ++ (words r ++ ws)) (rest * 2 + 1) (odd rest)
+      (kind-of-node n m (v .0 .0) t ∙ v .1) (holds-of-node n m (v .0 .0) t e ∙ h)
       ∙ rw (half rest, d, ml (words r ++ ws) (rest * 2 + 1), mr ws rest)
       (grouped (nodeWord n m) (map words (afterKept t e l)) (map words (afterKept t e r)) (results t e ws rest)
       ∙ rw (kept-both n m l r h, words-pairs n m (afterKept t e l) (afterKept t e r))))
@@ -164,7 +181,8 @@ module _ (t : Table) (e : ℕ) where
       let d : rest * 4 + 1 ≡ (rest * 2) * 2 + 1 = omega arith in
       let f : rest * 4 + 2 ≡ (rest * 2 + 1) * 2 = omega arith in
       rw (spelt-pair n m l r ws)
-      (one-side t e (nodeWord n m) (words l ++ (words r ++ ws)) (rest * 2 + 1) (odd rest) (kind-of-node n m (v .0 .0) t ∙ v .1) (holds-of-node n m (v .0 .0) t e ∙ h)
+      (one-side t e (nodeWord n m) (words l ++ (words r ++ ws)) (rest * 2 + 1) (odd rest)
+      (kind-of-node n m (v .0 .0) t ∙ v .1) (holds-of-node n m (v .0 .0) t e ∙ h)
       ∙ rw (
         half rest,
         d,
@@ -178,8 +196,12 @@ module _ (t : Table) (e : ℕ) where
         ← (words-pairs n m (afterKept t e l) (r ∷ [])),
         ← (words-pairs n m (l ∷ []) (afterKept t e r)),
       )
-      (sym (joins-append (map words (pairs n m (afterKept t e l) (r ∷ []))) (map words (pairs n m (l ∷ []) (afterKept t e r))) (results t e ws rest))
-      ∙ rw (← (map-append words (pairs n m (afterKept t e l) (r ∷ [])) (pairs n m (l ∷ []) (afterKept t e r))), kept-either n m l r h)))
+      (sym (joins-append (map words (pairs n m (afterKept t e l) (r ∷ [])))
+      (map words (pairs n m (l ∷ []) (afterKept t e r))) (results t e ws rest))
+      ∙ rw (
+        ← (map-append words (pairs n m (afterKept t e l) (r ∷ [])) (pairs n m (l ∷ []) (afterKept t e r))),
+        kept-either n m l r h,
+      )))
 
   leaf-moved : (n m : ℕ) → Valid t (leaf n m) → Moved (leaf n m)
   unfolding Moved afterKept
@@ -192,7 +214,8 @@ module _ (t : Table) (e : ℕ) where
   moved (leaf n m) v = leaf-moved n m v
   moved (pair n m l r) v = pair-moved n m l r v (moved l (v .2)) (moved r (v .3)) (inSet t (termOf t n) m e) refl
 
-  pub results-moved : (r : Residual) → Valid t r → (ws : List ℕ) (rest : ℕ) → results t e (words r ++ ws) (rest * 2 + 1) ≡ joins (map words (afterKept t e r)) (results t e ws rest)
+  pub results-moved : (r : Residual) → Valid t r → (ws : List ℕ) (rest : ℕ)
+      → results t e (words r ++ ws) (rest * 2 + 1) ≡ joins (map words (afterKept t e r)) (results t e ws rest)
   unfolding Moved
   results-moved r v = moved r v
 
@@ -216,16 +239,19 @@ never : {A : Type 0} → true ≡ false → A
 never e = absurd (let z : _≡_ {A = ℕ} 0 1 = cc in omega arith)
 
 module _ (t : Table) (e n m : ℕ) (l r : Residual) where
-  pub may-both : inSet t (termOf t n) m e ≡ true → {x : Bool} → mayMove t e l ≡ x → mayMove t e (pair n m l r) ≡ elim x as (λ b. Bool) [ true ↦ mayMove t e r | false ↦ false ]
+  pub may-both : inSet t (termOf t n) m e ≡ true → {x : Bool} → mayMove t e l ≡ x → mayMove t e (pair n m l r)
+      ≡ elim x as (λ b. Bool) [ true ↦ mayMove t e r | false ↦ false ]
   unfolding mayMove
   may-both h p = rw (h, p, mayMove)
 
-  pub may-either : inSet t (termOf t n) m e ≡ false → {x : Bool} → mayMove t e l ≡ x → mayMove t e (pair n m l r) ≡ elim x as (λ b. Bool) [ true ↦ true | false ↦ mayMove t e r ]
+  pub may-either : inSet t (termOf t n) m e ≡ false → {x : Bool} → mayMove t e l ≡ x → mayMove t e (pair n m l r)
+      ≡ elim x as (λ b. Bool) [ true ↦ true | false ↦ mayMove t e r ]
   unfolding mayMove
   may-either h p = rw (h, p, mayMove)
 
   may-not-pair : (b x y : Bool) → inSet t (termOf t n) m e ≡ b → mayMove t e l ≡ x → mayMove t e r ≡ y
-      → (mayMove t e l ≡ false → afterKept t e l ≡ []) → (mayMove t e r ≡ false → afterKept t e r ≡ []) → mayMove t e (pair n m l r) ≡ false → afterKept t e (pair n m l r) ≡ []
+      → (mayMove t e l ≡ false → afterKept t e l ≡ []) → (mayMove t e r ≡ false → afterKept t e r ≡ [])
+      → mayMove t e (pair n m l r) ≡ false → afterKept t e (pair n m l r) ≡ []
   unfolding pairs
   may-not-pair true true true h p q fl fr z = never (sym q ∙ sym (may-both h p) ∙ z)
   may-not-pair true true false h p q fl fr z = kept-both t e n m l r h ∙ rw (fr q, pairs-nil)
@@ -239,7 +265,8 @@ unfolding mayMove afterKept
 may-not t e (leaf n m) z = rw (no-length (leafKept t e (nodeWord n m)) (ltb-false 0 _ z))
 may-not t e (pair n m l r) z = may-not-pair t e n m l r _ _ _ refl refl refl (may-not t e l) (may-not t e r) z
 
-module _ (t : Table) (e : ℕ) (l r : Residual) (vl : Valid t l) (vr : Valid t r) (tail ws : List ℕ) (es : ws ≡ words l ++ (words r ++ tail)) (rest : ℕ) where
+module _ (t : Table) (e : ℕ) (l r : Residual) (vl : Valid t l) (vr : Valid t r) (tail ws : List ℕ)
+    (es : ws ≡ words l ++ (words r ++ tail)) (rest : ℕ) where
   pub none-left : mayMove t e l ≡ false → results t e ws (rest * 4 + 1) ≡ []
   unfolding joins
   none-left z =
@@ -292,7 +319,8 @@ module _ (t : Table) (w : ℕ) (ws : List ℕ) where
   pair-head-of : (rs : List Residual) → w ∷ ws ≡ wordsAll rs → AllValid t rs → kindAt t w ≡ 4 → PairHead t w ws
   unfolding wordsAll words
   pair-head-of [] e v k = no-cons e
-  pair-head-of (leaf n m ∷ rs) e v k = absurd (v .0 .1 (sym (kind-of-node n m (v .0 .0 .0) t) ∙ ap (kindAt t) (sym (head-is e)) ∙ k))
+  pair-head-of (leaf n m ∷ rs) e v k =
+      absurd (v .0 .1 (sym (kind-of-node n m (v .0 .0 .0) t) ∙ ap (kindAt t) (sym (head-is e)) ∙ k))
   pair-head-of (pair n m l r ∷ rs) e v k = record {
     n = n;
     m = m;
@@ -312,7 +340,8 @@ module _ (t : Table) (w : ℕ) (ws : List ℕ) where
   unfolding wordsAll words
   leaf-tail-of [] e v k = no-cons e
   leaf-tail-of (leaf n m ∷ rs) e v k = record { trees = rs; spelt = tail-is e; valid = v .1 }
-  leaf-tail-of (pair n m l r ∷ rs) e v k = absurd (k (ap (kindAt t) (head-is e) ∙ kind-of-node n m (v .0 .0 .0) t ∙ v .0 .1))
+  leaf-tail-of (pair n m l r ∷ rs) e v k =
+      absurd (k (ap (kindAt t) (head-is e) ∙ kind-of-node n m (v .0 .0 .0) t ∙ v .0 .1))
 
   pub leaf-tail : Forest t (w ∷ ws) → (kindAt t w ≡ 4 → ⊥) → Forest t ws
   leaf-tail f k = leaf-tail-of (f .trees) (f .spelt) (f .valid) k
@@ -321,7 +350,11 @@ module _ (t : Table) (w : ℕ) (ws : List ℕ) where
   unfolding wordsAll
   pair-tail f k =
       let h = pair-head f k in
-      record { trees = h .l ∷ h .r ∷ (h .others .trees); spelt = rw (← (h .others .spelt)) (h .spelt); valid = (h .valid .2, (h .valid .3, h .others .valid)) }
+      record {
+        trees = h .l ∷ h .r ∷ (h .others .trees);
+        spelt = rw (← (h .others .spelt)) (h .spelt);
+        valid = (h .valid .2, (h .valid .3, h .others .valid));
+      }
 
   known-of : (rs : List Residual) → w ∷ ws ≡ wordsAll rs → AllValid t rs → KnownWord t w
   unfolding wordsAll words

@@ -3,7 +3,7 @@
 --     put-then, put-stop                   after one list comes the other; nothing comes once there is no room
 --     put-held, put-new, put-full          one slot, by the answer of insertion
 -- Assumes nothing.
-use Prim.Native.Nat.{ℕ, _+_, _-_, _*_, _<_, _≤_}
+use Prim.Native.Nat.{ℕ, _+_, _-_, _*_, _≤_}
 use native.Mathlib.Omega.{arith}
 use mathlib.Core.Path.{_≡_, refl, sym, _∙_}
 use mathlib.Core.Bool.{Bool, true, false}
@@ -32,26 +32,32 @@ unfolding putAll
 put-single l c s = sym (chain-end ((putOne l c s) .held) ((putOne l c s) .area))
 
 chain-chain : (h : Held) (l : List ℕ) (f g : List ℕ → ℕ → Outcome)
-    → chain ((chain h l f) .held) ((chain h l f) .area) g ≡ chain h l (λ l' c'. chain ((f l' c') .held) ((f l' c') .area) g)
+    → chain ((chain h l f) .held) ((chain h l f) .area) g
+    ≡ chain h l (λ l' c'. chain ((f l' c') .held) ((f l' c') .area) g)
 chain-chain (Count c) l f g = refl
 chain-chain Exceeded l f g = refl
 
-chain-ext : (h : Held) (l : List ℕ) (f g : List ℕ → ℕ → Outcome) → ((l : List ℕ) (c : ℕ) → f l c ≡ g l c) → chain h l f ≡ chain h l g
+chain-ext : (h : Held) (l : List ℕ) (f g : List ℕ → ℕ → Outcome) → ((l : List ℕ) (c : ℕ) → f l c ≡ g l c)
+    → chain h l f ≡ chain h l g
 chain-ext (Count c) l f g e = e l c
 chain-ext Exceeded l f g e = refl
 
-pub put-append : (l : List ℕ) (c : ℕ) (xs ys : List (List ℕ)) → putAll l c (xs ++ ys) ≡ chain ((putAll l c xs) .held) ((putAll l c xs) .area) (λ l' c'. putAll l' c' ys)
+pub put-append : (l : List ℕ) (c : ℕ) (xs ys : List (List ℕ)) → putAll l c (xs ++ ys)
+    ≡ chain ((putAll l c xs) .held) ((putAll l c xs) .area) (λ l' c'. putAll l' c' ys)
 unfolding putAll
 put-append l c [] ys = refl
 put-append l c (x ∷ xs) ys =
     chain-ext ((putOne l c x) .held) ((putOne l c x) .area) _ _ (λ l' c'. put-append l' c' xs ys)
-    ∙ sym (chain-chain ((putOne l c x) .held) ((putOne l c x) .area) (λ l' c'. putAll l' c' xs) (λ l' c'. putAll l' c' ys))
+    ∙ sym (chain-chain ((putOne l c x) .held) ((putOne l c x) .area) (λ l' c'. putAll l' c' xs)
+    (λ l' c'. putAll l' c' ys))
 
 -- after one list comes the other; nothing comes once there is no room
-pub put-then : {h : Held} {l' : List ℕ} {c' : ℕ} (l : List ℕ) (c : ℕ) (xs ys : List (List ℕ)) → h ≡ Count c' → said h l' ≡ putAll l c xs → putAll l' c' ys ≡ putAll l c (xs ++ ys)
+pub put-then : {h : Held} {l' : List ℕ} {c' : ℕ} (l : List ℕ) (c : ℕ) (xs ys : List (List ℕ)) → h ≡ Count c'
+    → said h l' ≡ putAll l c xs → putAll l' c' ys ≡ putAll l c (xs ++ ys)
 put-then l c xs ys e s = sym (put-append l c xs ys ∙ rw (← s, e))
 
-pub put-stop : {h : Held} {l' : List ℕ} (l : List ℕ) (c : ℕ) (xs ys : List (List ℕ)) → h ≡ Exceeded → said h l' ≡ putAll l c xs → said Exceeded l' ≡ putAll l c (xs ++ ys)
+pub put-stop : {h : Held} {l' : List ℕ} (l : List ℕ) (c : ℕ) (xs ys : List (List ℕ)) → h ≡ Exceeded → said h l'
+    ≡ putAll l c xs → said Exceeded l' ≡ putAll l c (xs ++ ys)
 put-stop l c xs ys e s = sym (put-append l c xs ys ∙ rw (← s, e))
 
 -- ---- one slot, by the answer of insertion
@@ -65,7 +71,8 @@ new-room : (l : List ℕ) (c : ℕ) (s : List ℕ) → ins.New ≡ insertAnswer 
 unfolding insertAnswer
 new-room l c s e = omega (arith, ltb-false (length l - c * 16) 16 (new-by (seek c l s 0) _ e))
 
-module _ (l : List ℕ) (c : ℕ) (s : List ℕ) (a : Inserted) (x : List ℕ) (ea : a ≡ insertAnswer l c s) (ex : x ≡ insertWords l c s) (same : length x ≡ length l) (h : c * 16 ≤ length l) where
+module _ (l : List ℕ) (c : ℕ) (s : List ℕ) (a : Inserted) (x : List ℕ) (ea : a ≡ insertAnswer l c s)
+    (ex : x ≡ insertWords l c s) (same : length x ≡ length l) (h : c * 16 ≤ length l) where
   pub put-held : a ≡ ins.Held → Gave (putOne l c s) (Count c) x
   unfolding putOne
   put-held e = record { same = rw (← ea, e, ← ex); fits = omega arith }

@@ -70,10 +70,12 @@ module _ (t : Table) (b n m i : ℕ) (slot : List ℕ) (s : Resolves t b n m i s
     unfolding capped
     exact = omega (arith, x .branching, s .small, length-resolved t (n + 1) m)
 
-    pub choice-left : i < c → Resolves t b (n + 1) m i slot × (resolvedInto t (n + 1) m i slot ≡ resolvedInto t n m i slot)
+    pub choice-left : i < c → Resolves t b (n + 1) m i slot
+        × (resolvedInto t (n + 1) m i slot ≡ resolvedInto t n m i slot)
     unfolding resolvedInto
     choice-left h =
-        let same : nth (resolved t n m) i ≡ nth (resolved t (n + 1) m) i = ap (λ l. nth l i) (x .list m) ∙ nth-left _ _ i (omega (arith, exact)) in (
+        let same : nth (resolved t n m) i ≡ nth (resolved t (n + 1) m) i = ap (λ l. nth l i) (x .list m)
+        ∙ nth-left _ _ i (omega (arith, exact)) in (
           record {
             within = x .left-in;
             below = x .left-below b (s .below);
@@ -87,16 +89,25 @@ module _ (t : Table) (b n m i : ℕ) (slot : List ℕ) (s : Resolves t b n m i s
           rw same,
         )
 
-    pub choice-right : c ≤ i → Resolves t b r m (i - c) slot × (resolvedInto t r m (i - c) slot ≡ resolvedInto t n m i slot)
+    pub choice-right : c ≤ i → Resolves t b r m (i - c) slot
+        × (resolvedInto t r m (i - c) slot ≡ resolvedInto t n m i slot)
     unfolding resolvedInto
     choice-right h =
-        let same : nth (resolved t n m) i ≡ nth (resolved t r m) (i - c) = ap (λ l. nth l i) (x .list m) ∙ nth-right (resolved t (n + 1) m) (resolved t r m) i (omega (arith, exact)) ∙ rw (← exact) in (
+        let same : nth (resolved t n m) i ≡ nth (resolved t r m) (i - c) = ap (λ l. nth l i) (x .list m)
+        ∙ nth-right (resolved t (n + 1) m) (resolved t r m) i (omega (arith, exact)) ∙ rw (← exact) in (
           record {
             within = x .right-in;
             below = x .right-below b (s .below);
             known = s .known;
             small = omega (arith, x .branching, s .small);
-            index = omega (arith, exact, length-append (resolved t (n + 1) m) (resolved t r m), ap length (x .list m), s .index);
+            index =
+                omega (
+                  arith,
+                  exact,
+                  length-append (resolved t (n + 1) m) (resolved t r m),
+                  ap length (x .list m),
+                  s .index,
+                );
             memory = s .memory;
             room = rw same at (s .room);
             whole = s .whole;
@@ -107,12 +118,19 @@ module _ (t : Table) (b n m i : ℕ) (slot : List ℕ) (s : Resolves t b n m i s
   both-small : (x y : ℕ) → x * y ≤ 256 → i < x * y → (0 < x) × (0 < y) × (x ≤ 256) × (y ≤ 256)
   both-small x y h k =
       let py : 0 < y = factor-positive x y i k in
-      let px : 0 < x = factor-positive y x i (rw (mul-comm x y) at k) in
-      (px, py, omega (arith, le-mul-of-pos-right {m = y} x py), omega (arith, le-mul-of-pos-right {m = x} y px, mul-comm x y))
+      let px : 0 < x = factor-positive y x i (rw (mul-comm x y) at k) in (
+        px,
+        py,
+        omega (arith, le-mul-of-pos-right {m = y} x py),
+        omega (arith, le-mul-of-pos-right {m = x} y px, mul-comm x y),
+      )
 
-  module _ (r c w : ℕ) (x : TwoSides t n r _*_ (pairs n)) (e : c ≡ capped (branches t (termOf t r))) (ew : w ≡ nodeWord n m) where
-    pub par-facts : (0 < branches t (termOf t (n + 1))) × (0 < branches t (termOf t r)) × (branches t (termOf t (n + 1)) ≤ 256) × (branches t (termOf t r) ≤ 256)
-    par-facts = both-small _ _ (rw (x .branching) at (s .small)) (rw (length-resolved t n m, x .branching) at (s .index))
+  module _ (r c w : ℕ) (x : TwoSides t n r _*_ (pairs n)) (e : c ≡ capped (branches t (termOf t r)))
+      (ew : w ≡ nodeWord n m) where
+    pub par-facts : (0 < branches t (termOf t (n + 1))) × (0 < branches t (termOf t r))
+        × (branches t (termOf t (n + 1)) ≤ 256) × (branches t (termOf t r) ≤ 256)
+    par-facts =
+        both-small _ _ (rw (x .branching) at (s .small)) (rw (length-resolved t n m, x .branching) at (s .index))
 
     right-exact : c ≡ length (resolved t r m)
     unfolding capped
@@ -123,12 +141,18 @@ module _ (t : Table) (b n m i : ℕ) (slot : List ℕ) (s : Resolves t b n m i s
 
     pub par-divides : (0 < c) × (getD slot 0 0 < 15)
     unfolding words capped
-    par-divides = (omega (arith, par-facts), omega (arith, rw (x .list m, nth-pairs n m (resolved t (n + 1) m) (resolved t r m) i counted) at (s .room)))
+    par-divides = (
+      omega (arith, par-facts),
+      omega (arith, rw (x .list m, nth-pairs n m (resolved t (n + 1) m) (resolved t r m) i counted) at (s .room)),
+    )
 
     same-pair : nth (resolved t n m) i ≡ pair n m (nth (resolved t (n + 1) m) (i / c)) (nth (resolved t r m) (i % c))
-    same-pair = ap (λ l. nth l i) (x .list m) ∙ nth-pairs n m (resolved t (n + 1) m) (resolved t r m) i counted ∙ rw (← right-exact)
+    same-pair =
+        ap (λ l. nth l i) (x .list m) ∙ nth-pairs n m (resolved t (n + 1) m) (resolved t r m) i counted
+        ∙ rw (← right-exact)
 
-    all-room : getD slot 0 0 + suc (length (words (nth (resolved t (n + 1) m) (i / c)) ++ words (nth (resolved t r m) (i % c)))) ≤ 15
+    all-room : getD slot 0 0 + suc
+        (length (words (nth (resolved t (n + 1) m) (i / c)) ++ words (nth (resolved t r m) (i % c)))) ≤ 15
     unfolding words
     all-room = rw same-pair at (s .room)
 
@@ -140,15 +164,24 @@ module _ (t : Table) (b n m i : ℕ) (slot : List ℕ) (s : Resolves t b n m i s
       small = omega (arith, par-facts);
       index = div-lt-iff-lt-mul (par-divides .0) .1 (rw right-exact counted);
       memory = s .memory;
-      room = omega (arith, all-room, head-pushed slot w (s .whole), length-append (words (nth (resolved t (n + 1) m) (i / c))) (words (nth (resolved t r m) (i % c))));
+      room =
+          omega (
+            arith,
+            all-room,
+            head-pushed slot w (s .whole),
+            length-append (words (nth (resolved t (n + 1) m) (i / c))) (words (nth (resolved t r m) (i % c))),
+          );
       whole = length-pushed slot w ∙ s .whole;
     }
 
-    pub par-right : (s1 : List ℕ) → s1 ≡ resolvedInto t (n + 1) m (i / c) (pushed slot w) → Resolves t b r m (i % c) s1 × (resolvedInto t r m (i % c) s1 ≡ resolvedInto t n m i slot)
+    pub par-right : (s1 : List ℕ) → s1 ≡ resolvedInto t (n + 1) m (i / c) (pushed slot w)
+        → Resolves t b r m (i % c) s1 × (resolvedInto t r m (i % c) s1 ≡ resolvedInto t n m i slot)
     unfolding resolvedInto words pushAll
     par-right s1 e1 =
         let h : getD s1 0 0 ≡ getD slot 0 0 + 1 + length (words (nth (resolved t (n + 1) m) (i / c))) =
-        ap (λ (l : List ℕ). getD l 0 0) e1 ∙ head-pushAll (pushed slot w) (words (nth (resolved t (n + 1) m) (i / c))) (length-pushed slot w ∙ s .whole) ∙ rw (head-pushed slot w (s .whole)) in (
+        ap (λ (l : List ℕ). getD l 0 0) e1
+        ∙ head-pushAll (pushed slot w) (words (nth (resolved t (n + 1) m) (i / c)))
+        (length-pushed slot w ∙ s .whole) ∙ rw (head-pushed slot w (s .whole)) in (
           record {
             within = x .right-in;
             below = x .right-below b (s .below);
@@ -156,13 +189,25 @@ module _ (t : Table) (b n m i : ℕ) (slot : List ℕ) (s : Resolves t b n m i s
             small = omega (arith, par-facts);
             index = rw (← right-exact) (mod-lt i (par-divides .0));
             memory = s .memory;
-            room = omega (arith, all-room, h, length-append (words (nth (resolved t (n + 1) m) (i / c))) (words (nth (resolved t r m) (i % c))));
-            whole = ap length e1 ∙ length-pushAll (pushed slot w) (words (nth (resolved t (n + 1) m) (i / c))) ∙ length-pushed slot w ∙ s .whole;
+            room =
+                omega (
+                  arith,
+                  all-room,
+                  h,
+                  length-append (words (nth (resolved t (n + 1) m) (i / c)))
+                      (words (nth (resolved t r m) (i % c))),
+                );
+            whole =
+                ap length e1 ∙ length-pushAll (pushed slot w) (words (nth (resolved t (n + 1) m) (i / c)))
+                ∙ length-pushed slot w ∙ s .whole;
           },
-          rw (same-pair, e1, ew) (sym (pushAll-append (pushed slot (nodeWord n m)) (words (nth (resolved t (n + 1) m) (i / c))) (words (nth (resolved t r m) (i % c))))),
+          rw (same-pair, e1, ew)
+              (sym (pushAll-append (pushed slot (nodeWord n m)) (words (nth (resolved t (n + 1) m) (i / c)))
+              (words (nth (resolved t r m) (i % c))))),
         )
 
-  pub into-call : (d : ℕ) → Calls t n d → (d < b) × ResolvesDefinition t d i slot × (definitionInto t d i slot ≡ resolvedInto t n m i slot)
+  pub into-call : (d : ℕ) → Calls t n d → (d < b) × ResolvesDefinition t d i slot
+      × (definitionInto t d i slot ≡ resolvedInto t n m i slot)
   unfolding resolvedInto definitionInto
   into-call d x =
       let lower : d < b = x .lower b (s .below) in (
@@ -176,7 +221,8 @@ module _ (t : Table) (b n m i : ℕ) (slot : List ℕ) (s : Resolves t b n m i s
         rw (x .list m),
       )
 
-pub into-definition : (t : Table) (a : Lawful t) (d i : ℕ) (slot : List ℕ) → ResolvesDefinition t d i slot → (n : ℕ) → n ≡ bodyNumber t d
+pub into-definition : (t : Table) (a : Lawful t) (d i : ℕ) (slot : List ℕ) → ResolvesDefinition t d i slot → (n : ℕ)
+    → n ≡ bodyNumber t d
     → Resolves t d n 0 i slot × (resolvedInto t n 0 i slot ≡ definitionInto t d i slot)
 unfolding resolvedInto definitionInto
 into-definition t a d i slot s n en =
@@ -203,7 +249,8 @@ pub record Next (t : Table) (b n n' m i i' : ℕ) (slot slot' : List ℕ) : Type
   pub resolves : Resolves t b n' m i' slot'
   pub same : resolvedInto t n' m i' slot' ≡ resolvedInto t n m i slot
 
-module _ (t : Table) (b n m i : ℕ) (slot : List ℕ) (s : Resolves t b n m i slot) (k : ℕ) (ek : k ≡ kindOf (termOf t n)) where
+module _ (t : Table) (b n m i : ℕ) (slot : List ℕ) (s : Resolves t b n m i slot) (k : ℕ)
+    (ek : k ≡ kindOf (termOf t n)) where
   pub choice-next-in : k ≡ 3 → n + 1 < termCount t
   choice-next-in e = resolved-choice t n (s .within) (sym ek ∙ e) _ refl .left-in
 
@@ -239,10 +286,12 @@ module _ (t : Table) (b n m i : ℕ) (slot : List ℕ) (s : Resolves t b n m i s
             let q = par-right t b n m i slot s r c w x ec ew s1 (rw es at e1) in
             record { lower = x .right-lower; resolves = q .0; same = q .1 }
 
-  pub go-call : k ≡ 5 → (d : ℕ) → d ≡ calledOf (termOf t n) → (d < b) × ResolvesDefinition t d i slot × (definitionInto t d i slot ≡ resolvedInto t n m i slot)
+  pub go-call : k ≡ 5 → (d : ℕ) → d ≡ calledOf (termOf t n) → (d < b) × ResolvesDefinition t d i slot
+      × (definitionInto t d i slot ≡ resolvedInto t n m i slot)
   go-call e d ed = into-call t b n m i slot s d (resolved-call t n (sym ek ∙ e) d ed)
 
-  pub go-leaf : (k ≡ 0) ⊎ (k ≡ 2) → (w : ℕ) → w ≡ nodeWord n m → (getD slot 0 0 < 15) × (pushed slot w ≡ resolvedInto t n m i slot)
+  pub go-leaf : (k ≡ 0) ⊎ (k ≡ 2) → (w : ℕ) → w ≡ nodeWord n m → (getD slot 0 0 < 15)
+      × (pushed slot w ≡ resolvedInto t n m i slot)
   go-leaf h = into-leaf t b n m i slot s (rw ek at h)
 
   pub go-none : {A : Type 0} → (k ≡ 1) ⊎ (6 ≤ k) → A

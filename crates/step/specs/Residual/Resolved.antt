@@ -34,7 +34,8 @@ length-pairs n m [] rs = omega arith
 length-pairs n m (l ∷ ls) rs =
     length-append (map (pair n m l) rs) (pairs n m ls rs) ∙ simp (length-map, length-pairs n m ls rs) (omega arith)
 
-length-resolve : (f : ℕ → List Residual) (n m : ℕ) (p : Term) → length (resolve f n m p) ≡ branchesWith (λ d. length (f d)) p
+length-resolve : (f : ℕ → List Residual) (n m : ℕ) (p : Term) → length (resolve f n m p)
+    ≡ branchesWith (λ d. length (f d)) p
 unfolding resolve branchesWith
 length-resolve f n m stop = refl
 length-resolve f n m fail = refl
@@ -42,7 +43,8 @@ length-resolve f n m (prefix r p) = refl
 length-resolve f n m (choice p q) =
     length-append (resolve f (n + 1) m p) _ ∙ rw (length-resolve f (n + 1) m p, length-resolve f (n + 1 + size p) m q)
 length-resolve f n m (par r p q) =
-    length-pairs n m (resolve f (n + 1) m p) _ ∙ rw (length-resolve f (n + 1) m p, length-resolve f (n + 1 + size p) m q)
+    length-pairs n m (resolve f (n + 1) m p) _
+    ∙ rw (length-resolve f (n + 1) m p, length-resolve f (n + 1 + size p) m q)
 length-resolve f n m (call d) = refl
 
 count-ext : (f g : ℕ → ℕ) → ((d : ℕ) → f d ≡ g d) → (p : Term) → branchesWith f p ≡ branchesWith g p
@@ -54,7 +56,8 @@ count-ext f g h (choice p q) = rw (count-ext f g h p, count-ext f g h q)
 count-ext f g h (par r p q) = rw (count-ext f g h p, count-ext f g h q)
 count-ext f g h (call d) = h d
 
-below-here : (t : Table) (b : ℕ) → resolvedBelow t (suc b) b ≡ resolve (resolvedBelow t b) (bodyNumber t b) 0 (bodyIn (t .definitions) b)
+below-here : (t : Table) (b : ℕ) → resolvedBelow t (suc b) b
+    ≡ resolve (resolvedBelow t b) (bodyNumber t b) 0 (bodyIn (t .definitions) b)
 unfolding resolvedBelow
 below-here t b = rw (eq-eqb b b refl, resolvedBelow)
 
@@ -74,7 +77,8 @@ counted t (suc b) d =
           rw e (ap length (below-here t b) ∙ length-resolve (resolvedBelow t b) (bodyNumber t b) 0 (bodyIn ds b)
           ∙ count-ext (λ d. length (resolvedBelow t b d)) (lookup g) (counted t b) (bodyIn ds b)
           ∙ sym (getD-at g (nextBranches ds g) [] 0 b (length-grow (nextBranches ds) b)
-          ∙ unfold nextBranches in ap (λ (k : ℕ). branchesWith (lookup g) (bodyIn ds k)) (length-grow (nextBranches ds) b)))
+          ∙ unfold nextBranches in ap (λ (k : ℕ). branchesWith (lookup g) (bodyIn ds k))
+          (length-grow (nextBranches ds) b)))
       | no e ↦ ap length (below-there t b d e) ∙ counted t b d ∙ sym (beyond g (nextBranches ds g) d (ne-length e))
     ]
   where
@@ -94,7 +98,8 @@ length-resolved t n m =
 
 -- ---- the bound does not matter above a definition
 
-agree : (f g : ℕ → List Residual) (b : ℕ) → ((d : ℕ) → d < b → f d ≡ g d) → (n m : ℕ) (p : Term) → Below b p → resolve f n m p ≡ resolve g n m p
+agree : (f g : ℕ → List Residual) (b : ℕ) → ((d : ℕ) → d < b → f d ≡ g d) → (n m : ℕ) (p : Term) → Below b p
+    → resolve f n m p ≡ resolve g n m p
 unfolding resolve
 agree f g b h n m stop w = refl
 agree f g b h n m fail w = refl
@@ -109,16 +114,20 @@ stable t zero d h = absurd (omega arith)
 stable t (suc b) d h =
     elim (ℕ-discrete d b) [ yes e ↦ rw e | no e ↦ below-there t b d e ∙ stable t b d (omega arith) ]
 
-pub resolved-definition : (t : Table) → Lawful t → (d : ℕ) → d < length (t .definitions) → resolvedBelow t (length (t .definitions)) d ≡ resolved t (bodyNumber t d) 0
+pub resolved-definition : (t : Table) → Lawful t → (d : ℕ) → d < length (t .definitions)
+    → resolvedBelow t (length (t .definitions)) d ≡ resolved t (bodyNumber t d) 0
 unfolding resolved
 resolved-definition t a d h =
     stable t (length (t .definitions)) d h ∙ below-here t d
-    ∙ agree (resolvedBelow t d) (resolvedBelow t (length (t .definitions))) d (λ k kh. stable t d k kh ∙ sym (stable t (length (t .definitions)) k (omega arith))) (bodyNumber t d) 0 (bodyIn (t .definitions) d) (a .lower d h)
+    ∙ agree (resolvedBelow t d) (resolvedBelow t (length (t .definitions))) d
+    (λ k kh. stable t d k kh ∙ sym (stable t (length (t .definitions)) k (omega arith))) (bodyNumber t d) 0
+    (bodyIn (t .definitions) d) (a .lower d h)
     ∙ rw (body-node t d h .term)
 
 -- ---- by kind
 
-resolve-leaf : (f : ℕ → List Residual) (n m : ℕ) (p : Term) → (kindOf p ≡ 0) ⊎ (kindOf p ≡ 2) → resolve f n m p ≡ leaf n m ∷ []
+resolve-leaf : (f : ℕ → List Residual) (n m : ℕ) (p : Term) → (kindOf p ≡ 0) ⊎ (kindOf p ≡ 2) → resolve f n m p
+    ≡ leaf n m ∷ []
 unfolding kindOf resolve
 resolve-leaf f n m stop h = refl
 resolve-leaf f n m fail (inl e) = absurd (omega arith)
@@ -131,7 +140,8 @@ resolve-leaf f n m (par r p q) (inr e) = absurd (omega arith)
 resolve-leaf f n m (call d) (inl e) = absurd (omega arith)
 resolve-leaf f n m (call d) (inr e) = absurd (omega arith)
 
-pub resolved-leaf : (t : Table) (n m : ℕ) → (kindOf (termOf t n) ≡ 0) ⊎ (kindOf (termOf t n) ≡ 2) → resolved t n m ≡ leaf n m ∷ []
+pub resolved-leaf : (t : Table) (n m : ℕ) → (kindOf (termOf t n) ≡ 0) ⊎ (kindOf (termOf t n) ≡ 2) → resolved t n m
+    ≡ leaf n m ∷ []
 unfolding resolved
 resolved-leaf t n m h = resolve-leaf _ n m (termOf t n) h
 
@@ -149,12 +159,14 @@ resolve-none f n m (par r p q) (inr e) = absurd (omega arith)
 resolve-none f n m (call d) (inl e) = absurd (omega arith)
 resolve-none f n m (call d) (inr e) = absurd (omega arith)
 
-pub resolved-none : (t : Table) (n m : ℕ) → (kindOf (termOf t n) ≡ 1) ⊎ (6 ≤ kindOf (termOf t n)) → resolved t n m ≡ []
+pub resolved-none : (t : Table) (n m : ℕ) → (kindOf (termOf t n) ≡ 1) ⊎ (6 ≤ kindOf (termOf t n)) → resolved t n m
+    ≡ []
 unfolding resolved
 resolved-none t n m h = resolve-none _ n m (termOf t n) h
 
 -- two sides: the left at n + 1, the right at r
-pub record TwoSides (t : Table) (n r : ℕ) (total : ℕ → ℕ → ℕ) (join : ℕ → List Residual → List Residual → List Residual) : Type 0 where
+pub record TwoSides (t : Table) (n r : ℕ) (total : ℕ → ℕ → ℕ) (join : ℕ → List Residual → List Residual
+    → List Residual) : Type 0 where
   pub left-in : n + 1 < termCount t
   pub right-in : r < termCount t
   pub left-lower : depthOf (termOf t (n + 1)) < depthOf (termOf t n)
@@ -191,7 +203,8 @@ module _ (t : Table) (n : ℕ) (h : n < termCount t) where
         list = λ m. rw (l, r', e);
       }
 
-  pub resolved-choice : kindOf (termOf t n) ≡ 3 → (r : ℕ) → r ≡ n + 1 + leftSize (termOf t n) → TwoSides t n r _+_ (λ m. _++_)
+  pub resolved-choice : kindOf (termOf t n) ≡ 3 → (r : ℕ) → r ≡ n + 1 + leftSize (termOf t n)
+      → TwoSides t n r _+_ (λ m. _++_)
   resolved-choice k r e = rw e (choice-sides (termOf t n) refl k)
 
   par-sides : (p : Term) → termOf t n ≡ p → kindOf p ≡ 4 → TwoSides t n (n + 1 + leftSize p) _*_ (pairs n)
@@ -216,7 +229,8 @@ module _ (t : Table) (n : ℕ) (h : n < termCount t) where
         list = λ m. rw (l, r', e);
       }
 
-  pub resolved-par : kindOf (termOf t n) ≡ 4 → (r : ℕ) → r ≡ n + 1 + leftSize (termOf t n) → TwoSides t n r _*_ (pairs n)
+  pub resolved-par : kindOf (termOf t n) ≡ 4 → (r : ℕ) → r ≡ n + 1 + leftSize (termOf t n)
+      → TwoSides t n r _*_ (pairs n)
   resolved-par k r e = rw e (par-sides (termOf t n) refl k)
 
 -- a call of definition d
@@ -263,7 +277,8 @@ pub factor-positive : (a b i : ℕ) → i < a * b → 0 < b
 factor-positive a zero i h = absurd (let e : a * 0 ≡ 0 = mul-zero a in omega arith)
 factor-positive a (suc b) i h = omega arith
 
-pub nth-pairs : (n m : ℕ) (ls rs : List Residual) (i : ℕ) → i < length ls * length rs → nth (pairs n m ls rs) i ≡ pair n m (nth ls (i / length rs)) (nth rs (i % length rs))
+pub nth-pairs : (n m : ℕ) (ls rs : List Residual) (i : ℕ) → i < length ls * length rs → nth (pairs n m ls rs) i
+    ≡ pair n m (nth ls (i / length rs)) (nth rs (i % length rs))
 unfolding pairs nth
 nth-pairs n m [] rs i h = absurd (omega arith)
 nth-pairs n m (l ∷ ls) rs i h =
@@ -276,5 +291,6 @@ nth-pairs n m (l ∷ ls) rs i h =
           let w : length rs ≤ i = omega arith in
           let k : i - length rs < length ls * length rs = omega (arith, suc-mul (length ls) (length rs)) in
           nth-right (map (pair n m l) rs) (pairs n m ls rs) i (rw length-map w)
-          ∙ rw length-map (nth-pairs n m ls rs (i - length rs) k ∙ rw (div-eq-sub-div pos w, mod-eq-sub-mod w, nth-cons))
+          ∙ rw length-map (nth-pairs n m ls rs (i - length rs) k
+          ∙ rw (div-eq-sub-div pos w, mod-eq-sub-mod w, nth-cons))
     ]

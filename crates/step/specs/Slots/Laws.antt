@@ -5,7 +5,7 @@
 -- Assumes nothing.
 use Prim.Native.Nat.{ℕ, zero, suc, _+_, _-_, _*_, _≤_, _<_}
 use native.Mathlib.Omega.{arith}
-use mathlib.Core.Path.{_≡_, _∙_}
+use mathlib.Core.Path.{_≡_}
 use mathlib.Core.List.{List}
 use lib.ListN.{length, getD}
 use borrow.Author.Tests.{le-ltb, lt-ltb}
@@ -28,13 +28,16 @@ module _ (a b : List ℕ) where
   pub order-above : (n p q : ℕ) → 0 < n → getD a p 0 < getD b q 0 → order n a p b q ≡ above
   unfolding order
   order-above zero p q z h = absurd (omega arith)
-  order-above (suc n) p q z h = let k : getD a p 0 ≤ getD b q 0 = omega arith in rw (le-ltb _ _ k, lt-ltb _ _ h, order)
+  order-above (suc n) p q z h =
+      let k : getD a p 0 ≤ getD b q 0 = omega arith in rw (le-ltb _ _ k, lt-ltb _ _ h, order)
 
-  order-next : (n p q : ℕ) → getD a p 0 ≤ getD b q 0 → getD b q 0 ≤ getD a p 0 → order n a (p + 1) b (q + 1) ≡ order (suc n) a p b q
+  order-next : (n p q : ℕ) → getD a p 0 ≤ getD b q 0 → getD b q 0 ≤ getD a p 0 → order n a (p + 1) b (q + 1)
+      ≡ order (suc n) a p b q
   unfolding order
   order-next n p q h k = rw (le-ltb _ _ h, le-ltb _ _ k, order)
 
-  pub order-on : (n m p r q : ℕ) → n ≡ suc m → r ≡ p + 1 → getD a p 0 ≤ getD b q 0 → getD b q 0 ≤ getD a p 0 → order m a r b (q + 1) ≡ order n a p b q
+  pub order-on : (n m p r q : ℕ) → n ≡ suc m → r ≡ p + 1 → getD a p 0 ≤ getD b q 0 → getD b q 0 ≤ getD a p 0
+      → order m a r b (q + 1) ≡ order n a p b q
   order-on n m p r q e f h k = rw (e, f) (order-next m p q h k)
 
   pub seek-none : (n i : ℕ) → n ≡ 0 → At i ≡ seek n a b i
@@ -56,7 +59,8 @@ module _ (a b : List ℕ) where
   seek-on n m i e h = rw e (simp h)
 
   -- a place that is found is among those looked through, or right after them
-  bound-by : (o : Order) (n i j : ℕ) (next : Place) → ((At j ≡ next) → j ≤ i + 1 + n) → At j ≡ placeBy o (At i) next → j ≤ i + suc n
+  bound-by : (o : Order) (n i j : ℕ) (next : Place) → ((At j ≡ next) → j ≤ i + 1 + n) → At j ≡ placeBy o (At i) next
+      → j ≤ i + suc n
   bound-by below n i j next ih e = let h : j ≡ i = cc in omega arith
   bound-by same n i j next ih e = let z : _≡_ {A = ℕ} 0 1 = cc in omega arith
   bound-by above n i j next ih e = omega (arith, ih e)
@@ -72,11 +76,13 @@ module _ (l s : List ℕ) (count : ℕ) where
   unfolding insertAnswer insertWords
   insert-held e = (rw (← e), rw (← e))
 
-  pub insert-full : {i : ℕ} → At i ≡ seek count l s 0 → length l - count * 16 < 16 → (ins.Full ≡ insertAnswer l count s) × (l ≡ insertWords l count s)
+  pub insert-full : {i : ℕ} → At i ≡ seek count l s 0 → length l - count * 16 < 16
+      → (ins.Full ≡ insertAnswer l count s) × (l ≡ insertWords l count s)
   unfolding insertAnswer insertWords
   insert-full e h = (rw (← e, lt-ltb _ _ h), rw (← e, lt-ltb _ _ h))
 
-  pub insert-new : {i : ℕ} (g r : List ℕ) → At i ≡ seek count l s 0 → 16 ≤ length l - count * 16 → g ≡ gapped l (i * 16) (count * 16) → r ≡ stored g (i * 16) s 16
+  pub insert-new : {i : ℕ} (g r : List ℕ) → At i ≡ seek count l s 0 → 16 ≤ length l - count * 16 → g
+      ≡ gapped l (i * 16) (count * 16) → r ≡ stored g (i * 16) s 16
       → (ins.New ≡ insertAnswer l count s) × (r ≡ insertWords l count s)
   unfolding insertAnswer insertWords
   insert-new g r e h f k = (rw (← e, le-ltb _ _ h), rw (← e, le-ltb _ _ h) (rw f at k))

@@ -3,11 +3,11 @@
 --     loaded-sound, start-place                          a slot that was loaded
 --     step-next, step-exceeded, step-end                 the loop of `step_set`
 -- Assumes nothing.
-use Prim.Native.Nat.{ℕ, suc, _+_, _-_, _*_, _<_, _≤_, _^_}
+use Prim.Native.Nat.{ℕ, suc, _+_, _-_, _*_, _<_, _≤_}
 use native.Mathlib.Omega.{arith}
 use native.Mathlib.Numerals.{add-one}
 use mathlib.Core.Path.{_≡_, refl, ap, sym, _∙_}
-use mathlib.Core.List.{List, [], _∷_, _++_}
+use mathlib.Core.List.{List, []}
 use lib.ListN.{length, getD, set, take, drop, length-drop}
 use lib.Seq.{take-suc, take-suc-set, getD-drop, getD-take}
 use Rattle.table.specs.Table.{Table}
@@ -29,15 +29,19 @@ pub load-next : (store src : List ℕ) (p j : ℕ) → j < length store → p + 
     → take (j + 1) (set store j (getD src (p + j) 0)) ≡ window p (j + 1) src
 unfolding window
 load-next store src p j h k e =
-    rw add-one (take-suc-set store j (getD src (p + j) 0) h ∙ rw e (sym (take-suc (drop p src) j 0 (rw length-drop (omega arith)) ∙ rw (getD-drop p src j 0))))
+    rw add-one (take-suc-set store j (getD src (p + j) 0) h
+    ∙ rw e (sym (take-suc (drop p src) j 0 (rw length-drop (omega arith)) ∙ rw (getD-drop p src j 0))))
 
 -- ---- a slot that was loaded
 
-module _ (t : Table) (bound e : ℕ) (src : List ℕ) (n i : ℕ) (s : Source t e src n) (eb : bound ≡ length (t .definitions)) (h : i < n) (store : List ℕ) (size : length store ≡ 4112) (l : take 16 store ≡ window (i * 16) 16 src) where
+module _ (t : Table) (bound e : ℕ) (src : List ℕ) (n i : ℕ) (s : Source t e src n)
+    (eb : bound ≡ length (t .definitions)) (h : i < n) (store : List ℕ) (size : length store ≡ 4112)
+    (l : take 16 store ≡ window (i * 16) 16 src) where
   count-is : nodeCount store ≡ getD src (i * 16) 0
   count-is =
       let z : i * 16 + 0 ≡ i * 16 = omega arith in
-      sym (getD-take 16 store 0 0 (omega arith)) ∙ ap (λ (x : List ℕ). getD x 0 0) l ∙ at-window (i * 16) 16 src 0 (omega arith) ∙ rw z
+      sym (getD-take 16 store 0 0 (omega arith)) ∙ ap (λ (x : List ℕ). getD x 0 0) l
+      ∙ at-window (i * 16) 16 src 0 (omega arith) ∙ rw z
 
   nodes-are : nodesFrom store 1 ≡ slotNodes src i
   unfolding nodesFrom slotNodes
@@ -71,19 +75,28 @@ module _ (t : Table) (bound e : ℕ) (src : List ℕ) (n i : ℕ) (s : Source t 
       forest = rw now-nodes (s .slots i h .forest);
     }
 
-    module _ (dst : List ℕ) (c : ℕ) (m k : ℕ) (em : m ≡ suc k) (r1 : Held) (l1 : List ℕ) (g : Gave (walked t e now 1 1 empty dst c) r1 l1) where
+    module _ (dst : List ℕ) (c : ℕ) (m k : ℕ) (em : m ≡ suc k) (r1 : Held) (l1 : List ℕ)
+        (g : Gave (walked t e now 1 1 empty dst c) r1 l1) where
       first-part : said r1 l1 ≡ putAll dst c (onto empty (results t e (slotNodes src i) 1))
       unfolding walked
       first-part = g .same ∙ rw now-nodes
 
-      pub step-next : (d : ℕ) → r1 ≡ Count d → (putAll l1 d (gathered t e src k (i + 1)) ≡ putAll dst c (gathered t e src m i)) × (d * 16 ≤ length l1)
+      pub step-next : (d : ℕ) → r1 ≡ Count d
+          → (putAll l1 d (gathered t e src k (i + 1)) ≡ putAll dst c (gathered t e src m i)) × (d * 16 ≤ length l1)
       unfolding gathered
-      step-next d ed = (rw em (put-then dst c (onto empty (results t e (slotNodes src i) 1)) (gathered t e src k (i + 1)) ed first-part), rw ed at (g .fits))
+      step-next d ed = (
+        rw em (put-then dst c (onto empty (results t e (slotNodes src i) 1)) (gathered t e src k (i + 1)) ed
+            first-part),
+        rw ed at (g .fits),
+      )
 
       pub step-exceeded : r1 ≡ Exceeded → said Exceeded l1 ≡ putAll dst c (gathered t e src m i)
       unfolding gathered
-      step-exceeded ed = rw em (put-stop dst c (onto empty (results t e (slotNodes src i) 1)) (gathered t e src k (i + 1)) ed first-part)
+      step-exceeded ed =
+          rw em (put-stop dst c (onto empty (results t e (slotNodes src i) 1)) (gathered t e src k (i + 1)) ed
+          first-part)
 
-pub step-end : (t : Table) (e : ℕ) (src dst : List ℕ) (c m i : ℕ) → m ≡ 0 → said (Count c) dst ≡ putAll dst c (gathered t e src m i)
+pub step-end : (t : Table) (e : ℕ) (src dst : List ℕ) (c m i : ℕ) → m ≡ 0 → said (Count c) dst
+    ≡ putAll dst c (gathered t e src m i)
 unfolding gathered
 step-end t e src dst c m i em = put-none dst c ∙ rw em

@@ -6,7 +6,7 @@
 use Prim.Native.Nat.{ℕ, zero, _+_, _-_, _*_, _<_, _≤_}
 use native.Mathlib.Omega.{arith}
 use mathlib.Core.Path.{_≡_, refl, ap, sym, _∙_}
-use mathlib.Core.List.{List, [], _∷_, _++_, map, append-nil, map-append}
+use mathlib.Core.List.{List, [], _∷_, map, append-nil, map-append}
 use lib.ListN.{length, replicate, length-replicate}
 use Rattle.table.specs.Table.{Table}
 use Rattle.step.specs.declared.slots.Held.the-variants.{Count, Exceeded}
@@ -30,16 +30,21 @@ unfolding joins
 joins-unit [] = refl
 joins-unit (o ∷ a) = rw (append-nil o, joins-unit a)
 
-pub results-of : (t : Table) (e : ℕ) (r : Residual) → Valid t r → results t e (words r) 1 ≡ map words (afterKept t e r)
+pub results-of : (t : Table) (e : ℕ) (r : Residual) → Valid t r → results t e (words r) 1
+    ≡ map words (afterKept t e r)
 unfolding results
-results-of t e r v = ap (λ (l : List ℕ). results t e l 1) (sym (append-nil (words r))) ∙ results-moved t e r v [] 0 ∙ joins-unit (map words (afterKept t e r))
+results-of t e r v =
+    ap (λ (l : List ℕ). results t e l 1) (sym (append-nil (words r))) ∙ results-moved t e r v [] 0
+    ∙ joins-unit (map words (afterKept t e r))
 
-pub gathered-of : (t : Table) (e : ℕ) (src : List ℕ) (i n : ℕ) (rs : List Residual) → n ≡ length rs → Holds t src i rs → gathered t e src n i ≡ slotsOf (allKept t e rs)
+pub gathered-of : (t : Table) (e : ℕ) (src : List ℕ) (i n : ℕ) (rs : List Residual) → n ≡ length rs → Holds t src i rs
+    → gathered t e src n i ≡ slotsOf (allKept t e rs)
 unfolding gathered slotsOf allKept onto
 gathered-of t e src i n [] en h = rw en
 gathered-of t e src i n (r ∷ rs) en h =
     rw (en, h .0, results-of t e r (h .1), gathered-of t e src (i + 1) (length rs) rs refl (h .2))
-    (sym (ap (onto empty) (map-append words (afterKept t e r) (allKept t e rs)) ∙ onto-append empty (map words (afterKept t e r)) (map words (allKept t e rs))))
+    (sym (ap (onto empty) (map-append words (afterKept t e r) (allKept t e rs))
+    ∙ onto-append empty (map words (afterKept t e r)) (map words (allKept t e rs))))
 
 all-slots : (ws : List (List ℕ)) → Slots (onto empty ws)
 unfolding onto
@@ -56,16 +61,22 @@ unfolding areaOf joined
 no-slots most = let z : (most - 0) * 16 ≡ most * 16 = omega arith in rw z
 
 module _ (t : Table) (e : ℕ) (src : List ℕ) (rs : List Residual) (h : Holds t src 0 rs) (most : ℕ) where
-  given : putAll (replicate (most * 16) 0) 0 (gathered t e src (length rs) 0) ≡ putAll (areaOf most []) 0 (slotsOf (allKept t e rs))
+  given : putAll (replicate (most * 16) 0) 0 (gathered t e src (length rs) 0)
+      ≡ putAll (areaOf most []) 0 (slotsOf (allKept t e rs))
   given = rw (no-slots most, gathered-of t e src 0 (length rs) rs refl h)
 
   pub step-holds : length (canonFrom [] (slotsOf (allKept t e rs))) ≤ most
       → putAll (replicate (most * 16) 0) 0 (gathered t e src (length rs) 0)
-      ≡ said (Count (length (canonFrom [] (slotsOf (allKept t e rs))))) (areaOf most (canonFrom [] (slotsOf (allKept t e rs))))
-  step-holds k = given ∙ put-canon most [] (slotsOf (allKept t e rs)) tt (slots-of-slots (allKept t e rs)) (omega arith) k
+      ≡ said (Count (length (canonFrom [] (slotsOf (allKept t e rs)))))
+      (areaOf most (canonFrom [] (slotsOf (allKept t e rs))))
+  step-holds k =
+      given ∙ put-canon most [] (slotsOf (allKept t e rs)) tt (slots-of-slots (allKept t e rs)) (omega arith) k
 
-  pub step-exceeds : most < length (canonFrom [] (slotsOf (allKept t e rs))) → (putAll (replicate (most * 16) 0) 0 (gathered t e src (length rs) 0)) .held ≡ Exceeded
-  step-exceeds k = ap (λ o. o .held) given ∙ put-exceeded-canon most [] (slotsOf (allKept t e rs)) tt (slots-of-slots (allKept t e rs)) (omega arith) k
+  pub step-exceeds : most < length (canonFrom [] (slotsOf (allKept t e rs)))
+      → (putAll (replicate (most * 16) 0) 0 (gathered t e src (length rs) 0)) .held ≡ Exceeded
+  step-exceeds k =
+      ap (λ o. o .held) given ∙ put-exceeded-canon most [] (slotsOf (allKept t e rs)) tt
+      (slots-of-slots (allKept t e rs)) (omega arith) k
 
 -- ---- the same with the repeats
 
@@ -73,31 +84,44 @@ abbrev pub AllShort : Table → ℕ → List Residual → Type 0
 AllShort t e [] = Unit
 AllShort t e (r ∷ rs) = Short t e r × AllShort t e rs
 
-same-all : (t : Table) (e : ℕ) (src : List ℕ) (i : ℕ) (rs : List Residual) → Holds t src i rs → AllShort t e rs → Both (map words (allKept t e rs)) (map words (allAfter t e rs))
+same-all : (t : Table) (e : ℕ) (src : List ℕ) (i : ℕ) (rs : List Residual) → Holds t src i rs → AllShort t e rs
+    → Both (map words (allKept t e rs)) (map words (allAfter t e rs))
 unfolding allKept allAfter
 same-all t e src i [] h s = (λ z m. m, λ z m. m)
 same-all t e src i (r ∷ rs) h s =
-    append-both (afterKept t e r) (after t e r) (allKept t e rs) (allAfter t e rs) (same-after t e r (h .1) (s .0)) (same-all t e src (i + 1) rs (h .2) (s .1))
+    append-both (afterKept t e r) (after t e r) (allKept t e rs) (allAfter t e rs) (same-after t e r (h .1) (s .0))
+    (same-all t e src (i + 1) rs (h .2) (s .1))
 
-canon-same : (t : Table) (e : ℕ) (src : List ℕ) (rs : List Residual) → Holds t src 0 rs → AllShort t e rs → canonFrom [] (slotsOf (allKept t e rs)) ≡ canon (allAfter t e rs)
+canon-same : (t : Table) (e : ℕ) (src : List ℕ) (rs : List Residual) → Holds t src 0 rs → AllShort t e rs
+    → canonFrom [] (slotsOf (allKept t e rs)) ≡ canon (allAfter t e rs)
 unfolding canon slotsOf onto
 canon-same t e src rs h s =
     let b = same-all t e src 0 rs h s in
-    canon-members (onto empty (map words (allKept t e rs))) (onto empty (map words (allAfter t e rs))) (all-slots (map words (allKept t e rs))) (all-slots (map words (allAfter t e rs)))
-    (sub-map (λ c. pushAll empty c) (map words (allKept t e rs)) (map words (allAfter t e rs)) (b .0)) (sub-map (λ c. pushAll empty c) (map words (allAfter t e rs)) (map words (allKept t e rs)) (b .1))
+    canon-members (onto empty (map words (allKept t e rs))) (onto empty (map words (allAfter t e rs)))
+    (all-slots (map words (allKept t e rs))) (all-slots (map words (allAfter t e rs)))
+    (sub-map (λ c. pushAll empty c) (map words (allKept t e rs)) (map words (allAfter t e rs)) (b .0))
+    (sub-map (λ c. pushAll empty c) (map words (allAfter t e rs)) (map words (allKept t e rs)) (b .1))
 
-all-short : (t : Table) (e : ℕ) (src : List ℕ) (i : ℕ) (rs : List Residual) → Holds t src i rs → ((j : ℕ) → i ≤ j → j < i + length rs → SoundSlot t e src j) → AllShort t e rs
+all-short : (t : Table) (e : ℕ) (src : List ℕ) (i : ℕ) (rs : List Residual) → Holds t src i rs
+    → ((j : ℕ) → i ≤ j → j < i + length rs → SoundSlot t e src j) → AllShort t e rs
 all-short t e src i [] h s = tt
-all-short t e src i (r ∷ rs) h s =
-    (short-of t e r (h .1) (rw (h .0) at (s i (omega arith) (omega arith) .room)), all-short t e src (i + 1) rs (h .2) (λ j a b. s j (omega arith) (omega arith)))
+all-short t e src i (r ∷ rs) h s = (
+  short-of t e r (h .1) (rw (h .0) at (s i (omega arith) (omega arith) .room)),
+  all-short t e src (i + 1) rs (h .2)
+      (λ j a b. s j (omega arith) (omega arith)),
+)
 
-module _ (t : Table) (e : ℕ) (src : List ℕ) (rs : List Residual) (h : Holds t src 0 rs) (source : Source t e src (length rs)) (most : ℕ) where
+module _ (t : Table) (e : ℕ) (src : List ℕ) (rs : List Residual) (h : Holds t src 0 rs)
+    (source : Source t e src (length rs)) (most : ℕ) where
   short : AllShort t e rs
   short = all-short t e src 0 rs h (λ j a b. source .slots j (omega arith))
 
   pub stepped : length (canon (allAfter t e rs)) ≤ most
-      → putAll (replicate (most * 16) 0) 0 (gathered t e src (length rs) 0) ≡ said (Count (length (canon (allAfter t e rs)))) (areaOf most (canon (allAfter t e rs)))
-  stepped k = rw (canon-same t e src rs h short) at (step-holds t e src rs h most (rw (canon-same t e src rs h short) k))
+      → putAll (replicate (most * 16) 0) 0 (gathered t e src (length rs) 0)
+      ≡ said (Count (length (canon (allAfter t e rs)))) (areaOf most (canon (allAfter t e rs)))
+  stepped k =
+      rw (canon-same t e src rs h short) at (step-holds t e src rs h most (rw (canon-same t e src rs h short) k))
 
-  pub exceeded : most < length (canon (allAfter t e rs)) → (putAll (replicate (most * 16) 0) 0 (gathered t e src (length rs) 0)) .held ≡ Exceeded
+  pub exceeded : most < length (canon (allAfter t e rs))
+      → (putAll (replicate (most * 16) 0) 0 (gathered t e src (length rs) 0)) .held ≡ Exceeded
   exceeded k = step-exceeds t e src rs h most (rw (canon-same t e src rs h short) k)

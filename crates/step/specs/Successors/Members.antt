@@ -4,7 +4,7 @@
 --     Both, same-after           the same members; those of `afterKept` are those of `after`
 --     Short, short-of            a residual whose leaves have short results; it is where they have room
 -- Assumes nothing.
-use Prim.Native.Nat.{ℕ, zero, suc, _+_, _-_, _*_, _<_, _≤_}
+use Prim.Native.Nat.{ℕ, zero, suc, _+_, _-_, _<_, _≤_}
 use native.Mathlib.Omega.{arith}
 use native.Mathlib.Decide.{ℕ-discrete}
 use native.Mathlib.Numerals.{add-one}
@@ -30,24 +30,29 @@ use Rattle.step.specs.Canon.Sets.{Mem}
 
 -- ---- a slot's words are known from the slot
 
-push-once : (pre : List ℕ) (w n : ℕ) → pushed (length pre ∷ (pre ++ replicate (suc n) 0)) w ≡ (length pre + 1) ∷ (pre ++ (w ∷ replicate n 0))
+push-once : (pre : List ℕ) (w n : ℕ) → pushed (length pre ∷ (pre ++ replicate (suc n) 0)) w
+    ≡ (length pre + 1) ∷ (pre ++ (w ∷ replicate n 0))
 unfolding pushed
 push-once pre w n = rw (add-one (length pre), set-at pre 0 (replicate n 0) w (length pre) refl)
 
-push-form : (ws pre : List ℕ) (z : ℕ) → pushAll (length pre ∷ (pre ++ replicate (length ws + z) 0)) ws ≡ length (pre ++ ws) ∷ ((pre ++ ws) ++ replicate z 0)
+push-form : (ws pre : List ℕ) (z : ℕ) → pushAll (length pre ∷ (pre ++ replicate (length ws + z) 0)) ws
+    ≡ length (pre ++ ws) ∷ ((pre ++ ws) ++ replicate z 0)
 unfolding pushAll
 push-form [] pre z = let e : 0 + z ≡ z = omega arith in rw (e, append-nil pre)
 push-form (w ∷ ws) pre z =
     let e : suc (length ws) + z ≡ suc (length ws + z) = omega arith in
     let l : length pre + 1 ≡ length (pre ++ (w ∷ [])) = sym (length-append pre (w ∷ [])) in
     ap (λ (k : ℕ). pushAll (pushed (length pre ∷ (pre ++ replicate k 0)) w) ws) e
-    ∙ ap (λ (s : List ℕ). pushAll s ws) (push-once pre w (length ws + z) ∙ ap (λ (k : ℕ). k ∷ (pre ++ (w ∷ replicate (length ws + z) 0))) l
+    ∙ ap (λ (s : List ℕ). pushAll s ws) (push-once pre w (length ws + z)
+    ∙ ap (λ (k : ℕ). k ∷ (pre ++ (w ∷ replicate (length ws + z) 0))) l
     ∙ ap (λ (s : List ℕ). length (pre ++ (w ∷ [])) ∷ s) (sym (append-snoc pre w (replicate (length ws + z) 0))))
     ∙ push-form ws (pre ++ (w ∷ [])) z
     ∙ ap (λ (s : List ℕ). length s ∷ (s ++ replicate z 0)) (append-snoc pre w ws)
 
 slot-form : (ws : List ℕ) → length ws ≤ 15 → pushAll empty ws ≡ length ws ∷ (ws ++ replicate (15 - length ws) 0)
-slot-form ws h = let e : 15 ≡ length ws + (15 - length ws) = omega arith in ap (λ (k : ℕ). pushAll (0 ∷ replicate k 0) ws) e ∙ push-form ws [] (15 - length ws)
+slot-form ws h =
+    let e : 15 ≡ length ws + (15 - length ws) = omega arith in
+    ap (λ (k : ℕ). pushAll (0 ∷ replicate k 0) ws) e ∙ push-form ws [] (15 - length ws)
 
 head-is : {x y : ℕ} {xs ys : List ℕ} → x ∷ xs ≡ y ∷ ys → x ≡ y
 head-is e = cc
@@ -58,7 +63,8 @@ tail-is e = cc
 pub slot-words : (ws us : List ℕ) → length ws ≤ 15 → length us ≤ 15 → pushAll empty ws ≡ pushAll empty us → ws ≡ us
 slot-words ws us h k e =
     let f = sym (slot-form ws h) ∙ e ∙ slot-form us k in
-    sym (take-at ws _ (length ws) refl) ∙ ap (take (length ws)) (tail-is f) ∙ take-at us _ (length ws) (sym (head-is f))
+    sym (take-at ws _ (length ws) refl) ∙ ap (take (length ws)) (tail-is f)
+    ∙ take-at us _ (length ws) (sym (head-is f))
 
 -- ---- every index is covered by a kept one
 
@@ -67,10 +73,12 @@ pub record Covered (f : ℕ → List ℕ) (ks s : List ℕ) : Type 0 where
   pub inside : j < length ks
   pub same : f (getD ks j 0) ≡ s
 
-held-by : (f : ℕ → List ℕ) (k : ℕ) (ks s : List ℕ) (b : Bool) → sameWords s (f k) ≡ b → elim b as (λ x. Bool) [ true ↦ true | false ↦ heldIn f ks s ] ≡ true
+held-by : (f : ℕ → List ℕ) (k : ℕ) (ks s : List ℕ) (b : Bool) → sameWords s (f k) ≡ b
+    → elim b as (λ x. Bool) [ true ↦ true | false ↦ heldIn f ks s ] ≡ true
     → (heldIn f ks s ≡ true → Covered f ks s) → Covered f (k ∷ ks) s
 held-by f k ks s true e h ih = record { j = 0; inside = omega arith; same = sym (same-true s (f k) e) }
-held-by f k ks s false e h ih = let c = ih h in record { j = suc (c .j); inside = omega (arith, c .inside); same = c .same }
+held-by f k ks s false e h ih =
+    let c = ih h in record { j = suc (c .j); inside = omega (arith, c .inside); same = c .same }
 
 held-covered : (f : ℕ → List ℕ) (ks s : List ℕ) → heldIn f ks s ≡ true → Covered f ks s
 unfolding heldIn
@@ -78,16 +86,29 @@ held-covered f [] s h = absurd (let z : _≡_ {A = ℕ} 0 1 = cc in omega arith)
 held-covered f (k ∷ ks) s h = held-by f k ks s (sameWords s (f k)) refl h (held-covered f ks s)
 
 covered-more : (f : ℕ → List ℕ) (ks s : List ℕ) (c : ℕ) → Covered f ks s → Covered f (ks ++ (c ∷ [])) s
-covered-more f ks s c d = record { j = d .j; inside = omega (arith, d .inside, length-append ks (c ∷ [])); same = rw (List·getD-append ks (c ∷ []) 0 (d .j) (d .inside)) (d .same) }
+covered-more f ks s c d =
+    record {
+      j = d .j;
+      inside = omega (arith, d .inside, length-append ks (c ∷ []));
+      same = rw (List·getD-append ks (c ∷ []) 0 (d .j) (d .inside)) (d .same);
+    }
 
 covered-last : (f : ℕ → List ℕ) (ks : List ℕ) (c : ℕ) → Covered f (ks ++ (c ∷ [])) (f c)
-covered-last f ks c = record { j = length ks; inside = omega (arith, length-append ks (c ∷ [])); same = rw (getD-append-seam ks c [] 0) }
+covered-last f ks c =
+    record {
+      j = length ks;
+      inside = omega (arith, length-append ks (c ∷ []));
+      same = rw (getD-append-seam ks c [] 0);
+    }
 
-covers-by : (f : ℕ → List ℕ) (c i : ℕ) (b : Bool) → heldIn f (kept f c) (f c) ≡ b → i < suc c → (i < c → Covered f (kept f c) (f i)) → Dec (i ≡ c) → Covered f (kept f (suc c)) (f i)
-covers-by f c i true e h ih (yes z) = rw (kept-held f c (suc c) (omega arith) e, z) (held-covered f (kept f c) (f c) e)
+covers-by : (f : ℕ → List ℕ) (c i : ℕ) (b : Bool) → heldIn f (kept f c) (f c) ≡ b → i < suc c
+    → (i < c → Covered f (kept f c) (f i)) → Dec (i ≡ c) → Covered f (kept f (suc c)) (f i)
+covers-by f c i true e h ih (yes z) =
+    rw (kept-held f c (suc c) (omega arith) e, z) (held-covered f (kept f c) (f c) e)
 covers-by f c i true e h ih (no z) = rw (kept-held f c (suc c) (omega arith) e) (ih (omega arith))
 covers-by f c i false e h ih (yes z) = rw (kept-new f c (suc c) (omega arith) e, z) (covered-last f (kept f c) c)
-covers-by f c i false e h ih (no z) = rw (kept-new f c (suc c) (omega arith) e) (covered-more f (kept f c) (f i) c (ih (omega arith)))
+covers-by f c i false e h ih (no z) =
+    rw (kept-new f c (suc c) (omega arith) e) (covered-more f (kept f c) (f i) c (ih (omega arith)))
 
 pub covers : (f : ℕ → List ℕ) (c i : ℕ) → i < c → Covered f (kept f c) (f i)
 covers f zero i h = absurd (omega arith)
@@ -110,14 +131,17 @@ mem-at : (l : List Residual) (z : List ℕ) → Mem z (map words l) → At l z
 unfolding nth
 mem-at [] z m = absurd m
 mem-at (r ∷ l) z (inl e) = record { i = 0; inside = omega arith; is = e }
-mem-at (r ∷ l) z (inr m) = let a = mem-at l z m in record { i = suc (a .i); inside = omega (arith, a .inside); is = a .is }
+mem-at (r ∷ l) z (inr m) =
+    let a = mem-at l z m in record { i = suc (a .i); inside = omega (arith, a .inside); is = a .is }
 
-mem-pick : (s : List Residual) (ks : List ℕ) (j : ℕ) → j < length ks → Mem (words (nth s (getD ks j 0))) (map words (map (nth s) ks))
+mem-pick : (s : List Residual) (ks : List ℕ) (j : ℕ) → j < length ks
+    → Mem (words (nth s (getD ks j 0))) (map words (map (nth s) ks))
 mem-pick s [] j h = absurd (omega arith)
 mem-pick s (k ∷ ks) zero h = inl refl
 mem-pick s (k ∷ ks) (suc j) h = inr (mem-pick s ks j (omega arith))
 
-pick-at : (s : List Residual) (ks : List ℕ) (n : ℕ) (z : List ℕ) → Indices ks n → Mem z (map words (map (nth s) ks)) → n ≡ length s → Mem z (map words s)
+pick-at : (s : List Residual) (ks : List ℕ) (n : ℕ) (z : List ℕ) → Indices ks n → Mem z (map words (map (nth s) ks))
+    → n ≡ length s → Mem z (map words s)
 pick-at s [] n z v m en = absurd m
 pick-at s (k ∷ ks) n z v (inl e) en = rw e (mem-nth s k (omega (arith, v .at 0 (omega arith))))
 pick-at s (k ∷ ks) n z v (inr m) en = pick-at s ks n z (record { at = λ j h. v .at (suc j) (omega arith) }) m en
@@ -143,28 +167,41 @@ follower : Table → ℕ → ℕ → List Residual
 follower t e w = resolved t (termOfWord w + 1) (remember e (memoryOfWord w))
 
 module _ (t : Table) (e w : ℕ) (short : longest (map words (leafResults t e w)) ≤ 15) where
-  yes-in : leafResults t e w ≡ follower t e w → leafKept t e w ≡ kept (slotAt t (termOfWord w + 1) (remember e (memoryOfWord w))) (length (follower t e w))
+  yes-in : leafResults t e w ≡ follower t e w → leafKept t e w
+      ≡ kept (slotAt t (termOfWord w + 1) (remember e (memoryOfWord w))) (length (follower t e w))
       → Both (map words (map (nth (follower t e w)) (leafKept t e w))) (map words (leafResults t e w))
   unfolding follower slotAt resolvedInto
-  yes-in er ek = (λ z m. rw er (pick-at (follower t e w) (leafKept t e w) (length (follower t e w)) z (rw ek (kept-below _ (length (follower t e w)))) m refl), back)
+  yes-in er ek = (
+    λ z m. rw er
+        (pick-at (follower t e w) (leafKept t e w) (length (follower t e w)) z
+        (rw ek (kept-below _ (length (follower t e w)))) m refl),
+    back,
+  )
     where
-      back : (z : List ℕ) → Mem z (map words (leafResults t e w)) → Mem z (map words (map (nth (resolved t (termOfWord w + 1) (remember e (memoryOfWord w)))) (leafKept t e w)))
+      back : (z : List ℕ) → Mem z (map words (leafResults t e w))
+          → Mem z (map words
+          (map (nth (resolved t (termOfWord w + 1) (remember e (memoryOfWord w)))) (leafKept t e w)))
       back z m =
           let a = mem-at (follower t e w) z (rw er at m) in
           let f : ℕ → List ℕ = slotAt t (termOfWord w + 1) (remember e (memoryOfWord w)) in
           let c = covers f (length (follower t e w)) (a .i) (a .inside) in
           let inside : c .j < length (leafKept t e w) = rw ek (c .inside) in
-          let low : getD (kept f (length (follower t e w))) (c .j) 0 < length (follower t e w) = kept-below f (length (follower t e w)) .at (c .j) (c .inside) in
+          let low : getD (kept f (length (follower t e w))) (c .j) 0 < length (follower t e w) = kept-below f
+          (length (follower t e w)) .at (c .j) (c .inside) in
           let s1 : longest (map words (follower t e w)) ≤ 15 = rw er at short in
-          let g : words (nth (follower t e w) (getD (kept f (length (follower t e w))) (c .j) 0)) ≡ words (nth (follower t e w) (a .i)) =
-          slot-words _ _ (omega (arith, words-short (follower t e w) _ low)) (omega (arith, words-short (follower t e w) (a .i) (a .inside))) (c .same) in
+          let g : words (nth (follower t e w) (getD (kept f (length (follower t e w))) (c .j) 0))
+          ≡ words (nth (follower t e w) (a .i)) =
+          slot-words _ _ (omega (arith, words-short (follower t e w) _ low))
+          (omega (arith, words-short (follower t e w) (a .i) (a .inside))) (c .same) in
           let h : words (nth (follower t e w) (getD (leafKept t e w) (c .j) 0)) ≡ z = rw ek (g ∙ sym (a .is)) in
           rw h at (mem-pick (follower t e w) (leafKept t e w) (c .j) inside)
 
-  none-in : leafResults t e w ≡ [] → leafKept t e w ≡ [] → Both (map words (map (nth (follower t e w)) (leafKept t e w))) (map words (leafResults t e w))
+  none-in : leafResults t e w ≡ [] → leafKept t e w ≡ []
+      → Both (map words (map (nth (follower t e w)) (leafKept t e w))) (map words (leafResults t e w))
   none-in er ek = rw (er, ek) (λ z m. m, λ z m. m)
 
-  leaf-by : (a b : Bool) → eqb (kindAt t w) 2 ≡ a → holdsAt t e w ≡ b → Both (map words (map (nth (follower t e w)) (leafKept t e w))) (map words (leafResults t e w))
+  leaf-by : (a b : Bool) → eqb (kindAt t w) 2 ≡ a → holdsAt t e w ≡ b
+      → Both (map words (map (nth (follower t e w)) (leafKept t e w))) (map words (leafResults t e w))
   unfolding follower
   leaf-by true true ea eb = yes-in (results-yes t e w ea eb) (kept-yes t e w ea eb)
   leaf-by true false ea eb = none-in (results-not-held t e w ea eb) (kept-not-held t e w ea eb)
@@ -190,7 +227,8 @@ out-append z (x ∷ a) b (inl e) = inl (inl e)
 out-append z (x ∷ a) b (inr m) = ⊎-elim (λ n. inl (inr n)) (λ n. inr n) (out-append z a b m)
 
 sub-append : (a a' b b' : List (List ℕ)) → Sub a a' → Sub b b' → Sub (a ++ b) (a' ++ b')
-sub-append a a' b b' f g z m = ⊎-elim (λ n. in-left z a' b' (f z n)) (λ n. in-right z a' b' (g z n)) (out-append z a b m)
+sub-append a a' b b' f g z m =
+    ⊎-elim (λ n. in-left z a' b' (f z n)) (λ n. in-right z a' b' (g z n)) (out-append z a b m)
 
 pub record Image (g : List ℕ → List ℕ) (a : List (List ℕ)) (z : List ℕ) : Type 0 where
   pub x : List ℕ
@@ -207,7 +245,8 @@ map-out g [] z m = absurd m
 map-out g (y ∷ a) z (inl e) = record { x = y; member = inl refl; is = e }
 map-out g (y ∷ a) z (inr m) = let i = map-out g a z m in record { x = i .x; member = inr (i .member); is = i .is }
 
-pub sub-map : (g : List ℕ → List ℕ) (a b : List (List ℕ)) → ((z : List ℕ) → Mem z a → Mem z b) → (z : List ℕ) → Mem z (map g a) → Mem z (map g b)
+pub sub-map : (g : List ℕ → List ℕ) (a b : List (List ℕ)) → ((z : List ℕ) → Mem z a → Mem z b) → (z : List ℕ)
+    → Mem z (map g a) → Mem z (map g b)
 sub-map g a b f z m = let i = map-out g a z m in rw (i .is) (map-in g b (i .x) (f (i .x) (i .member)))
 
 sub-before : (w : ℕ) (a b : List (List ℕ)) → Sub a b → Sub (before w a) (before w b)
@@ -217,7 +256,8 @@ sub-before w a b f = sub-map (λ c. w ∷ c) a b f
 joins-in : (x y : List ℕ) (a b : List (List ℕ)) → Mem x a → Mem y b → Mem (x ++ y) (joins a b)
 unfolding joins
 joins-in x y [] b m n = absurd m
-joins-in x y (o ∷ a) b (inl e) n = in-left (x ++ y) (map (λ c. o ++ c) b) (joins a b) (rw e (map-in (λ c. o ++ c) b y n))
+joins-in x y (o ∷ a) b (inl e) n =
+    in-left (x ++ y) (map (λ c. o ++ c) b) (joins a b) (rw e (map-in (λ c. o ++ c) b y n))
 joins-in x y (o ∷ a) b (inr m) n = in-right (x ++ y) (map (λ c. o ++ c) b) (joins a b) (joins-in x y a b m n)
 
 sub-joins : (a a' b b' : List (List ℕ)) → Sub a a' → Sub b b' → Sub (joins a b) (joins a' b')
@@ -225,7 +265,8 @@ unfolding joins
 sub-joins [] a' b b' f g z m = absurd m
 sub-joins (o ∷ a) a' b b' f g z m =
     ⊎-elim
-    (λ n. let i = map-out (λ c. o ++ c) b z n in rw (i .is) (joins-in o (i .x) a' b' (f o (inl refl)) (g (i .x) (i .member))))
+    (λ n. let i = map-out (λ c. o ++ c) b z n in rw (i .is)
+    (joins-in o (i .x) a' b' (f o (inl refl)) (g (i .x) (i .member))))
     (λ n. sub-joins a a' b b' (λ y k. f y (inr k)) g z n)
     (out-append z (map (λ c. o ++ c) b) (joins a b) m)
 
@@ -238,26 +279,35 @@ Short t e (pair n m l r) = Short t e l × Short t e r
 refl-both : (a : List (List ℕ)) → Both a a
 refl-both a = (λ z m. m, λ z m. m)
 
-pairs-both : (n m : ℕ) (ls ls' rs rs' : List Residual) → Both (map words ls) (map words ls') → Both (map words rs) (map words rs') → Both (map words (pairs n m ls rs)) (map words (pairs n m ls' rs'))
+pairs-both : (n m : ℕ) (ls ls' rs rs' : List Residual) → Both (map words ls) (map words ls')
+    → Both (map words rs) (map words rs') → Both (map words (pairs n m ls rs)) (map words (pairs n m ls' rs'))
 pairs-both n m ls ls' rs rs' f g =
     rw (words-pairs n m ls rs, words-pairs n m ls' rs') (
-      sub-before (nodeWord n m) _ _ (sub-joins (map words ls) (map words ls') (map words rs) (map words rs') (f .0) (g .0)),
-      sub-before (nodeWord n m) _ _ (sub-joins (map words ls') (map words ls) (map words rs') (map words rs) (f .1) (g .1)),
+      sub-before (nodeWord n m) _ _
+          (sub-joins (map words ls) (map words ls') (map words rs) (map words rs') (f .0) (g .0)),
+      sub-before (nodeWord n m) _ _
+          (sub-joins (map words ls') (map words ls) (map words rs') (map words rs) (f .1) (g .1)),
     )
 
-pub append-both : (a a' b b' : List Residual) → Both (map words a) (map words a') → Both (map words b) (map words b') → Both (map words (a ++ b)) (map words (a' ++ b'))
+pub append-both : (a a' b b' : List Residual) → Both (map words a) (map words a') → Both (map words b) (map words b')
+    → Both (map words (a ++ b)) (map words (a' ++ b'))
 append-both a a' b b' f g =
-    rw (map-append words a b, map-append words a' b')
-    (sub-append (map words a) (map words a') (map words b) (map words b') (f .0) (g .0), sub-append (map words a') (map words a) (map words b') (map words b) (f .1) (g .1))
+    rw (map-append words a b, map-append words a' b') (
+      sub-append (map words a) (map words a') (map words b) (map words b') (f .0) (g .0),
+      sub-append (map words a') (map words a) (map words b') (map words b) (f .1) (g .1),
+    )
 
 pair-by : (t : Table) (e n m : ℕ) (l r : Residual) (b : Bool) → inSet t (termOf t n) m e ≡ b
-    → Both (map words (afterKept t e l)) (map words (after t e l)) → Both (map words (afterKept t e r)) (map words (after t e r))
+    → Both (map words (afterKept t e l)) (map words (after t e l))
+    → Both (map words (afterKept t e r)) (map words (after t e r))
     → Both (map words (afterKept t e (pair n m l r))) (map words (after t e (pair n m l r)))
 unfolding after afterKept
-pair-by t e n m l r true h f g = rw (h, after, afterKept) (pairs-both n m (afterKept t e l) (after t e l) (afterKept t e r) (after t e r) f g)
+pair-by t e n m l r true h f g =
+    rw (h, after, afterKept) (pairs-both n m (afterKept t e l) (after t e l) (afterKept t e r) (after t e r) f g)
 pair-by t e n m l r false h f g =
     rw (h, after, afterKept)
-    (append-both (pairs n m (afterKept t e l) (r ∷ [])) (pairs n m (after t e l) (r ∷ [])) (pairs n m (l ∷ []) (afterKept t e r)) (pairs n m (l ∷ []) (after t e r))
+    (append-both (pairs n m (afterKept t e l) (r ∷ [])) (pairs n m (after t e l) (r ∷ []))
+    (pairs n m (l ∷ []) (afterKept t e r)) (pairs n m (l ∷ []) (after t e r))
     (pairs-both n m (afterKept t e l) (after t e l) (r ∷ []) (r ∷ []) f (refl-both (map words (r ∷ []))))
     (pairs-both n m (l ∷ []) (l ∷ []) (afterKept t e r) (after t e r) (refl-both (map words (l ∷ []))) g))
 
@@ -265,20 +315,24 @@ node-results : (t : Table) (e n m : ℕ) → m < 16777216 → leafResults t e (n
 unfolding leafResults
 node-results t e n m h = rw (term-of-node n m h, memory-of-node n m h)
 
-node-follower : (t : Table) (e n m : ℕ) → m < 16777216 → follower t e (nodeWord n m) ≡ resolved t (n + 1) (remember e m)
+node-follower : (t : Table) (e n m : ℕ) → m < 16777216 → follower t e (nodeWord n m)
+    ≡ resolved t (n + 1) (remember e m)
 unfolding follower
 node-follower t e n m h = rw (term-of-node n m h, memory-of-node n m h)
 
 leaf-same : (t : Table) (e n m : ℕ) → m < 16777216 → longest (map words (leafAfter t e n m)) ≤ 15
-    → Both (map words (map (nth (resolved t (n + 1) (remember e m))) (leafKept t e (nodeWord n m)))) (map words (leafAfter t e n m))
+    → Both (map words (map (nth (resolved t (n + 1) (remember e m))) (leafKept t e (nodeWord n m))))
+    (map words (leafAfter t e n m))
 leaf-same t e n m h s =
     let b : longest (map words (leafResults t e (nodeWord n m))) ≤ 15 = rw (node-results t e n m h) s in
     rw (node-results t e n m h, node-follower t e n m h) at (leaf-both t e (nodeWord n m) b)
 
-pub same-after : (t : Table) (e : ℕ) (r : Residual) → Valid t r → Short t e r → Both (map words (afterKept t e r)) (map words (after t e r))
+pub same-after : (t : Table) (e : ℕ) (r : Residual) → Valid t r → Short t e r
+    → Both (map words (afterKept t e r)) (map words (after t e r))
 unfolding after afterKept
 same-after t e (leaf n m) v s = leaf-same t e n m (v .0 .0) s
-same-after t e (pair n m l r) v s = pair-by t e n m l r _ refl (same-after t e l (v .2) (s .0)) (same-after t e r (v .3) (s .1))
+same-after t e (pair n m l r) v s =
+    pair-by t e n m l r _ refl (same-after t e l (v .2) (s .0)) (same-after t e r (v .3) (s .1))
 
 -- ---- a residual whose results have room is short
 
@@ -287,14 +341,18 @@ unfolding room
 room-append t e [] b = omega arith
 room-append t e (w ∷ a) b = omega (arith, room-append t e a b)
 
-room-leaf : (t : Table) (e n m : ℕ) → room t e (words (leaf n m)) ≤ 15 → longest (map words (leafResults t e (nodeWord n m))) ≤ 15
+room-leaf : (t : Table) (e n m : ℕ) → room t e (words (leaf n m)) ≤ 15
+    → longest (map words (leafResults t e (nodeWord n m))) ≤ 15
 unfolding room words
 room-leaf t e n m k = omega arith
 
-room-pair : (t : Table) (e n m : ℕ) (l r : Residual) → room t e (words (pair n m l r)) ≤ 15 → (room t e (words l) ≤ 15) × (room t e (words r) ≤ 15)
+room-pair : (t : Table) (e n m : ℕ) (l r : Residual) → room t e (words (pair n m l r)) ≤ 15
+    → (room t e (words l) ≤ 15) × (room t e (words r) ≤ 15)
 unfolding room words
-room-pair t e n m l r k = (omega (arith, room-append t e (words l) (words r)), omega (arith, room-append t e (words l) (words r)))
+room-pair t e n m l r k =
+    (omega (arith, room-append t e (words l) (words r)), omega (arith, room-append t e (words l) (words r)))
 
 pub short-of : (t : Table) (e : ℕ) (r : Residual) → Valid t r → room t e (words r) ≤ 15 → Short t e r
 short-of t e (leaf n m) v k = rw (node-results t e n m (v .0 .0)) at (room-leaf t e n m k)
-short-of t e (pair n m l r) v k = let b = room-pair t e n m l r k in (short-of t e l (v .2) (b .0), short-of t e r (v .3) (b .1))
+short-of t e (pair n m l r) v k =
+    let b = room-pair t e n m l r k in (short-of t e l (v .2) (b .0), short-of t e r (v .3) (b .1))

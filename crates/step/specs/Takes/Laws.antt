@@ -3,7 +3,7 @@
 --     takes-stuck, takes-leaf                        a leaf, by its kind and its set
 --     takes-both-yes, takes-both-no, takes-either-yes, takes-either-no     a pair, by its set and its left side
 -- Assumes nothing.
-use Prim.Native.Nat.{ℕ, zero, suc, _+_, _-_, _*_, _<_, _≤_}
+use Prim.Native.Nat.{ℕ, zero, suc, _+_, _*_, _<_}
 use native.Mathlib.Omega.{arith}
 use native.Mathlib.Numerals.{add-one}
 use native.Mathlib.Nat.{mul-zero, zero-mul, suc-mul}
@@ -12,15 +12,15 @@ use mathlib.Core.Bool.{Bool, true, false}
 use mathlib.Core.List.{List, [], _∷_, _++_, append-assoc}
 use lib.ListN.{length, getD, drop, length-append, length-drop}
 use lib.Seq.{drop-cons, drop-drop, drop-at}
-use lib.Dec.{eqb, ltb}
-use borrow.Author.Tests.{lt-ltb, le-ltb, ltb-true, ltb-false, eq-eqb, ne-eqb}
+use lib.Dec.{ltb}
+use borrow.Author.Tests.{lt-ltb, ltb-true, ltb-false, eq-eqb, ne-eqb}
 use Rattle.table.specs.Table.{Table}
 use Rattle.table.specs.Branches.{branches}
 use Rattle.table.specs.Branches.Capped.{capped}
 use Rattle.table.specs.Node.{termOf, kindOf}
 use Rattle.step.specs.declared.walk.Tree.{Tree}
 use Rattle.step.specs.Words.{nodeWord, termOfWord, kindAt, holdsAt, inSet, remember, KnownWord}
-use Rattle.step.specs.Residual.{Residual, leaf, pair, words, pairs, resolved, leafAfter, after}
+use Rattle.step.specs.Residual.{Residual, leaf, pair, words, pairs, leafAfter, after}
 use Rattle.step.specs.Residual.Resolved.{length-pairs, length-resolved}
 use Rattle.step.specs.Forest.{Valid}
 use Rattle.step.specs.Forest.Laws.{term-of-node, kind-of-node, holds-of-node, known-node}
@@ -218,7 +218,8 @@ module _ {t : Table} {area : List ℕ} (k : ℕ) (s : TreeAt t area k) where
               let after-l : drop (k + 1) area ≡ words l ++ (words r ++ ws) =
               first-word g .1 ∙ append-assoc (words l) (words r) ws in
               let ga = ta .of l (words r ++ ws) after-l (v .2) in
-              let there : drop (a .next) area ≡ words r ++ ws = rw (ga .1) (skipped (words l) (words r ++ ws) after-l) in
+              let there : drop (a .next) area ≡ words r ++ ws = rw (ga .1) (skipped (words l) (words r ++ ws) after-l)
+              in
               let gb = tb .of r ws there (v .3) in (
                 f n m l r (v .0 .0) (first-word g .0) (ga .0) (gb .0),
                 omega (arith, en, ga .1, gb .1, length-append (words l) (words r)),

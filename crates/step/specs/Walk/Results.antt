@@ -2,9 +2,9 @@
 --     onto-before, onto-head, onto-append                           slots
 --     kept-pair, kept-leaf, both-sides, one-side, moved-leaf        results
 -- Assumes nothing.
-use Prim.Native.Nat.{ℕ, _+_, _*_, _/_, _%_, _<_, _≤_, _^_}
+use Prim.Native.Nat.{ℕ, _+_, _*_, _/_, _%_}
 use native.Mathlib.Omega.{arith}
-use mathlib.Core.Path.{_≡_, refl, ap, _∙_}
+use mathlib.Core.Path.{_≡_, refl, ap}
 use mathlib.Core.Bool.{true, false}
 use mathlib.Core.List.{List, [], _∷_, _++_, map}
 use borrow.Author.Tests.{eq-eqb, ne-eqb}
@@ -24,7 +24,8 @@ onto-before slot w (c ∷ cs) = ap (λ (l : List (List ℕ)). pushAll (pushed sl
 pub onto-head : (slot o : List ℕ) (cs : List (List ℕ)) → onto slot (map (λ c. o ++ c) cs) ≡ onto (pushAll slot o) cs
 unfolding onto
 onto-head slot o [] = refl
-onto-head slot o (c ∷ cs) = rw (pushAll-append slot o c) (ap (λ (l : List (List ℕ)). pushAll (pushAll slot o) c ∷ l) (onto-head slot o cs))
+onto-head slot o (c ∷ cs) =
+    rw (pushAll-append slot o c) (ap (λ (l : List (List ℕ)). pushAll (pushAll slot o) c ∷ l) (onto-head slot o cs))
 
 pub onto-append : (slot : List ℕ) (a b : List (List ℕ)) → onto slot (a ++ b) ≡ onto slot a ++ onto slot b
 unfolding onto
@@ -34,24 +35,29 @@ onto-append slot (c ∷ a) b = ap (λ (l : List (List ℕ)). pushAll slot c ∷ 
 -- ---- results, by mode and kind
 
 module _ (t : Table) (e w : ℕ) (ws : List ℕ) (modes : ℕ) where
-  pub kept-pair : modes % 2 ≡ 0 → kindAt t w ≡ 4 → results t e (w ∷ ws) modes ≡ before w (results t e ws (modes / 2 * 4))
+  pub kept-pair : modes % 2 ≡ 0 → kindAt t w ≡ 4 → results t e (w ∷ ws) modes
+      ≡ before w (results t e ws (modes / 2 * 4))
   unfolding results
   kept-pair z k = rw (eq-eqb _ _ z, eq-eqb _ _ k, results)
 
-  pub kept-leaf : modes % 2 ≡ 0 → (kindAt t w ≡ 4 → ⊥) → results t e (w ∷ ws) modes ≡ before w (results t e ws (modes / 2))
+  pub kept-leaf : modes % 2 ≡ 0 → (kindAt t w ≡ 4 → ⊥) → results t e (w ∷ ws) modes
+      ≡ before w (results t e ws (modes / 2))
   unfolding results
   kept-leaf z k = rw (eq-eqb _ _ z, ne-eqb _ _ k, results)
 
-  pub both-sides : (modes % 2 ≡ 0 → ⊥) → kindAt t w ≡ 4 → holdsAt t e w ≡ true → results t e (w ∷ ws) modes ≡ before w (results t e ws (modes / 2 * 4 + 3))
+  pub both-sides : (modes % 2 ≡ 0 → ⊥) → kindAt t w ≡ 4 → holdsAt t e w ≡ true → results t e (w ∷ ws) modes
+      ≡ before w (results t e ws (modes / 2 * 4 + 3))
   unfolding results
   both-sides z k h = rw (ne-eqb _ _ z, eq-eqb _ _ k, h, results)
 
   pub one-side : (modes % 2 ≡ 0 → ⊥) → kindAt t w ≡ 4 → holdsAt t e w ≡ false
-      → results t e (w ∷ ws) modes ≡ before w (results t e ws (modes / 2 * 4 + 1)) ++ before w (results t e ws (modes / 2 * 4 + 2))
+      → results t e (w ∷ ws) modes ≡ before w (results t e ws (modes / 2 * 4 + 1)) ++ before w
+      (results t e ws (modes / 2 * 4 + 2))
   unfolding results
   one-side z k h = rw (ne-eqb _ _ z, eq-eqb _ _ k, h, results)
 
-  pub moved-leaf : (modes % 2 ≡ 0 → ⊥) → (kindAt t w ≡ 4 → ⊥) → results t e (w ∷ ws) modes ≡ joins (options t e w) (results t e ws (modes / 2))
+  pub moved-leaf : (modes % 2 ≡ 0 → ⊥) → (kindAt t w ≡ 4 → ⊥) → results t e (w ∷ ws) modes
+      ≡ joins (options t e w) (results t e ws (modes / 2))
   unfolding results
   moved-leaf z k = rw (ne-eqb _ _ z, ne-eqb _ _ k, results)
 

@@ -3,7 +3,7 @@
 --     digits-below                                    four events below a number are all
 --     digits-remember, remember-small                 of a memory with one event more
 -- Assumes nothing.
-use Prim.Native.Nat.{ℕ, zero, suc, _+_, _*_, _/_, _%_, _<_, _≤_}
+use Prim.Native.Nat.{ℕ, zero, suc, _/_, _%_, _<_, _≤_}
 use native.Mathlib.Omega.{arith}
 use mathlib.Core.Path.{_≡_, refl}
 use Rattle.step.specs.Words.{digitOf, remember, DigitsBelow}

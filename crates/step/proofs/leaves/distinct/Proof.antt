@@ -1,7 +1,8 @@
--- `step::leaves::distinct` meets its contract: the first k indices stored are those kept of the first i. Assumes nothing.
-use Prim.Native.Nat.{_≤_, _<_, _+_, _-_}
+-- `step::leaves::distinct` meets its contract: the first k indices stored are those kept of the first i. Assumes
+-- nothing.
+use Prim.Native.Nat.{_≤_, _-_}
 use native.Mathlib.Omega.{arith}
-use mathlib.Core.Path.{_≡_, refl, _∙_}
+use mathlib.Core.Path.{_≡_, refl}
 use lib.ListN.{length, length-set}
 use borrow.Author.Needs.{needs}
 use denote.Ref.{now}
@@ -18,7 +19,9 @@ use Rattle.step.proofs.leaves.found.Reads as found-reads
 use Rattle.step.proofs.leaves.result.Reads as result-reads
 
 abbrev Inv-loop : tie.InvT-loop
-Inv-loop list work bound n m store₀ at c k₀ i₀ store k i = (i ≤ c) × (c ≡ length (resolved (tableIn list) n m)) × (c ≤ 256) × (length store ≡ length store₀) × (k ≤ i) × Stored store₀ store at k (kept (slotAt (tableIn list) n m) i)
+Inv-loop list work bound n m store₀ at c k₀ i₀ store k i =
+    (i ≤ c) × (c ≡ length (resolved (tableIn list) n m)) × (c ≤ 256) × (length store ≡ length store₀) × (k ≤ i)
+    × Stored store₀ store at k (kept (slotAt (tableIn list) n m) i)
 
 abbrev μ-loop : tie.MeasureT-loop
 μ-loop list work bound n m store₀ at c k₀ i₀ store k i = c - i
@@ -27,13 +30,29 @@ branches-requires : tie.Need-branches-requires Inv-loop μ-loop
 branches-requires c κs = (c .before .before .before .pre .0, c .before .before .before .pre .1 .0 .within)
 
 loop-holds : tie.Need-loop-holds Inv-loop μ-loop
-loop-holds c = let q = branches-exact _ _ _ (c .before .before .before .before .args .m) _ (c .before .before .before .before .pre .1 .0) (c .branches .ensures .0) in (omega arith, q .0, q .1, refl, omega arith, head-first _ _ _ _ _)
+loop-holds c =
+    let at-start = c .before .before .before .before in
+    let q = branches-exact _ _ _ (at-start .args .m) _ (at-start .pre .1 .0) (c .branches .ensures .0) in
+    (omega arith, q .0, q .1, refl, omega arith, head-first _ _ _ _ _)
 
 result-requires : tie.Need-result-requires Inv-loop μ-loop
-result-requires c κs = (c .before .before .before .before .before .before .pre .0, ((c .before .before .before .before .before .before .pre .1 .0, omega (arith, c .before .loop .inv .1))))
+result-requires c κs =
+    let at-start = c .before .before .before .before .before .before in
+    (at-start .pre .0, ((at-start .pre .1 .0, omega (arith, c .before .loop .inv .1))))
 
 found-requires : tie.Need-found-requires Inv-loop μ-loop
-found-requires c κs = (c .before .before .before .before .before .before .before .before .pre .0, ((c .before .before .before .before .before .before .before .before .pre .1 .0, (omega arith, λ j h. indices-below _ _ _ _ _ _ _ _ (c .before .before .before .loop .inv .5) _ (omega (arith, c .before .before .before .loop .inv .1)) (omega arith) j h))))
+found-requires c κs =
+    let at-start = c .before .before .before .before .before .before .before .before in (
+      at-start .pre .0,
+      ((
+        at-start .pre .1 .0,
+        (
+          omega arith,
+          λ j h. indices-below _ _ _ _ _ _ _ _ (c .before .before .before .loop .inv .5) _
+              (omega (arith, c .before .before .before .loop .inv .1)) (omega arith) j h,
+        ),
+      )),
+    )
 
 add-i : tie.Need-add-i Inv-loop μ-loop
 add-i c = search needs
@@ -42,7 +61,15 @@ loop-less : tie.Need-loop-less Inv-loop μ-loop
 loop-less c = search needs
 
 loop-again : tie.Need-loop-again Inv-loop μ-loop
-loop-again c = (omega arith, c .before .before .before .before .before .loop .inv .1, c .before .before .before .before .before .loop .inv .2, c .before .before .before .before .before .loop .inv .3, omega arith, head-held _ _ _ _ _ _ _ _ (c .before .before .before .before .before .loop .inv .5) _ (c .before .before .before .result .ensures) _ (c .before .found .ensures) (c .if1 .taken))
+loop-again c = (
+  omega arith,
+  c .before .before .before .before .before .loop .inv .1,
+  c .before .before .before .before .before .loop .inv .2,
+  c .before .before .before .before .before .loop .inv .3,
+  omega arith,
+  head-held _ _ _ _ _ _ _ _ (c .before .before .before .before .before .loop .inv .5) _
+      (c .before .before .before .result .ensures) _ (c .before .found .ensures) (c .if1 .taken),
+)
 
 add-store : tie.Need-add-store Inv-loop μ-loop
 add-store c = search needs
@@ -63,13 +90,25 @@ loop-less-2 : tie.Need-loop-less-2 Inv-loop μ-loop
 loop-less-2 c = search needs
 
 loop-again-2 : tie.Need-loop-again-2 Inv-loop μ-loop
-loop-again-2 c = (omega arith, c .before .before .before .before .before .loop .inv .1, c .before .before .before .before .before .loop .inv .2, simp length-set (c .before .before .before .before .before .loop .inv .3), omega arith, head-new _ _ _ _ _ _ _ _ (c .before .before .before .before .before .loop .inv .5) _ (c .before .before .before .result .ensures) _ (c .before .found .ensures) (c .if1 .left) (omega arith))
+loop-again-2 c = (
+  omega arith,
+  c .before .before .before .before .before .loop .inv .1,
+  c .before .before .before .before .before .loop .inv .2,
+  simp length-set (c .before .before .before .before .before .loop .inv .3),
+  omega arith,
+  head-new _ _ _ _ _ _ _ _ (c .before .before .before .before .before .loop .inv .5) _
+      (c .before .before .before .result .ensures) _ (c .before .found .ensures) (c .if1 .left) (omega arith),
+)
 
 same-length : tie.Need-same-length Inv-loop μ-loop
 same-length c = search needs
 
 returns : tie.Need-returns Inv-loop μ-loop
-returns c = let e : c .before .loop .i ≡ length (resolved (tableIn (now (c .before .before .before .before .before .before .args .list))) (c .before .before .before .before .before .before .args .n) (c .before .before .before .before .before .before .args .m)) = omega (arith, c .before .loop .inv .1) in rw e at (c .before .loop .inv .5)
+returns c =
+    let at-start = c .before .before .before .before .before .before in
+    let e : c .before .loop .i
+    ≡ length (resolved (tableIn (now (at-start .args .list))) (at-start .args .n) (at-start .args .m)) = omega
+    (arith, c .before .loop .inv .1) in rw e at (c .before .loop .inv .5)
 
 pub distinct-spec : {M : Type 1} → statement M
 distinct-spec =

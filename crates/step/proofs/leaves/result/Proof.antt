@@ -1,5 +1,4 @@
 -- `step::leaves::result` meets its contract: resolving into an empty slot. Assumes nothing.
-use mathlib.Core.Path.{_≡_, _∙_}
 use Rattle.step.specs.Distinct.{slotAt}
 use Rattle.step.specs.Distinct.Laws.{resolves-empty}
 use Rattle.step.proofs.leaves.result.Statement.{statement}
@@ -9,7 +8,9 @@ use Rattle.step.proofs.leaves.result.Lts as lts
 use Rattle.step.proofs.resolve.resolve_term.Reads as resolve-term-reads
 
 resolve-term-requires : tie.Need-resolve-term-requires
-resolve-term-requires c κs = (c .before .before .pre .0, (resolves-empty _ _ _ _ _ (c .before .before .pre .1 .0) (c .before .before .pre .1 .1)))
+resolve-term-requires c κs =
+    let at-start = c .before .before in
+    (at-start .pre .0, (resolves-empty _ _ _ _ _ (at-start .pre .1 .0) (at-start .pre .1 .1)))
 
 returns : tie.Need-returns
 unfolding slotAt

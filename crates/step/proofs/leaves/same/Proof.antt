@@ -33,7 +33,10 @@ array-read-if1-2 : tie.Need-array-read-if1-2 Inv-loop μ-loop
 array-read-if1-2 c = search needs
 
 returns : tie.Need-returns Inv-loop μ-loop
-returns c = same-off (c .before .before .before .args .t1) (c .before .before .before .args .t2) (c .before .before .loop .j) (omega arith) (omega arith) (c .if1 .taken) ∙ c .before .before .loop .inv .3
+returns c =
+    let at-start = c .before .before .before in
+    same-off (at-start .args .t1) (at-start .args .t2) (c .before .before .loop .j) (omega arith) (omega arith)
+    (c .if1 .taken) ∙ c .before .before .loop .inv .3
 
 add-j : tie.Need-add-j Inv-loop μ-loop
 add-j c = search needs
@@ -42,10 +45,19 @@ loop-less : tie.Need-loop-less Inv-loop μ-loop
 loop-less c = search needs
 
 loop-again : tie.Need-loop-again Inv-loop μ-loop
-loop-again c = let k = c .before .before .loop in (omega arith, k .inv .1, k .inv .2, same-on (c .before .before .before .args .t1) (c .before .before .before .args .t2) (k .j) (omega arith) (omega arith) (c .if1 .left) ∙ k .inv .3)
+loop-again c =
+    let at-start = c .before .before .before in let k = c .before .before .loop in (
+      omega arith,
+      k .inv .1,
+      k .inv .2,
+      same-on (at-start .args .t1) (at-start .args .t2) (k .j) (omega arith)
+          (omega arith) (c .if1 .left) ∙ k .inv .3,
+    )
 
 returns-2 : tie.Need-returns-2 Inv-loop μ-loop
-returns-2 c = let k = c .before .loop in sym (same-none (c .before .before .args .t1) (c .before .before .args .t2) (k .j) (omega arith) (omega arith)) ∙ k .inv .3
+returns-2 c =
+    let at-start = c .before .before in let k = c .before .loop in
+    sym (same-none (at-start .args .t1) (at-start .args .t2) (k .j) (omega arith) (omega arith)) ∙ k .inv .3
 
 pub same-spec : {M : Type 1} → statement M
 same-spec =

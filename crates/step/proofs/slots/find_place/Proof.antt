@@ -1,4 +1,5 @@
--- `step::slots::find_place` meets its contract. Outer loop: the place among the slots not yet passed is the place among
+-- `step::slots::find_place` meets its contract. Outer loop: the place among the slots not yet passed is the place
+-- among
 -- all; inner loop: the order of the words from j on is that of the slots. The measures are what is left of both.
 -- Assumes nothing.
 use Prim.Native.Nat.{_+_, _-_, _*_, _≤_}
@@ -32,7 +33,12 @@ slots-holds : tie.Need-slots-holds Inv-loop μ-loop Inv-slots μ-slots
 slots-holds c = (omega arith, let e : c .args .count - 0 ≡ c .args .count = omega arith in rw e)
 
 loop-holds : tie.Need-loop-holds Inv-loop μ-loop Inv-slots μ-slots
-loop-holds c = (refl, omega arith, let e : (c .before .slots .i * 16 + 0) ≡ c .before .slots .i * 16 = omega arith in rw e, c .before .slots .inv .1)
+loop-holds c = (
+  refl,
+  omega arith,
+  let e : (c .before .slots .i * 16 + 0) ≡ c .before .slots .i * 16 = omega arith in rw e,
+  c .before .slots .inv .1,
+)
 
 mul-held : tie.Need-mul-held Inv-loop μ-loop Inv-slots μ-slots
 mul-held c = search needs
@@ -60,8 +66,11 @@ slots-less c = search needs
 
 slots-again : tie.Need-slots-again Inv-loop μ-loop Inv-slots μ-slots
 slots-again c =
-    let k = c .before .before .before .before .before .loop in
-    (omega arith, seek-on _ _ _ _ _ (omega arith) (sym (k .inv .2) ∙ order-above _ _ _ _ _ (omega arith) (c .if2 .taken)) ∙ k .inv .3)
+    let k = c .before .before .before .before .before .loop in (
+      omega arith,
+      seek-on _ _ _ _ _ (omega arith) (sym (k .inv .2) ∙ order-above _ _ _ _ _ (omega arith) (c .if2 .taken))
+          ∙ k .inv .3,
+    )
 
 add-j : tie.Need-add-j Inv-loop μ-loop Inv-slots μ-slots
 add-j c = search needs
@@ -71,8 +80,13 @@ loop-less c = search needs
 
 loop-again : tie.Need-loop-again Inv-loop μ-loop Inv-slots μ-slots
 loop-again c =
-    let k = c .before .before .before .before .before .loop in
-    (k .inv .0, omega arith, order-on _ _ _ _ _ _ _ (omega arith) (omega arith) (c .before .if1 .left) (c .if2 .left) ∙ k .inv .2, k .inv .3)
+    let k = c .before .before .before .before .before .loop in (
+      k .inv .0,
+      omega arith,
+      order-on _ _ _ _ _ _ _ (omega arith) (omega arith) (c .before .if1 .left) (c .if2 .left)
+          ∙ k .inv .2,
+      k .inv .3,
+    )
 
 returns : tie.Need-returns Inv-loop μ-loop Inv-slots μ-slots
 returns c =
@@ -85,7 +99,8 @@ returns-2 c = seek-none _ _ _ _ (omega arith) ∙ c .before .slots .inv .1
 returns-3 : tie.Need-returns-3 Inv-loop μ-loop Inv-slots μ-slots
 returns-3 c =
     let k = c .before .before .before .before .loop in
-    seek-here _ _ _ _ (omega arith) (sym (k .inv .2) ∙ order-below _ _ _ _ _ (omega arith) (c .if1 .taken)) ∙ k .inv .3
+    seek-here _ _ _ _ (omega arith) (sym (k .inv .2) ∙ order-below _ _ _ _ _ (omega arith) (c .if1 .taken))
+    ∙ k .inv .3
 
 pub find-place-spec : {M : Type 1} → statement M
 find-place-spec =

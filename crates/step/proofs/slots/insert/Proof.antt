@@ -16,7 +16,10 @@ use Rattle.step.proofs.slots.store.Reads as store-reads
 
 -- the place that was found, where it is known that there is room
 found : (q : tie.Else1) →
-    At (q .before .before .i .given .0 .0) ≡ seek (q .before .before .before .before .before .before .before .before .args .count) (now (q .before .before .before .before .before .before .before .before .args .area)) (now (q .before .before .before .before .before .before .before .before .args .slot)) 0
+    At (q .before .before .i .given .0 .0)
+    ≡ seek (q .before .before .before .before .before .before .before .before .args .count)
+    (now (q .before .before .before .before .before .before .before .before .args .area))
+    (now (q .before .before .before .before .before .before .before .before .args .slot)) 0
 found q = sym (q .before .before .i .given .1) ∙ q .before .before .before .before .find-place .ensures
 
 find-place-requires : tie.Need-find-place-requires
@@ -38,7 +41,9 @@ same-length : tie.Need-same-length
 same-length c = search needs
 
 returns : tie.Need-returns
-returns c = insert-full _ _ _ (sym (c .before .before .i .given .1) ∙ c .before .before .before .before .find-place .ensures) (c .if1 .taken)
+returns c =
+    insert-full _ _ _ (sym (c .before .before .i .given .1) ∙ c .before .before .before .before .find-place .ensures)
+    (c .if1 .taken)
 
 mul-p : tie.Need-mul-p
 mul-p c = omega (arith, seek-bound _ _ _ _ _ (found c))
@@ -59,7 +64,10 @@ same-length-3 : tie.Need-same-length-3
 same-length-3 c = search needs
 
 returns-3 : tie.Need-returns-3
-returns-3 c = let q = c .before .before .before .before .before .before .before .before in insert-new _ _ _ _ _ (found q) (q .if1 .left) (c .before .before .before .before .before .before .open-gap .ensures) (c .before .before .store .ensures)
+returns-3 c =
+    let q = c .before .before .before .before .before .before .before .before in
+    insert-new _ _ _ _ _ (found q) (q .if1 .left)
+    (c .before .before .before .before .before .before .open-gap .ensures) (c .before .before .store .ensures)
 
 pub insert-spec : {M : Type 1} → statement M
 insert-spec =

@@ -1,7 +1,7 @@
 -- `step::slots::open_gap` meets its contract: the words from k on are moved, and k falls to p. Assumes nothing.
-use Prim.Native.Nat.{_+_, _*_, _≤_}
+use Prim.Native.Nat.{_≤_}
 use native.Mathlib.Omega.{arith}
-use mathlib.Core.Path.{_≡_, refl, _∙_}
+use mathlib.Core.Path.{_≡_, refl}
 use lib.ListN.{length, length-set}
 use borrow.Author.Needs.{needs}
 use Rattle.step.specs.Slots.{gapped}
@@ -43,8 +43,12 @@ loop-less c = search needs
 
 loop-again : tie.Need-loop-again Inv-loop μ-loop
 loop-again c =
-    let k = c .before .before .loop in
-    (omega arith, omega arith, simp length-set (k .inv .2), rw (k .inv .3) (gap-step _ _ (omega arith) _ (omega arith) _ (omega arith)))
+    let k = c .before .before .loop in (
+      omega arith,
+      omega arith,
+      simp length-set (k .inv .2),
+      rw (k .inv .3) (gap-step _ _ (omega arith) _ (omega arith) _ (omega arith)),
+    )
 
 same-length : tie.Need-same-length Inv-loop μ-loop
 same-length c = search needs

@@ -1,5 +1,4 @@
 -- `step::slots::put` meets its contract: by the answer of insertion. Assumes nothing.
-use mathlib.Core.Path.{_≡_, _∙_}
 use borrow.Author.Needs.{needs}
 use Rattle.step.specs.Holding.Laws.{put-held, put-new, put-full}
 use Rattle.step.proofs.slots.put.Statement.{statement}
@@ -30,19 +29,31 @@ same-length : tie.Need-same-length
 same-length c = search needs
 
 returns : tie.Need-returns
-returns c = put-held _ _ _ _ _ (c .before .before .before .before .insert .ensures .0) (c .before .before .before .before .insert .ensures .1) (c .before .before .before .before .insert .kept .0) (c .before .before .before .before .before .before .before .before .pre) (c .enum-told .given .1)
+returns c =
+    let at-start = c .before .before .before .before .before .before .before .before in
+    put-held _ _ _ _ _ (c .before .before .before .before .insert .ensures .0)
+    (c .before .before .before .before .insert .ensures .1) (c .before .before .before .before .insert .kept .0)
+    (at-start .pre) (c .enum-told .given .1)
 
 same-length-2 : tie.Need-same-length-2
 same-length-2 c = search needs
 
 returns-2 : tie.Need-returns-2
-returns-2 c = put-new _ _ _ _ _ (c .before .before .before .before .insert .ensures .0) (c .before .before .before .before .insert .ensures .1) (c .before .before .before .before .insert .kept .0) (c .before .before .before .before .before .before .before .before .pre) (c .enum-told2 .given .1)
+returns-2 c =
+    let at-start = c .before .before .before .before .before .before .before .before in
+    put-new _ _ _ _ _ (c .before .before .before .before .insert .ensures .0)
+    (c .before .before .before .before .insert .ensures .1) (c .before .before .before .before .insert .kept .0)
+    (at-start .pre) (c .enum-told2 .given .1)
 
 same-length-3 : tie.Need-same-length-3
 same-length-3 c = search needs
 
 returns-3 : tie.Need-returns-3
-returns-3 c = put-full _ _ _ _ _ (c .before .before .before .before .insert .ensures .0) (c .before .before .before .before .insert .ensures .1) (c .before .before .before .before .insert .kept .0) (c .before .before .before .before .before .before .before .before .pre) (c .enum-told3 .given .1)
+returns-3 c =
+    let at-start = c .before .before .before .before .before .before .before .before in
+    put-full _ _ _ _ _ (c .before .before .before .before .insert .ensures .0)
+    (c .before .before .before .before .insert .ensures .1) (c .before .before .before .before .insert .kept .0)
+    (at-start .pre) (c .enum-told3 .given .1)
 
 pub put-spec : {M : Type 1} → statement M
 put-spec =

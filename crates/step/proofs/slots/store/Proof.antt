@@ -1,7 +1,7 @@
 -- `step::slots::store` meets its contract: the first j words are stored. Assumes nothing.
-use Prim.Native.Nat.{_+_, _-_, _*_, _≤_}
+use Prim.Native.Nat.{_-_, _≤_}
 use native.Mathlib.Omega.{arith}
-use mathlib.Core.Path.{_≡_, refl, _∙_}
+use mathlib.Core.Path.{_≡_, refl}
 use lib.ListN.{length, length-set}
 use borrow.Author.Needs.{needs}
 use Rattle.step.specs.Slots.{stored}
@@ -43,8 +43,11 @@ loop-less c = search needs
 
 loop-again : tie.Need-loop-again Inv-loop μ-loop
 loop-again c =
-    let k = c .before .before .loop in
-    (omega arith, simp length-set (k .inv .1), rw (k .inv .2) (stored-step _ _ _ _ _ (omega arith) (omega arith) (omega arith)))
+    let k = c .before .before .loop in (
+      omega arith,
+      simp length-set (k .inv .1),
+      rw (k .inv .2) (stored-step _ _ _ _ _ (omega arith) (omega arith) (omega arith)),
+    )
 
 same-length : tie.Need-same-length Inv-loop μ-loop
 same-length c = search needs

@@ -1,7 +1,7 @@
 -- `step::steps::load` meets its contract: the first j words are copied. Assumes nothing.
 use Prim.Native.Nat.{_-_, _≤_}
 use native.Mathlib.Omega.{arith}
-use mathlib.Core.Path.{_≡_, refl, sym, _∙_}
+use mathlib.Core.Path.{_≡_, refl, sym}
 use lib.ListN.{length, take, length-set}
 use borrow.Author.Needs.{needs}
 use Rattle.step.specs.Distinct.{window}
@@ -43,7 +43,12 @@ loop-less : tie.Need-loop-less Inv-loop μ-loop
 loop-less c = search needs
 
 loop-again : tie.Need-loop-again Inv-loop μ-loop
-loop-again c = (omega arith, simp length-set (c .before .before .loop .inv .1), load-next _ _ _ _ (omega arith) (omega arith) (c .before .before .loop .inv .2))
+loop-again c = (
+  omega arith,
+  simp length-set (c .before .before .loop .inv .1),
+  load-next _ _ _ _ (omega arith) (omega arith)
+      (c .before .before .loop .inv .2),
+)
 
 same-length : tie.Need-same-length Inv-loop μ-loop
 same-length c = search needs

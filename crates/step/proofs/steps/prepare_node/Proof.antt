@@ -1,6 +1,6 @@
 -- `step::steps::prepare_node` meets its contract: one law of `Prepared/Laws.antt` per way out. Assumes nothing.
 use native.Mathlib.Omega.{arith}
-use mathlib.Core.Path.{_≡_, sym, _∙_}
+use mathlib.Core.Path.{sym, _∙_}
 use mathlib.Core.Logic.{inl}
 use borrow.Author.Needs.{needs}
 use Rattle.index.specs.Facts.{terms-few}
@@ -27,7 +27,12 @@ mul-at : tie.Need-mul-at
 mul-at c = search needs
 
 kind-at-requires : tie.Need-kind-at-requires
-kind-at-requires c κs = (c .before .before .before .before .pre .0, node-known _ _ _ _ (c .before .before .before .before .pre .1 .0) _ (c .before .before .before .before .pre .1 .1 .0) (c .before .before .before .before .pre .1 .1 .1) .within)
+kind-at-requires c κs =
+    let at-start = c .before .before .before .before in (
+      at-start .pre .0,
+      node-known _ _ _ _ (at-start .pre .1 .0) _ (at-start .pre .1 .1 .0)
+          (at-start .pre .1 .1 .1) .within,
+    )
 
 mul-store : tie.Need-mul-store
 mul-store c = search needs
@@ -39,10 +44,20 @@ same-length : tie.Need-same-length
 same-length c = search needs
 
 returns : tie.Need-returns
-returns c = fill-not-kind _ _ _ _ (c .before .before .before .before .before .before .pre .1 .0) _ (c .before .before .before .before .before .before .pre .1 .1 .0) (c .before .before .before .before .before .before .pre .1 .1 .1) (λ e. c .if1 .taken (c .before .kind-at .ensures ∙ e))
+returns c =
+    let at-start = c .before .before .before .before .before .before in
+    fill-not-kind _ _ _ _ (at-start .pre .1 .0) _ (at-start .pre .1 .1 .0) (at-start .pre .1 .1 .1)
+    (λ e. c .if1 .taken (c .before .kind-at .ensures ∙ e))
 
 holds-at-requires : tie.Need-holds-at-requires
-holds-at-requires c κs = (c .before .before .before .before .before .before .pre .0, (node-known _ _ _ _ (c .before .before .before .before .before .before .pre .1 .0) _ (c .before .before .before .before .before .before .pre .1 .1 .0) (c .before .before .before .before .before .before .pre .1 .1 .1), (inl (sym (c .before .kind-at .ensures) ∙ c .if1 .left), c .before .before .before .before .before .before .pre .1 .0 .event)))
+holds-at-requires c κs =
+    let at-start = c .before .before .before .before .before .before in (
+      at-start .pre .0,
+      (
+        node-known _ _ _ _ (at-start .pre .1 .0) _ (at-start .pre .1 .1 .0) (at-start .pre .1 .1 .1),
+        (inl (sym (c .before .kind-at .ensures) ∙ c .if1 .left), at-start .pre .1 .0 .event),
+      ),
+    )
 
 term-of-requires : tie.Need-term-of-requires
 term-of-requires c κs = search needs
@@ -54,13 +69,33 @@ remember-requires : tie.Need-remember-requires
 remember-requires c κs = search needs
 
 add-distinct : tie.Need-add-distinct
-add-distinct c = omega (arith, c .before .before .term-of .ensures, node-known _ _ _ _ (c .before .before .before .before .before .before .before .before .before .before .before .pre .1 .0) _ (c .before .before .before .before .before .before .before .before .before .before .before .pre .1 .1 .0) (c .before .before .before .before .before .before .before .before .before .before .before .pre .1 .1 .1) .within, terms-few (c .before .before .before .before .before .before .before .before .before .before .before .pre .0))
+add-distinct c =
+    let at-start = c .before .before .before .before .before .before .before .before .before .before .before in
+    omega (
+      arith,
+      c .before .before .term-of .ensures,
+      node-known _ _ _ _ (at-start .pre .1 .0) _
+          (at-start .pre .1 .1 .0) (at-start .pre .1 .1 .1) .within,
+      terms-few (at-start .pre .0),
+    )
 
 add-distinct-2 : tie.Need-add-distinct-2
 add-distinct-2 c = search needs
 
 distinct-requires : tie.Need-distinct-requires
-distinct-requires c κs = (c .before .before .before .before .before .before .before .before .before .before .before .before .pre .0, (fill-resolves _ _ _ _ (c .before .before .before .before .before .before .before .before .before .before .before .before .pre .1 .0) _ (c .before .before .before .before .before .before .before .before .before .before .before .before .pre .1 .1 .0) (c .before .before .before .before .before .before .before .before .before .before .before .before .pre .1 .1 .1) (lawful (c .before .before .before .before .before .before .before .before .before .before .before .before .pre .0)) (sym (c .before .before .before .before .before .before .before .kind-at .ensures) ∙ c .before .before .before .before .before .before .if1 .left) (sym (c .before .before .before .before .before .holds-at .ensures) ∙ c .before .before .before .before .if2 .taken) _ _ _ (c .before .before .before .term-of .ensures) (c .before .before .memory-of .ensures) (c .before .remember .ensures), omega (arith, c .before .before .before .before .before .before .before .before .before .before .before .before .pre .1 .0 .size, c .before .before .before .before .before .before .before .before .before .before .before .before .pre .1 .0 .few, c .before .before .before .before .before .before .before .before .before .before .before .before .pre .1 .1 .1)))
+distinct-requires c κs =
+    let at-if1 = c .before .before .before .before .before .before in let at-kind-at = at-if1 .before in
+    let at-start = at-kind-at .before .before .before .before .before in (
+      at-start .pre .0,
+      (
+        fill-resolves _ _ _ _ (at-start .pre .1 .0) _ (at-start .pre .1 .1 .0) (at-start .pre .1 .1 .1)
+            (lawful (at-start .pre .0)) (sym (at-kind-at .kind-at .ensures) ∙ at-if1 .if1 .left)
+            (sym (c .before .before .before .before .before .holds-at .ensures)
+            ∙ c .before .before .before .before .if2 .taken) _ _ _ (c .before .before .before .term-of .ensures)
+            (c .before .before .memory-of .ensures) (c .before .remember .ensures),
+        omega (arith, at-start .pre .1 .0 .size, at-start .pre .1 .0 .few, at-start .pre .1 .1 .1),
+      ),
+    )
 
 mul-store-2 : tie.Need-mul-store-2
 mul-store-2 c = search needs
@@ -72,7 +107,16 @@ same-length-2 : tie.Need-same-length-2
 same-length-2 c = search needs
 
 returns-2 : tie.Need-returns-2
-returns-2 c = fill-yes _ _ _ _ (c .before .before .before .before .before .before .before .before .before .before .before .before .before .before .before .pre .1 .0) _ (c .before .before .before .before .before .before .before .before .before .before .before .before .before .before .before .pre .1 .1 .0) (c .before .before .before .before .before .before .before .before .before .before .before .before .before .before .before .pre .1 .1 .1) (lawful (c .before .before .before .before .before .before .before .before .before .before .before .before .before .before .before .pre .0)) (sym (c .before .before .before .before .before .before .before .before .before .before .kind-at .ensures) ∙ c .before .before .before .before .before .before .before .before .before .if1 .left) (sym (c .before .before .before .before .before .before .before .before .holds-at .ensures) ∙ c .before .before .before .before .before .before .before .if2 .taken) _ _ _ (c .before .before .before .before .before .before .term-of .ensures) (c .before .before .before .before .before .memory-of .ensures) (c .before .before .before .before .remember .ensures) _ _ (c .before .before .distinct .kept .1 .1 .1 .1 .1 .0) (c .before .before .distinct .ensures)
+returns-2 c =
+    let at-term-of = c .before .before .before .before .before .before in let at-if2 = at-term-of .before in
+    let at-holds-at = at-if2 .before in let at-if1 = at-holds-at .before in let at-kind-at = at-if1 .before in
+    let at-start = at-kind-at .before .before .before .before .before in
+    fill-yes _ _ _ _ (at-start .pre .1 .0) _ (at-start .pre .1 .1 .0) (at-start .pre .1 .1 .1)
+    (lawful (at-start .pre .0)) (sym (at-kind-at .kind-at .ensures) ∙ at-if1 .if1 .left)
+    (sym (at-holds-at .holds-at .ensures) ∙ at-if2 .if2 .taken) _ _ _ (at-term-of .term-of .ensures)
+    (c .before .before .before .before .before .memory-of .ensures)
+    (c .before .before .before .before .remember .ensures) _ _ (c .before .before .distinct .kept .1 .1 .1 .1 .1 .0)
+    (c .before .before .distinct .ensures)
 
 mul-store-3 : tie.Need-mul-store-3
 mul-store-3 c = search needs
@@ -84,7 +128,11 @@ same-length-3 : tie.Need-same-length-3
 same-length-3 c = search needs
 
 returns-3 : tie.Need-returns-3
-returns-3 c = fill-not-held _ _ _ _ (c .before .before .before .before .before .before .before .before .pre .1 .0) _ (c .before .before .before .before .before .before .before .before .pre .1 .1 .0) (c .before .before .before .before .before .before .before .before .pre .1 .1 .1) (sym (c .before .before .before .kind-at .ensures) ∙ c .before .before .if1 .left) (sym (c .before .holds-at .ensures) ∙ c .if2 .left)
+returns-3 c =
+    let at-start = c .before .before .before .before .before .before .before .before in
+    fill-not-held _ _ _ _ (at-start .pre .1 .0) _ (at-start .pre .1 .1 .0) (at-start .pre .1 .1 .1)
+    (sym (c .before .before .before .kind-at .ensures) ∙ c .before .before .if1 .left)
+    (sym (c .before .holds-at .ensures) ∙ c .if2 .left)
 
 pub prepare-node-spec : {M : Type 1} → statement M
 prepare-node-spec =

@@ -2,7 +2,7 @@
 -- Assumes nothing.
 use Prim.Native.Nat.{_-_, ℕ, _<_}
 use native.Mathlib.Omega.{arith}
-use mathlib.Core.Path.{_≡_, refl, sym, _∙_}
+use mathlib.Core.Path.{refl, sym, _∙_}
 use mathlib.Core.Logic.{inr}
 use borrow.Fn.Kinds.{In}
 use borrow.Fn.PlainCycle.{Measures, is, falls, and}
@@ -34,7 +34,15 @@ can-at-mul-w : (t : ℕ) → can-at-lts.Need-mul-w (
   holds-at-reads.Asked,
   holds-at-reads.Learnt,
 ) (can-at-at t) can-at.Post
-can-at-mul-w t c = omega (arith, c .before .before .before .pre .1 .1 .0 .size, c .before .before .before .pre .1 .1 .0 .few, stands-in (c .before .before .before .pre .1 .1 .0) _ (c .before .before .before .pre .1 .1 .1))
+can-at-mul-w t c =
+    let at-start = c .before .before .before in
+    omega (
+      arith,
+      at-start .pre .1 .1 .0 .size,
+      at-start .pre .1 .1 .0 .few,
+      stands-in (at-start .pre .1 .1 .0) _
+          (at-start .pre .1 .1 .1),
+    )
 
 can-at-shared-slice-read-w : (t : ℕ) → can-at-lts.Need-shared-slice-read-w (
   kind-at-reads.Asked,
@@ -44,7 +52,15 @@ can-at-shared-slice-read-w : (t : ℕ) → can-at-lts.Need-shared-slice-read-w (
   holds-at-reads.Asked,
   holds-at-reads.Learnt,
 ) (can-at-at t) can-at.Post
-can-at-shared-slice-read-w t c = omega (arith, c .before .before .before .before .pre .1 .1 .0 .size, c .before .before .before .before .pre .1 .1 .0 .few, stands-in (c .before .before .before .before .pre .1 .1 .0) _ (c .before .before .before .before .pre .1 .1 .1))
+can-at-shared-slice-read-w t c =
+    let at-start = c .before .before .before .before in
+    omega (
+      arith,
+      at-start .pre .1 .1 .0 .size,
+      at-start .pre .1 .1 .0 .few,
+      stands-in (at-start .pre .1 .1 .0) _
+          (at-start .pre .1 .1 .1),
+    )
 
 can-at-kind-at-requires : (t : ℕ) → can-at-lts.Need-kind-at-requires (
   kind-at-reads.Asked,
@@ -54,7 +70,9 @@ can-at-kind-at-requires : (t : ℕ) → can-at-lts.Need-kind-at-requires (
   holds-at-reads.Asked,
   holds-at-reads.Learnt,
 ) (can-at-at t) can-at.Post
-can-at-kind-at-requires t c κs = (c .before .before .before .before .pre .1 .0, stands-known (c .before .before .before .before .pre .1 .1 .0) _ (c .before .before .before .before .pre .1 .1 .1) .within)
+can-at-kind-at-requires t c κs =
+    let at-start = c .before .before .before .before in
+    (at-start .pre .1 .0, stands-known (at-start .pre .1 .1 .0) _ (at-start .pre .1 .1 .1) .within)
 
 can-at-add-can-at : (t : ℕ) → can-at-lts.Need-add-can-at (
   kind-at-reads.Asked,
@@ -64,7 +82,15 @@ can-at-add-can-at : (t : ℕ) → can-at-lts.Need-add-can-at (
   holds-at-reads.Asked,
   holds-at-reads.Learnt,
 ) (can-at-at t) can-at.Post
-can-at-add-can-at t c = omega (arith, c .before .before .before .before .before .before .pre .1 .1 .0 .size, c .before .before .before .before .before .before .pre .1 .1 .0 .few, stands-in (c .before .before .before .before .before .before .pre .1 .1 .0) _ (c .before .before .before .before .before .before .pre .1 .1 .1))
+can-at-add-can-at t c =
+    let at-start = c .before .before .before .before .before .before in
+    omega (
+      arith,
+      at-start .pre .1 .1 .0 .size,
+      at-start .pre .1 .1 .0 .few,
+      stands-in (at-start .pre .1 .1 .0) _
+          (at-start .pre .1 .1 .1),
+    )
 
 can-at-can-at-requires : (t : ℕ) → can-at-lts.Need-can-at-requires (
   kind-at-reads.Asked,
@@ -74,7 +100,26 @@ can-at-can-at-requires : (t : ℕ) → can-at-lts.Need-can-at-requires (
   holds-at-reads.Asked,
   holds-at-reads.Learnt,
 ) (can-at-at t) can-at.Post
-can-at-can-at-requires t c κs = (omega (arith, c .before .before .before .before .before .before .pre .0, c .before .before .before .before .before .before .pre .1 .1 .0 .few, stands-in (c .before .before .before .before .before .before .pre .1 .1 .0) _ (c .before .before .before .before .before .before .pre .1 .1 .1)), (c .before .before .before .before .before .before .pre .1 .0, (c .before .before .before .before .before .before .pre .1 .1 .0, stands-left _ (c .before .before .before .before .before .before .args .e) _ _ (stands-big (c .before .before .before .before .before .before .pre .1 .1 .0) _ (c .before .before .before .before .before .before .pre .1 .1 .1)) (stands-forest (c .before .before .before .before .before .before .pre .1 .1 .0) _ (c .before .before .before .before .before .before .pre .1 .1 .1)) (sym (c .before .kind-at .ensures) ∙ c .if1 .taken))))
+can-at-can-at-requires t c κs =
+    let at-start = c .before .before .before .before .before .before in (
+      omega (
+        arith,
+        at-start .pre .0,
+        at-start .pre .1 .1 .0 .few,
+        stands-in (at-start .pre .1 .1 .0) _
+            (at-start .pre .1 .1 .1),
+      ),
+      (
+        at-start .pre .1 .0,
+        (
+          at-start .pre .1 .1 .0,
+          stands-left _ (at-start .args .e) _ _
+              (stands-big (at-start .pre .1 .1 .0) _ (at-start .pre .1 .1 .1))
+              (stands-forest (at-start .pre .1 .1 .0) _ (at-start .pre .1 .1 .1)) (sym (c .before .kind-at .ensures)
+              ∙ c .if1 .taken),
+        ),
+      ),
+    )
 
 can-at-can-at-requires-2 : (t : ℕ) → can-at-lts.Need-can-at-requires-2 (
   kind-at-reads.Asked,
@@ -84,7 +129,21 @@ can-at-can-at-requires-2 : (t : ℕ) → can-at-lts.Need-can-at-requires-2 (
   holds-at-reads.Asked,
   holds-at-reads.Learnt,
 ) (can-at-at t) can-at.Post
-can-at-can-at-requires-2 t c κs = let g = stands-right _ (c .before .before .before .before .before .before .before .args .e) _ _ (stands-big (c .before .before .before .before .before .before .before .pre .1 .1 .0) _ (c .before .before .before .before .before .before .before .pre .1 .1 .1)) (stands-forest (c .before .before .before .before .before .before .before .pre .1 .1 .0) _ (c .before .before .before .before .before .before .before .pre .1 .1 .1)) (sym (c .before .before .kind-at .ensures) ∙ c .before .if1 .taken) _ (c .can-at .ensures) in (omega (arith, c .before .before .before .before .before .before .before .pre .0, c .before .before .before .before .before .before .before .pre .1 .1 .0 .few, stands-in (c .before .before .before .before .before .before .before .pre .1 .1 .0) _ (c .before .before .before .before .before .before .before .pre .1 .1 .1), g .1), (c .before .before .before .before .before .before .before .pre .1 .0, (c .before .before .before .before .before .before .before .pre .1 .1 .0, g .0)))
+can-at-can-at-requires-2 t c κs =
+    let at-start = c .before .before .before .before .before .before .before in
+    let g = stands-right _ (at-start .args .e) _ _ (stands-big (at-start .pre .1 .1 .0) _ (at-start .pre .1 .1 .1))
+    (stands-forest (at-start .pre .1 .1 .0) _ (at-start .pre .1 .1 .1)) (sym (c .before .before .kind-at .ensures)
+    ∙ c .before .if1 .taken) _ (c .can-at .ensures) in (
+      omega (
+        arith,
+        at-start .pre .0,
+        at-start .pre .1 .1 .0 .few,
+        stands-in (at-start .pre .1 .1 .0) _
+            (at-start .pre .1 .1 .1),
+        g .1,
+      ),
+      (at-start .pre .1 .0, (at-start .pre .1 .1 .0, g .0)),
+    )
 
 can-at-holds-at-requires : (t : ℕ) → can-at-lts.Need-holds-at-requires (
   kind-at-reads.Asked,
@@ -94,7 +153,17 @@ can-at-holds-at-requires : (t : ℕ) → can-at-lts.Need-holds-at-requires (
   holds-at-reads.Asked,
   holds-at-reads.Learnt,
 ) (can-at-at t) can-at.Post
-can-at-holds-at-requires t c κs = (c .before .before .before .before .before .before .before .before .pre .1 .0, (stands-known (c .before .before .before .before .before .before .before .before .pre .1 .1 .0) _ (c .before .before .before .before .before .before .before .before .pre .1 .1 .1), (inr (sym (c .before .before .before .kind-at .ensures) ∙ c .before .before .if1 .taken), c .before .before .before .before .before .before .before .before .pre .1 .1 .0 .event)))
+can-at-holds-at-requires t c κs =
+    let at-start = c .before .before .before .before .before .before .before .before in (
+      at-start .pre .1 .0,
+      (
+        stands-known (at-start .pre .1 .1 .0) _ (at-start .pre .1 .1 .1),
+        (
+          inr (sym (c .before .before .before .kind-at .ensures) ∙ c .before .before .if1 .taken),
+          at-start .pre .1 .1 .0 .event,
+        ),
+      ),
+    )
 
 can-at-returns : (t : ℕ) → can-at-lts.Need-returns (
   kind-at-reads.Asked,
@@ -104,7 +173,13 @@ can-at-returns : (t : ℕ) → can-at-lts.Need-returns (
   holds-at-reads.Asked,
   holds-at-reads.Learnt,
 ) (can-at-at t) can-at.Post
-can-at-returns t c = told-both-yes (c .before .before .before .before .before .before .before .before .before .before .before .pre .1 .1 .0) _ (c .before .before .before .before .before .before .before .before .before .before .before .pre .1 .1 .1) (sym (c .before .before .before .before .before .before .kind-at .ensures) ∙ c .before .before .before .before .before .if1 .taken) _ (c .before .before .before .before .can-at .ensures) _ (c .before .before .before .can-at2 .ensures) (sym (c .before .before .holds-at .ensures) ∙ c .before .if2 .taken) (c .if3 .taken)
+can-at-returns t c =
+    let at-kind-at = c .before .before .before .before .before .before in
+    let at-start = at-kind-at .before .before .before .before .before in
+    told-both-yes (at-start .pre .1 .1 .0) _ (at-start .pre .1 .1 .1) (sym (at-kind-at .kind-at .ensures)
+    ∙ c .before .before .before .before .before .if1 .taken) _ (c .before .before .before .before .can-at .ensures) _
+    (c .before .before .before .can-at2 .ensures) (sym (c .before .before .holds-at .ensures) ∙ c .before .if2 .taken)
+    (c .if3 .taken)
 
 can-at-returns-2 : (t : ℕ) → can-at-lts.Need-returns-2 (
   kind-at-reads.Asked,
@@ -114,7 +189,13 @@ can-at-returns-2 : (t : ℕ) → can-at-lts.Need-returns-2 (
   holds-at-reads.Asked,
   holds-at-reads.Learnt,
 ) (can-at-at t) can-at.Post
-can-at-returns-2 t c = told-both-no (c .before .before .before .before .before .before .before .before .before .before .before .pre .1 .1 .0) _ (c .before .before .before .before .before .before .before .before .before .before .before .pre .1 .1 .1) (sym (c .before .before .before .before .before .before .kind-at .ensures) ∙ c .before .before .before .before .before .if1 .taken) _ (c .before .before .before .before .can-at .ensures) _ (c .before .before .before .can-at2 .ensures) (sym (c .before .before .holds-at .ensures) ∙ c .before .if2 .taken) (c .if3 .left)
+can-at-returns-2 t c =
+    let at-kind-at = c .before .before .before .before .before .before in
+    let at-start = at-kind-at .before .before .before .before .before in
+    told-both-no (at-start .pre .1 .1 .0) _ (at-start .pre .1 .1 .1) (sym (at-kind-at .kind-at .ensures)
+    ∙ c .before .before .before .before .before .if1 .taken) _ (c .before .before .before .before .can-at .ensures) _
+    (c .before .before .before .can-at2 .ensures) (sym (c .before .before .holds-at .ensures) ∙ c .before .if2 .taken)
+    (c .if3 .left)
 
 can-at-returns-3 : (t : ℕ) → can-at-lts.Need-returns-3 (
   kind-at-reads.Asked,
@@ -124,7 +205,13 @@ can-at-returns-3 : (t : ℕ) → can-at-lts.Need-returns-3 (
   holds-at-reads.Asked,
   holds-at-reads.Learnt,
 ) (can-at-at t) can-at.Post
-can-at-returns-3 t c = told-either-yes (c .before .before .before .before .before .before .before .before .before .before .before .pre .1 .1 .0) _ (c .before .before .before .before .before .before .before .before .before .before .before .pre .1 .1 .1) (sym (c .before .before .before .before .before .before .kind-at .ensures) ∙ c .before .before .before .before .before .if1 .taken) _ (c .before .before .before .before .can-at .ensures) _ (c .before .before .before .can-at2 .ensures) (sym (c .before .before .holds-at .ensures) ∙ c .before .if2 .left) (c .if4 .taken)
+can-at-returns-3 t c =
+    let at-kind-at = c .before .before .before .before .before .before in
+    let at-start = at-kind-at .before .before .before .before .before in
+    told-either-yes (at-start .pre .1 .1 .0) _ (at-start .pre .1 .1 .1) (sym (at-kind-at .kind-at .ensures)
+    ∙ c .before .before .before .before .before .if1 .taken) _ (c .before .before .before .before .can-at .ensures) _
+    (c .before .before .before .can-at2 .ensures) (sym (c .before .before .holds-at .ensures) ∙ c .before .if2 .left)
+    (c .if4 .taken)
 
 can-at-returns-4 : (t : ℕ) → can-at-lts.Need-returns-4 (
   kind-at-reads.Asked,
@@ -134,7 +221,13 @@ can-at-returns-4 : (t : ℕ) → can-at-lts.Need-returns-4 (
   holds-at-reads.Asked,
   holds-at-reads.Learnt,
 ) (can-at-at t) can-at.Post
-can-at-returns-4 t c = told-either-no (c .before .before .before .before .before .before .before .before .before .before .before .pre .1 .1 .0) _ (c .before .before .before .before .before .before .before .before .before .before .before .pre .1 .1 .1) (sym (c .before .before .before .before .before .before .kind-at .ensures) ∙ c .before .before .before .before .before .if1 .taken) _ (c .before .before .before .before .can-at .ensures) _ (c .before .before .before .can-at2 .ensures) (sym (c .before .before .holds-at .ensures) ∙ c .before .if2 .left) (c .if4 .left)
+can-at-returns-4 t c =
+    let at-kind-at = c .before .before .before .before .before .before in
+    let at-start = at-kind-at .before .before .before .before .before in
+    told-either-no (at-start .pre .1 .1 .0) _ (at-start .pre .1 .1 .1) (sym (at-kind-at .kind-at .ensures)
+    ∙ c .before .before .before .before .before .if1 .taken) _ (c .before .before .before .before .can-at .ensures) _
+    (c .before .before .before .can-at2 .ensures) (sym (c .before .before .holds-at .ensures) ∙ c .before .if2 .left)
+    (c .if4 .left)
 
 can-at-mul-f : (t : ℕ) → can-at-lts.Need-mul-f (
   kind-at-reads.Asked,
@@ -144,7 +237,15 @@ can-at-mul-f : (t : ℕ) → can-at-lts.Need-mul-f (
   holds-at-reads.Asked,
   holds-at-reads.Learnt,
 ) (can-at-at t) can-at.Post
-can-at-mul-f t c = omega (arith, c .before .before .before .before .before .before .pre .1 .1 .0 .size, c .before .before .before .before .before .before .pre .1 .1 .0 .few, stands-in (c .before .before .before .before .before .before .pre .1 .1 .0) _ (c .before .before .before .before .before .before .pre .1 .1 .1))
+can-at-mul-f t c =
+    let at-start = c .before .before .before .before .before .before in
+    omega (
+      arith,
+      at-start .pre .1 .1 .0 .size,
+      at-start .pre .1 .1 .0 .few,
+      stands-in (at-start .pre .1 .1 .0) _
+          (at-start .pre .1 .1 .1),
+    )
 
 can-at-mul-f-2 : (t : ℕ) → can-at-lts.Need-mul-f-2 (
   kind-at-reads.Asked,
@@ -154,7 +255,15 @@ can-at-mul-f-2 : (t : ℕ) → can-at-lts.Need-mul-f-2 (
   holds-at-reads.Asked,
   holds-at-reads.Learnt,
 ) (can-at-at t) can-at.Post
-can-at-mul-f-2 t c = omega (arith, c .before .before .before .before .before .before .pre .1 .1 .0 .size, c .before .before .before .before .before .before .pre .1 .1 .0 .few, stands-in (c .before .before .before .before .before .before .pre .1 .1 .0) _ (c .before .before .before .before .before .before .pre .1 .1 .1))
+can-at-mul-f-2 t c =
+    let at-start = c .before .before .before .before .before .before in
+    omega (
+      arith,
+      at-start .pre .1 .1 .0 .size,
+      at-start .pre .1 .1 .0 .few,
+      stands-in (at-start .pre .1 .1 .0) _
+          (at-start .pre .1 .1 .1),
+    )
 
 can-at-shared-slice-read-f : (t : ℕ) → can-at-lts.Need-shared-slice-read-f (
   kind-at-reads.Asked,
@@ -164,7 +273,15 @@ can-at-shared-slice-read-f : (t : ℕ) → can-at-lts.Need-shared-slice-read-f (
   holds-at-reads.Asked,
   holds-at-reads.Learnt,
 ) (can-at-at t) can-at.Post
-can-at-shared-slice-read-f t c = omega (arith, c .before .before .before .before .before .before .before .pre .1 .1 .0 .size, c .before .before .before .before .before .before .before .pre .1 .1 .0 .few, stands-in (c .before .before .before .before .before .before .before .pre .1 .1 .0) _ (c .before .before .before .before .before .before .before .pre .1 .1 .1))
+can-at-shared-slice-read-f t c =
+    let at-start = c .before .before .before .before .before .before .before in
+    omega (
+      arith,
+      at-start .pre .1 .1 .0 .size,
+      at-start .pre .1 .1 .0 .few,
+      stands-in (at-start .pre .1 .1 .0) _
+          (at-start .pre .1 .1 .1),
+    )
 
 can-at-add-t13 : (t : ℕ) → can-at-lts.Need-add-t13 (
   kind-at-reads.Asked,
@@ -174,7 +291,15 @@ can-at-add-t13 : (t : ℕ) → can-at-lts.Need-add-t13 (
   holds-at-reads.Asked,
   holds-at-reads.Learnt,
 ) (can-at-at t) can-at.Post
-can-at-add-t13 t c = omega (arith, c .before .before .before .before .before .before .before .pre .1 .1 .0 .size, c .before .before .before .before .before .before .before .pre .1 .1 .0 .few, stands-in (c .before .before .before .before .before .before .before .pre .1 .1 .0) _ (c .before .before .before .before .before .before .before .pre .1 .1 .1))
+can-at-add-t13 t c =
+    let at-start = c .before .before .before .before .before .before .before in
+    omega (
+      arith,
+      at-start .pre .1 .1 .0 .size,
+      at-start .pre .1 .1 .0 .few,
+      stands-in (at-start .pre .1 .1 .0) _
+          (at-start .pre .1 .1 .1),
+    )
 
 can-at-returns-5 : (t : ℕ) → can-at-lts.Need-returns-5 (
   kind-at-reads.Asked,
@@ -184,7 +309,10 @@ can-at-returns-5 : (t : ℕ) → can-at-lts.Need-returns-5 (
   holds-at-reads.Asked,
   holds-at-reads.Learnt,
 ) (can-at-at t) can-at.Post
-can-at-returns-5 t c = told-leaf (c .before .before .before .before .before .before .before .pre .1 .1 .0) _ (c .before .before .before .before .before .before .before .pre .1 .1 .1) (λ e. c .before .if1 .left (c .before .before .kind-at .ensures ∙ e)) _ refl refl
+can-at-returns-5 t c =
+    let at-start = c .before .before .before .before .before .before .before in
+    told-leaf (at-start .pre .1 .1 .0) _ (at-start .pre .1 .1 .1)
+    (λ e. c .before .if1 .left (c .before .before .kind-at .ensures ∙ e)) _ refl refl
 
 pub +can-at-spec : {M : Type 1} → statement M
 +can-at-spec = close μ-can-at λ t. can-at-lts.spec (

@@ -81,7 +81,9 @@ walk-shared-slice-read-n : (t : ℕ) → walk-lts.Need-shared-slice-read-n (
   walk-leaf-below t,
   walk-leaf.Post,
 ) (walk-at t) walk.Post
-walk-shared-slice-read-n t c = omega (arith, c .before .before .before .before .before .pre .1 .1 .0 .size, c .before .before .before .before .before .pre .1 .1 .0 .few)
+walk-shared-slice-read-n t c =
+    let at-start = c .before .before .before .before .before in
+    omega (arith, at-start .pre .1 .1 .0 .size, at-start .pre .1 .1 .0 .few)
 
 walk-put-requires : (t : ℕ) → walk-lts.Need-put-requires (
   put-reads.Asked,
@@ -129,7 +131,10 @@ walk-returns : (t : ℕ) → walk-lts.Need-returns (
   walk-leaf-below t,
   walk-leaf.Post,
 ) (walk-at t) walk.Post
-walk-returns t c = walk-end (c .before .before .before .before .before .before .before .before .before .before .pre .1 .1 .0) _ _ _ _ _ (c .before .before .before .before .if1 .taken) _ _ (c .before .before .put .ensures)
+walk-returns t c =
+    let at-start = c .before .before .before .before .before .before .before .before .before .before in
+    walk-end (at-start .pre .1 .1 .0) _ _ _ _ _ (c .before .before .before .before .if1 .taken) _ _
+    (c .before .before .put .ensures)
 
 walk-mul-w : (t : ℕ) → walk-lts.Need-mul-w (
   put-reads.Asked,
@@ -145,7 +150,9 @@ walk-mul-w : (t : ℕ) → walk-lts.Need-mul-w (
   walk-leaf-below t,
   walk-leaf.Post,
 ) (walk-at t) walk.Post
-walk-mul-w t c = omega (arith, c .before .before .before .before .before .before .pre .1 .1 .0 .size, c .before .before .before .before .before .before .pre .1 .1 .0 .few, c .if1 .left)
+walk-mul-w t c =
+    let at-start = c .before .before .before .before .before .before in
+    omega (arith, at-start .pre .1 .1 .0 .size, at-start .pre .1 .1 .0 .few, c .if1 .left)
 
 walk-shared-slice-read-w : (t : ℕ) → walk-lts.Need-shared-slice-read-w (
   put-reads.Asked,
@@ -161,7 +168,9 @@ walk-shared-slice-read-w : (t : ℕ) → walk-lts.Need-shared-slice-read-w (
   walk-leaf-below t,
   walk-leaf.Post,
 ) (walk-at t) walk.Post
-walk-shared-slice-read-w t c = omega (arith, c .before .before .before .before .before .before .before .pre .1 .1 .0 .size, c .before .before .before .before .before .before .before .pre .1 .1 .0 .few, c .before .if1 .left)
+walk-shared-slice-read-w t c =
+    let at-start = c .before .before .before .before .before .before .before in
+    omega (arith, at-start .pre .1 .1 .0 .size, at-start .pre .1 .1 .0 .few, c .before .if1 .left)
 
 walk-kind-at-requires : (t : ℕ) → walk-lts.Need-kind-at-requires (
   put-reads.Asked,
@@ -177,7 +186,12 @@ walk-kind-at-requires : (t : ℕ) → walk-lts.Need-kind-at-requires (
   walk-leaf-below t,
   walk-leaf.Post,
 ) (walk-at t) walk.Post
-walk-kind-at-requires t c κs = (c .before .before .before .before .before .before .before .pre .1 .0, known (c .before .before .before .before .before .before .before .pre .1 .1 .0) _ _ _ _ _ (c .before .before .before .before .before .before .before .pre .1 .1 .1) (c .before .if1 .left) .within)
+walk-kind-at-requires t c κs =
+    let at-start = c .before .before .before .before .before .before .before in (
+      at-start .pre .1 .0,
+      known (at-start .pre .1 .1 .0) _ _ _ _ _ (at-start .pre .1 .1 .1)
+          (c .before .if1 .left) .within,
+    )
 
 walk-push-requires : (t : ℕ) → walk-lts.Need-push-requires (
   put-reads.Asked,
@@ -193,7 +207,9 @@ walk-push-requires : (t : ℕ) → walk-lts.Need-push-requires (
   walk-leaf-below t,
   walk-leaf.Post,
 ) (walk-at t) walk.Post
-walk-push-requires t c κs = push-room (c .before .before .before .before .before .before .before .before .before .pre .1 .1 .0) _ _ _ _ _ (c .before .before .before .before .before .before .before .before .before .pre .1 .1 .1) (c .before .before .before .if1 .left)
+walk-push-requires t c κs =
+    let at-start = c .before .before .before .before .before .before .before .before .before in
+    push-room (at-start .pre .1 .1 .0) _ _ _ _ _ (at-start .pre .1 .1 .1) (c .before .before .before .if1 .left)
 
 walk-add-walk : (t : ℕ) → walk-lts.Need-add-walk (
   put-reads.Asked,
@@ -209,7 +225,9 @@ walk-add-walk : (t : ℕ) → walk-lts.Need-add-walk (
   walk-leaf-below t,
   walk-leaf.Post,
 ) (walk-at t) walk.Post
-walk-add-walk t c = omega (arith, c .before .before .before .before .before .before .before .before .before .before .before .pre .1 .1 .0 .few, c .before .before .before .before .before .if1 .left)
+walk-add-walk t c =
+    let at-start = c .before .before .before .before .before .before .before .before .before .before .before in
+    omega (arith, at-start .pre .1 .1 .0 .few, c .before .before .before .before .before .if1 .left)
 
 walk-mul-walk : (t : ℕ) → walk-lts.Need-mul-walk (
   put-reads.Asked,
@@ -225,7 +243,13 @@ walk-mul-walk : (t : ℕ) → walk-lts.Need-mul-walk (
   walk-leaf-below t,
   walk-leaf.Post,
 ) (walk-at t) walk.Post
-walk-mul-walk t c = omega (arith, bits-fit (c .before .before .before .before .before .before .before .before .before .before .before .pre .1 .1 .0) _ _ _ _ _ (c .before .before .before .before .before .before .before .before .before .before .before .pre .1 .1 .1) (c .before .before .before .before .before .if1 .left))
+walk-mul-walk t c =
+    let at-start = c .before .before .before .before .before .before .before .before .before .before .before in
+    omega (
+      arith,
+      bits-fit (at-start .pre .1 .1 .0) _ _ _ _ _ (at-start .pre .1 .1 .1)
+          (c .before .before .before .before .before .if1 .left),
+    )
 
 walk-walk-requires : (t : ℕ) → walk-lts.Need-walk-requires (
   put-reads.Asked,
@@ -241,7 +265,21 @@ walk-walk-requires : (t : ℕ) → walk-lts.Need-walk-requires (
   walk-leaf-below t,
   walk-leaf.Post,
 ) (walk-at t) walk.Post
-walk-walk-requires t c κs = (omega (arith, c .before .before .before .before .before .before .before .before .before .before .before .before .pre .0, c .before .before .before .before .before .before .before .before .before .before .before .before .pre .1 .1 .0 .few, c .before .before .before .before .before .before .if1 .left), (c .before .before .before .before .before .before .before .before .before .before .before .before .pre .1 .0, (c .before .before .before .before .before .before .before .before .before .before .before .before .pre .1 .1 .0, next-place (c .before .before .before .before .before .before .before .before .before .before .before .before .pre .1 .1 .0) _ _ _ _ _ (c .before .before .before .before .before .before .before .before .before .before .before .before .pre .1 .1 .1) (c .before .before .before .before .before .before .if1 .left) _ _ _ _ (omega arith) (c .before .before .push .ensures) (c .before .before .before .before .before .before .before .before .before .before .before .before .pre .1 .1 .1 .held) (next-pair (c .before .before .before .before .before .before .before .before .before .before .before .before .pre .1 .1 .0) _ _ _ _ _ (c .before .before .before .before .before .before .before .before .before .before .before .before .pre .1 .1 .1) (c .before .before .before .before .before .before .if1 .left) (sym (c .before .before .before .before .kind-at .ensures) ∙ c .before .if3 .taken)))))
+walk-walk-requires t c κs =
+    let at-if1 = c .before .before .before .before .before .before in
+    let at-start = at-if1 .before .before .before .before .before .before in (
+      omega (arith, at-start .pre .0, at-start .pre .1 .1 .0 .few, at-if1 .if1 .left),
+      (
+        at-start .pre .1 .0,
+        (
+          at-start .pre .1 .1 .0,
+          next-place (at-start .pre .1 .1 .0) _ _ _ _ _ (at-start .pre .1 .1 .1)
+              (at-if1 .if1 .left) _ _ _ _ (omega arith) (c .before .before .push .ensures) (at-start .pre .1 .1 .1 .held)
+              (next-pair (at-start .pre .1 .1 .0) _ _ _ _ _ (at-start .pre .1 .1 .1) (at-if1 .if1 .left)
+              (sym (c .before .before .before .before .kind-at .ensures) ∙ c .before .if3 .taken)),
+        ),
+      ),
+    )
 
 walk-same-length-2 : (t : ℕ) → walk-lts.Need-same-length-2 (
   put-reads.Asked,
@@ -273,7 +311,13 @@ walk-returns-2 : (t : ℕ) → walk-lts.Need-returns-2 (
   walk-leaf-below t,
   walk-leaf.Post,
 ) (walk-at t) walk.Post
-walk-returns-2 t c = walk-kept-pair (c .before .before .before .before .before .before .before .before .before .before .before .before .before .before .before .pre .1 .1 .0) _ _ _ _ _ (c .before .before .before .before .before .before .before .before .before .before .before .before .before .before .before .pre .1 .1 .1) (c .before .before .before .before .before .before .before .before .before .if1 .left) (c .before .before .before .before .before .before .if2 .taken) (sym (c .before .before .before .before .before .before .before .kind-at .ensures) ∙ c .before .before .before .before .if3 .taken) _ (c .before .before .before .before .before .push .ensures) _ _ (c .before .before .walk .ensures)
+walk-returns-2 t c =
+    let at-if2 = c .before .before .before .before .before .before in let at-kind-at = at-if2 .before in
+    let at-if1 = at-kind-at .before .before in
+    let at-start = at-if1 .before .before .before .before .before .before in
+    walk-kept-pair (at-start .pre .1 .1 .0) _ _ _ _ _ (at-start .pre .1 .1 .1) (at-if1 .if1 .left)
+    (at-if2 .if2 .taken) (sym (at-kind-at .kind-at .ensures) ∙ c .before .before .before .before .if3 .taken) _
+    (c .before .before .before .before .before .push .ensures) _ _ (c .before .before .walk .ensures)
 
 walk-add-walk-2 : (t : ℕ) → walk-lts.Need-add-walk-2 (
   put-reads.Asked,
@@ -289,7 +333,9 @@ walk-add-walk-2 : (t : ℕ) → walk-lts.Need-add-walk-2 (
   walk-leaf-below t,
   walk-leaf.Post,
 ) (walk-at t) walk.Post
-walk-add-walk-2 t c = omega (arith, c .before .before .before .before .before .before .before .before .before .before .before .pre .1 .1 .0 .few, c .before .before .before .before .before .if1 .left)
+walk-add-walk-2 t c =
+    let at-start = c .before .before .before .before .before .before .before .before .before .before .before in
+    omega (arith, at-start .pre .1 .1 .0 .few, c .before .before .before .before .before .if1 .left)
 
 walk-walk-requires-2 : (t : ℕ) → walk-lts.Need-walk-requires-2 (
   put-reads.Asked,
@@ -305,7 +351,21 @@ walk-walk-requires-2 : (t : ℕ) → walk-lts.Need-walk-requires-2 (
   walk-leaf-below t,
   walk-leaf.Post,
 ) (walk-at t) walk.Post
-walk-walk-requires-2 t c κs = (omega (arith, c .before .before .before .before .before .before .before .before .before .before .before .before .pre .0, c .before .before .before .before .before .before .before .before .before .before .before .before .pre .1 .1 .0 .few, c .before .before .before .before .before .before .if1 .left), (c .before .before .before .before .before .before .before .before .before .before .before .before .pre .1 .0, (c .before .before .before .before .before .before .before .before .before .before .before .before .pre .1 .1 .0, next-place (c .before .before .before .before .before .before .before .before .before .before .before .before .pre .1 .1 .0) _ _ _ _ _ (c .before .before .before .before .before .before .before .before .before .before .before .before .pre .1 .1 .1) (c .before .before .before .before .before .before .if1 .left) _ _ _ _ (omega arith) (c .before .before .push .ensures) (c .before .before .before .before .before .before .before .before .before .before .before .before .pre .1 .1 .1 .held) (next-leaf (c .before .before .before .before .before .before .before .before .before .before .before .before .pre .1 .1 .0) _ _ _ _ _ (c .before .before .before .before .before .before .before .before .before .before .before .before .pre .1 .1 .1) (c .before .before .before .before .before .before .if1 .left) (λ e. c .before .if3 .left (c .before .before .before .before .kind-at .ensures ∙ e))))))
+walk-walk-requires-2 t c κs =
+    let at-if1 = c .before .before .before .before .before .before in
+    let at-start = at-if1 .before .before .before .before .before .before in (
+      omega (arith, at-start .pre .0, at-start .pre .1 .1 .0 .few, at-if1 .if1 .left),
+      (
+        at-start .pre .1 .0,
+        (
+          at-start .pre .1 .1 .0,
+          next-place (at-start .pre .1 .1 .0) _ _ _ _ _ (at-start .pre .1 .1 .1)
+              (at-if1 .if1 .left) _ _ _ _ (omega arith) (c .before .before .push .ensures) (at-start .pre .1 .1 .1 .held)
+              (next-leaf (at-start .pre .1 .1 .0) _ _ _ _ _ (at-start .pre .1 .1 .1) (at-if1 .if1 .left)
+              (λ e. c .before .if3 .left (c .before .before .before .before .kind-at .ensures ∙ e))),
+        ),
+      ),
+    )
 
 walk-same-length-3 : (t : ℕ) → walk-lts.Need-same-length-3 (
   put-reads.Asked,
@@ -337,7 +397,13 @@ walk-returns-3 : (t : ℕ) → walk-lts.Need-returns-3 (
   walk-leaf-below t,
   walk-leaf.Post,
 ) (walk-at t) walk.Post
-walk-returns-3 t c = walk-kept-leaf (c .before .before .before .before .before .before .before .before .before .before .before .before .before .before .before .pre .1 .1 .0) _ _ _ _ _ (c .before .before .before .before .before .before .before .before .before .before .before .before .before .before .before .pre .1 .1 .1) (c .before .before .before .before .before .before .before .before .before .if1 .left) (c .before .before .before .before .before .before .if2 .taken) (λ e. c .before .before .before .before .if3 .left (c .before .before .before .before .before .before .before .kind-at .ensures ∙ e)) _ (c .before .before .before .before .before .push .ensures) _ _ (c .before .before .walk2 .ensures)
+walk-returns-3 t c =
+    let at-if2 = c .before .before .before .before .before .before in let at-kind-at = at-if2 .before in
+    let at-if1 = at-kind-at .before .before in
+    let at-start = at-if1 .before .before .before .before .before .before in
+    walk-kept-leaf (at-start .pre .1 .1 .0) _ _ _ _ _ (at-start .pre .1 .1 .1) (at-if1 .if1 .left)
+    (at-if2 .if2 .taken) (λ e. c .before .before .before .before .if3 .left (at-kind-at .kind-at .ensures ∙ e)) _
+    (c .before .before .before .before .before .push .ensures) _ _ (c .before .before .walk2 .ensures)
 
 walk-walk-pair-requires : (t : ℕ) → walk-lts.Need-walk-pair-requires (
   put-reads.Asked,
@@ -353,7 +419,22 @@ walk-walk-pair-requires : (t : ℕ) → walk-lts.Need-walk-pair-requires (
   walk-leaf-below t,
   walk-leaf.Post,
 ) (walk-at t) walk.Post
-walk-walk-pair-requires t c κs = (omega (arith, c .before .before .before .before .before .before .before .before .before .before .before .pre .0, c .before .before .before .before .before .before .before .before .before .before .before .pre .1 .1 .0 .few, c .before .before .before .before .before .if1 .left), (c .before .before .before .before .before .before .before .before .before .before .before .pre .1 .0, (c .before .before .before .before .before .before .before .before .before .before .before .pre .1 .1 .0, (odd-place _ _ _ _ _ _ _ _ (c .before .before .if2 .left) (c .before .before .before .before .before .before .before .before .before .before .before .pre .1 .1 .1), c .before .before .before .before .before .if1 .left, sym (c .before .before .before .kind-at .ensures) ∙ c .before .if4 .taken))))
+walk-walk-pair-requires t c κs =
+    let at-if1 = c .before .before .before .before .before in
+    let at-start = at-if1 .before .before .before .before .before .before in (
+      omega (arith, at-start .pre .0, at-start .pre .1 .1 .0 .few, at-if1 .if1 .left),
+      (
+        at-start .pre .1 .0,
+        (
+          at-start .pre .1 .1 .0,
+          (
+            odd-place _ _ _ _ _ _ _ _ (c .before .before .if2 .left) (at-start .pre .1 .1 .1),
+            at-if1 .if1 .left,
+            sym (c .before .before .before .kind-at .ensures) ∙ c .before .if4 .taken,
+          ),
+        ),
+      ),
+    )
 
 walk-same-length-4 : (t : ℕ) → walk-lts.Need-same-length-4 (
   put-reads.Asked,
@@ -385,7 +466,9 @@ walk-returns-4 : (t : ℕ) → walk-lts.Need-returns-4 (
   walk-leaf-below t,
   walk-leaf.Post,
 ) (walk-at t) walk.Post
-walk-returns-4 t c = odd-gave _ _ _ _ _ _ _ _ (c .before .before .before .before .before .if2 .left) (c .before .before .walk-pair .ensures)
+walk-returns-4 t c =
+    odd-gave _ _ _ _ _ _ _ _ (c .before .before .before .before .before .if2 .left)
+    (c .before .before .walk-pair .ensures)
 
 walk-walk-leaf-requires : (t : ℕ) → walk-lts.Need-walk-leaf-requires (
   put-reads.Asked,
@@ -401,7 +484,22 @@ walk-walk-leaf-requires : (t : ℕ) → walk-lts.Need-walk-leaf-requires (
   walk-leaf-below t,
   walk-leaf.Post,
 ) (walk-at t) walk.Post
-walk-walk-leaf-requires t c κs = (omega (arith, c .before .before .before .before .before .before .before .before .before .before .before .pre .0, c .before .before .before .before .before .before .before .before .before .before .before .pre .1 .1 .0 .few, c .before .before .before .before .before .if1 .left), (c .before .before .before .before .before .before .before .before .before .before .before .pre .1 .0, (c .before .before .before .before .before .before .before .before .before .before .before .pre .1 .1 .0, (odd-place _ _ _ _ _ _ _ _ (c .before .before .if2 .left) (c .before .before .before .before .before .before .before .before .before .before .before .pre .1 .1 .1), c .before .before .before .before .before .if1 .left, λ e. c .before .if4 .left (c .before .before .before .kind-at .ensures ∙ e)))))
+walk-walk-leaf-requires t c κs =
+    let at-if1 = c .before .before .before .before .before in
+    let at-start = at-if1 .before .before .before .before .before .before in (
+      omega (arith, at-start .pre .0, at-start .pre .1 .1 .0 .few, at-if1 .if1 .left),
+      (
+        at-start .pre .1 .0,
+        (
+          at-start .pre .1 .1 .0,
+          (
+            odd-place _ _ _ _ _ _ _ _ (c .before .before .if2 .left) (at-start .pre .1 .1 .1),
+            at-if1 .if1 .left,
+            λ e. c .before .if4 .left (c .before .before .before .kind-at .ensures ∙ e),
+          ),
+        ),
+      ),
+    )
 
 walk-same-length-5 : (t : ℕ) → walk-lts.Need-same-length-5 (
   put-reads.Asked,
@@ -433,10 +531,15 @@ walk-returns-5 : (t : ℕ) → walk-lts.Need-returns-5 (
   walk-leaf-below t,
   walk-leaf.Post,
 ) (walk-at t) walk.Post
-walk-returns-5 t c = odd-gave _ _ _ _ _ _ _ _ (c .before .before .before .before .before .if2 .left) (c .before .before .walk-leaf .ensures)
+walk-returns-5 t c =
+    odd-gave _ _ _ _ _ _ _ _ (c .before .before .before .before .before .if2 .left)
+    (c .before .before .walk-leaf .ensures)
 
 abbrev walk-leaf-Inv-loop : walk-leaf-lts.InvT-loop
-walk-leaf-Inv-loop list work store bound e k rest slot area₀ count w f t m c₀ j₀ area c j = (j ≤ f) × (length area ≡ length area₀) × (c * 16 ≤ length area) × (leafRest (tableIn list) e store k rest slot area c j ≡ leafRest (tableIn list) e store k rest slot area₀ count 0)
+walk-leaf-Inv-loop list work store bound e k rest slot area₀ count w f t m c₀ j₀ area c j =
+    (j ≤ f) × (length area ≡ length area₀) × (c * 16 ≤ length area)
+    × (leafRest (tableIn list) e store k rest slot area c j ≡ leafRest (tableIn list) e store k rest slot area₀ count
+    0)
 
 abbrev walk-leaf-μ-loop : walk-leaf-lts.MeasureT-loop
 walk-leaf-μ-loop list work store bound e k rest slot area₀ count w f t m c₀ j₀ area c j = f - j
@@ -453,7 +556,9 @@ walk-leaf-mul-w : (t : ℕ) → walk-leaf-lts.Need-mul-w (
   walk-below t,
   walk.Post,
 ) (walk-leaf-at t) walk-leaf.Post walk-leaf-Inv-loop walk-leaf-μ-loop
-walk-leaf-mul-w t c = omega (arith, c .before .before .before .before .pre .1 .1 .0 .size, c .before .before .before .before .pre .1 .1 .0 .few, c .before .before .before .before .pre .1 .1 .1 .1)
+walk-leaf-mul-w t c =
+    let at-start = c .before .before .before .before in
+    omega (arith, at-start .pre .1 .1 .0 .size, at-start .pre .1 .1 .0 .few, at-start .pre .1 .1 .1 .1)
 
 walk-leaf-shared-slice-read-w : (t : ℕ) → walk-leaf-lts.Need-shared-slice-read-w (
   term-of-reads.Asked,
@@ -467,7 +572,9 @@ walk-leaf-shared-slice-read-w : (t : ℕ) → walk-leaf-lts.Need-shared-slice-re
   walk-below t,
   walk.Post,
 ) (walk-leaf-at t) walk-leaf.Post walk-leaf-Inv-loop walk-leaf-μ-loop
-walk-leaf-shared-slice-read-w t c = omega (arith, c .before .before .before .before .before .pre .1 .1 .0 .size, c .before .before .before .before .before .pre .1 .1 .0 .few, c .before .before .before .before .before .pre .1 .1 .1 .1)
+walk-leaf-shared-slice-read-w t c =
+    let at-start = c .before .before .before .before .before in
+    omega (arith, at-start .pre .1 .1 .0 .size, at-start .pre .1 .1 .0 .few, at-start .pre .1 .1 .1 .1)
 
 walk-leaf-mul-f : (t : ℕ) → walk-leaf-lts.Need-mul-f (
   term-of-reads.Asked,
@@ -481,7 +588,9 @@ walk-leaf-mul-f : (t : ℕ) → walk-leaf-lts.Need-mul-f (
   walk-below t,
   walk.Post,
 ) (walk-leaf-at t) walk-leaf.Post walk-leaf-Inv-loop walk-leaf-μ-loop
-walk-leaf-mul-f t c = omega (arith, c .before .before .before .before .before .pre .1 .1 .0 .size, c .before .before .before .before .before .pre .1 .1 .0 .few, c .before .before .before .before .before .pre .1 .1 .1 .1)
+walk-leaf-mul-f t c =
+    let at-start = c .before .before .before .before .before in
+    omega (arith, at-start .pre .1 .1 .0 .size, at-start .pre .1 .1 .0 .few, at-start .pre .1 .1 .1 .1)
 
 walk-leaf-mul-f-2 : (t : ℕ) → walk-leaf-lts.Need-mul-f-2 (
   term-of-reads.Asked,
@@ -495,7 +604,9 @@ walk-leaf-mul-f-2 : (t : ℕ) → walk-leaf-lts.Need-mul-f-2 (
   walk-below t,
   walk.Post,
 ) (walk-leaf-at t) walk-leaf.Post walk-leaf-Inv-loop walk-leaf-μ-loop
-walk-leaf-mul-f-2 t c = omega (arith, c .before .before .before .before .before .pre .1 .1 .0 .size, c .before .before .before .before .before .pre .1 .1 .0 .few, c .before .before .before .before .before .pre .1 .1 .1 .1)
+walk-leaf-mul-f-2 t c =
+    let at-start = c .before .before .before .before .before in
+    omega (arith, at-start .pre .1 .1 .0 .size, at-start .pre .1 .1 .0 .few, at-start .pre .1 .1 .1 .1)
 
 walk-leaf-shared-slice-read-f : (t : ℕ) → walk-leaf-lts.Need-shared-slice-read-f (
   term-of-reads.Asked,
@@ -509,7 +620,9 @@ walk-leaf-shared-slice-read-f : (t : ℕ) → walk-leaf-lts.Need-shared-slice-re
   walk-below t,
   walk.Post,
 ) (walk-leaf-at t) walk-leaf.Post walk-leaf-Inv-loop walk-leaf-μ-loop
-walk-leaf-shared-slice-read-f t c = omega (arith, c .before .before .before .before .before .before .pre .1 .1 .0 .size, c .before .before .before .before .before .before .pre .1 .1 .0 .few, c .before .before .before .before .before .before .pre .1 .1 .1 .1)
+walk-leaf-shared-slice-read-f t c =
+    let at-start = c .before .before .before .before .before .before in
+    omega (arith, at-start .pre .1 .1 .0 .size, at-start .pre .1 .1 .0 .few, at-start .pre .1 .1 .1 .1)
 
 walk-leaf-term-of-requires : (t : ℕ) → walk-leaf-lts.Need-term-of-requires (
   term-of-reads.Asked,
@@ -551,7 +664,8 @@ walk-leaf-remember-requires : (t : ℕ) → walk-leaf-lts.Need-remember-requires
   walk-below t,
   walk.Post,
 ) (walk-leaf-at t) walk-leaf.Post walk-leaf-Inv-loop walk-leaf-μ-loop
-walk-leaf-remember-requires t c κs = c .before .before .before .before .before .before .before .before .pre .1 .1 .0 .event
+walk-leaf-remember-requires t c κs =
+    let at-start = c .before .before .before .before .before .before .before .before in at-start .pre .1 .1 .0 .event
 
 walk-leaf-loop-holds : (t : ℕ) → walk-leaf-lts.Need-loop-holds (
   term-of-reads.Asked,
@@ -565,7 +679,9 @@ walk-leaf-loop-holds : (t : ℕ) → walk-leaf-lts.Need-loop-holds (
   walk-below t,
   walk.Post,
 ) (walk-leaf-at t) walk-leaf.Post walk-leaf-Inv-loop walk-leaf-μ-loop
-walk-leaf-loop-holds t c = (omega arith, refl, c .before .before .before .before .before .before .before .before .before .pre .1 .1 .1 .0 .held, refl)
+walk-leaf-loop-holds t c =
+    let at-start = c .before .before .before .before .before .before .before .before .before in
+    (omega arith, refl, at-start .pre .1 .1 .1 .0 .held, refl)
 
 walk-leaf-mul-i : (t : ℕ) → walk-leaf-lts.Need-mul-i (
   term-of-reads.Asked,
@@ -579,7 +695,9 @@ walk-leaf-mul-i : (t : ℕ) → walk-leaf-lts.Need-mul-i (
   walk-below t,
   walk.Post,
 ) (walk-leaf-at t) walk-leaf.Post walk-leaf-Inv-loop walk-leaf-μ-loop
-walk-leaf-mul-i t c = omega (arith, c .before .before .before .before .before .before .before .before .before .before .before .pre .1 .1 .0 .size, c .before .before .before .before .before .before .before .before .before .before .before .pre .1 .1 .0 .few, c .before .before .before .before .before .before .before .before .before .before .before .pre .1 .1 .1 .1)
+walk-leaf-mul-i t c =
+    let at-start = c .before .before .before .before .before .before .before .before .before .before .before in
+    omega (arith, at-start .pre .1 .1 .0 .size, at-start .pre .1 .1 .0 .few, at-start .pre .1 .1 .1 .1)
 
 walk-leaf-add-i : (t : ℕ) → walk-leaf-lts.Need-add-i (
   term-of-reads.Asked,
@@ -593,7 +711,9 @@ walk-leaf-add-i : (t : ℕ) → walk-leaf-lts.Need-add-i (
   walk-below t,
   walk.Post,
 ) (walk-leaf-at t) walk-leaf.Post walk-leaf-Inv-loop walk-leaf-μ-loop
-walk-leaf-add-i t c = omega (arith, c .before .before .before .before .before .before .before .before .before .before .before .pre .1 .1 .0 .size, c .before .before .before .before .before .before .before .before .before .before .before .pre .1 .1 .0 .few, c .before .before .before .before .before .before .before .before .before .before .before .pre .1 .1 .1 .1)
+walk-leaf-add-i t c =
+    let at-start = c .before .before .before .before .before .before .before .before .before .before .before in
+    omega (arith, at-start .pre .1 .1 .0 .size, at-start .pre .1 .1 .0 .few, at-start .pre .1 .1 .1 .1)
 
 walk-leaf-add-i-2 : (t : ℕ) → walk-leaf-lts.Need-add-i-2 (
   term-of-reads.Asked,
@@ -607,7 +727,16 @@ walk-leaf-add-i-2 : (t : ℕ) → walk-leaf-lts.Need-add-i-2 (
   walk-below t,
   walk.Post,
 ) (walk-leaf-at t) walk-leaf.Post walk-leaf-Inv-loop walk-leaf-μ-loop
-walk-leaf-add-i-2 t c = omega (arith, c .before .before .before .before .before .before .before .before .before .before .before .pre .1 .1 .0 .size, c .before .before .before .before .before .before .before .before .before .before .before .pre .1 .1 .0 .few, c .before .before .before .before .before .before .before .before .before .before .before .pre .1 .1 .1 .1, leaf-few (c .before .before .before .before .before .before .before .before .before .before .before .pre .1 .1 .0) _ _ _ _ _ (c .before .before .before .before .before .before .before .before .before .before .before .pre .1 .1 .1 .0) (c .before .before .before .before .before .before .before .before .before .before .before .pre .1 .1 .1 .1) (c .before .before .before .before .before .before .before .before .before .before .before .pre .1 .1 .1 .2) _ _ (c .loop-test .taken) refl)
+walk-leaf-add-i-2 t c =
+    let at-start = c .before .before .before .before .before .before .before .before .before .before .before in
+    omega (
+      arith,
+      at-start .pre .1 .1 .0 .size,
+      at-start .pre .1 .1 .0 .few,
+      at-start .pre .1 .1 .1 .1,
+      leaf-few (at-start .pre .1 .1 .0) _ _ _ _ _ (at-start .pre .1 .1 .1 .0) (at-start .pre .1 .1 .1 .1)
+          (at-start .pre .1 .1 .1 .2) _ _ (c .loop-test .taken) refl,
+    )
 
 walk-leaf-mul-i-2 : (t : ℕ) → walk-leaf-lts.Need-mul-i-2 (
   term-of-reads.Asked,
@@ -621,7 +750,16 @@ walk-leaf-mul-i-2 : (t : ℕ) → walk-leaf-lts.Need-mul-i-2 (
   walk-below t,
   walk.Post,
 ) (walk-leaf-at t) walk-leaf.Post walk-leaf-Inv-loop walk-leaf-μ-loop
-walk-leaf-mul-i-2 t c = omega (arith, c .before .before .before .before .before .before .before .before .before .before .before .pre .1 .1 .0 .size, c .before .before .before .before .before .before .before .before .before .before .before .pre .1 .1 .0 .few, c .before .before .before .before .before .before .before .before .before .before .before .pre .1 .1 .1 .1, leaf-few (c .before .before .before .before .before .before .before .before .before .before .before .pre .1 .1 .0) _ _ _ _ _ (c .before .before .before .before .before .before .before .before .before .before .before .pre .1 .1 .1 .0) (c .before .before .before .before .before .before .before .before .before .before .before .pre .1 .1 .1 .1) (c .before .before .before .before .before .before .before .before .before .before .before .pre .1 .1 .1 .2) _ _ (c .loop-test .taken) refl)
+walk-leaf-mul-i-2 t c =
+    let at-start = c .before .before .before .before .before .before .before .before .before .before .before in
+    omega (
+      arith,
+      at-start .pre .1 .1 .0 .size,
+      at-start .pre .1 .1 .0 .few,
+      at-start .pre .1 .1 .1 .1,
+      leaf-few (at-start .pre .1 .1 .0) _ _ _ _ _ (at-start .pre .1 .1 .1 .0) (at-start .pre .1 .1 .1 .1)
+          (at-start .pre .1 .1 .1 .2) _ _ (c .loop-test .taken) refl,
+    )
 
 walk-leaf-shared-slice-read-i : (t : ℕ) → walk-leaf-lts.Need-shared-slice-read-i (
   term-of-reads.Asked,
@@ -635,7 +773,16 @@ walk-leaf-shared-slice-read-i : (t : ℕ) → walk-leaf-lts.Need-shared-slice-re
   walk-below t,
   walk.Post,
 ) (walk-leaf-at t) walk-leaf.Post walk-leaf-Inv-loop walk-leaf-μ-loop
-walk-leaf-shared-slice-read-i t c = omega (arith, c .before .before .before .before .before .before .before .before .before .before .before .before .pre .1 .1 .0 .size, c .before .before .before .before .before .before .before .before .before .before .before .before .pre .1 .1 .0 .few, c .before .before .before .before .before .before .before .before .before .before .before .before .pre .1 .1 .1 .1, leaf-few (c .before .before .before .before .before .before .before .before .before .before .before .before .pre .1 .1 .0) _ _ _ _ _ (c .before .before .before .before .before .before .before .before .before .before .before .before .pre .1 .1 .1 .0) (c .before .before .before .before .before .before .before .before .before .before .before .before .pre .1 .1 .1 .1) (c .before .before .before .before .before .before .before .before .before .before .before .before .pre .1 .1 .1 .2) _ _ (c .before .loop-test .taken) refl)
+walk-leaf-shared-slice-read-i t c =
+    let at-start = c .before .before .before .before .before .before .before .before .before .before .before .before
+    in omega (
+      arith,
+      at-start .pre .1 .1 .0 .size,
+      at-start .pre .1 .1 .0 .few,
+      at-start .pre .1 .1 .1 .1,
+      leaf-few (at-start .pre .1 .1 .0) _ _ _ _ _ (at-start .pre .1 .1 .1 .0) (at-start .pre .1 .1 .1 .1)
+          (at-start .pre .1 .1 .1 .2) _ _ (c .before .loop-test .taken) refl,
+    )
 
 walk-leaf-add-resolve-term : (t : ℕ) → walk-leaf-lts.Need-add-resolve-term (
   term-of-reads.Asked,
@@ -649,7 +796,15 @@ walk-leaf-add-resolve-term : (t : ℕ) → walk-leaf-lts.Need-add-resolve-term (
   walk-below t,
   walk.Post,
 ) (walk-leaf-at t) walk-leaf.Post walk-leaf-Inv-loop walk-leaf-μ-loop
-walk-leaf-add-resolve-term t c = omega (arith, c .before .before .before .before .before .term-of .ensures, known (c .before .before .before .before .before .before .before .before .before .before .before .before .pre .1 .1 .0) _ _ _ _ _ (c .before .before .before .before .before .before .before .before .before .before .before .before .pre .1 .1 .1 .0) (c .before .before .before .before .before .before .before .before .before .before .before .before .pre .1 .1 .1 .1) .within, terms-few (c .before .before .before .before .before .before .before .before .before .before .before .before .pre .1 .0))
+walk-leaf-add-resolve-term t c =
+    let at-start = c .before .before .before .before .before .before .before .before .before .before .before .before
+    in omega (
+      arith,
+      c .before .before .before .before .before .term-of .ensures,
+      known (at-start .pre .1 .1 .0) _ _ _
+          _ _ (at-start .pre .1 .1 .1 .0) (at-start .pre .1 .1 .1 .1) .within,
+      terms-few (at-start .pre .1 .0),
+    )
 
 walk-leaf-resolve-term-requires : (t : ℕ) → walk-leaf-lts.Need-resolve-term-requires (
   term-of-reads.Asked,
@@ -663,7 +818,15 @@ walk-leaf-resolve-term-requires : (t : ℕ) → walk-leaf-lts.Need-resolve-term-
   walk-below t,
   walk.Post,
 ) (walk-leaf-at t) walk-leaf.Post walk-leaf-Inv-loop walk-leaf-μ-loop
-walk-leaf-resolve-term-requires t c κs = (c .before .before .before .before .before .before .before .before .before .before .before .before .pre .1 .0, (go-resolves (c .before .before .before .before .before .before .before .before .before .before .before .before .pre .1 .1 .0) _ _ _ _ _ (c .before .before .before .before .before .before .before .before .before .before .before .before .pre .1 .1 .1 .0) (c .before .before .before .before .before .before .before .before .before .before .before .before .pre .1 .1 .1 .1) (c .before .before .before .before .before .before .before .before .before .before .before .before .pre .1 .1 .1 .2) _ _ (c .before .loop-test .taken) refl _ _ _ (c .before .before .before .before .before .term-of .ensures) (c .before .before .before .before .memory-of .ensures) (c .before .before .before .remember .ensures)))
+walk-leaf-resolve-term-requires t c κs =
+    let at-start = c .before .before .before .before .before .before .before .before .before .before .before .before
+    in (
+      at-start .pre .1 .0,
+      (go-resolves (at-start .pre .1 .1 .0) _ _ _ _ _ (at-start .pre .1 .1 .1 .0) (at-start .pre .1 .1 .1 .1)
+          (at-start .pre .1 .1 .1 .2) _ _ (c .before .loop-test .taken) refl _ _ _
+          (c .before .before .before .before .before .term-of .ensures)
+          (c .before .before .before .before .memory-of .ensures) (c .before .before .before .remember .ensures)),
+    )
 
 walk-leaf-add-walk : (t : ℕ) → walk-leaf-lts.Need-add-walk (
   term-of-reads.Asked,
@@ -677,7 +840,10 @@ walk-leaf-add-walk : (t : ℕ) → walk-leaf-lts.Need-add-walk (
   walk-below t,
   walk.Post,
 ) (walk-leaf-at t) walk-leaf.Post walk-leaf-Inv-loop walk-leaf-μ-loop
-walk-leaf-add-walk t c = omega (arith, c .before .before .before .before .before .before .before .before .before .before .before .before .before .pre .1 .1 .0 .size, c .before .before .before .before .before .before .before .before .before .before .before .before .before .pre .1 .1 .0 .few, c .before .before .before .before .before .before .before .before .before .before .before .before .before .pre .1 .1 .1 .1)
+walk-leaf-add-walk t c =
+    let at-start
+    = c .before .before .before .before .before .before .before .before .before .before .before .before .before in
+    omega (arith, at-start .pre .1 .1 .0 .size, at-start .pre .1 .1 .0 .few, at-start .pre .1 .1 .1 .1)
 
 walk-leaf-walk-requires : (t : ℕ) → walk-leaf-lts.Need-walk-requires (
   term-of-reads.Asked,
@@ -691,7 +857,22 @@ walk-leaf-walk-requires : (t : ℕ) → walk-leaf-lts.Need-walk-requires (
   walk-below t,
   walk.Post,
 ) (walk-leaf-at t) walk-leaf.Post walk-leaf-Inv-loop walk-leaf-μ-loop
-walk-leaf-walk-requires t c κs = (omega (arith, c .before .before .before .before .before .before .before .before .before .before .before .before .before .before .pre .0, c .before .before .before .before .before .before .before .before .before .before .before .before .before .before .pre .1 .1 .0 .few, c .before .before .before .before .before .before .before .before .before .before .before .before .before .before .pre .1 .1 .1 .1), (c .before .before .before .before .before .before .before .before .before .before .before .before .before .before .pre .1 .0, (c .before .before .before .before .before .before .before .before .before .before .before .before .before .before .pre .1 .1 .0, go-place (c .before .before .before .before .before .before .before .before .before .before .before .before .before .before .pre .1 .1 .0) _ _ _ _ _ (c .before .before .before .before .before .before .before .before .before .before .before .before .before .before .pre .1 .1 .1 .0) (c .before .before .before .before .before .before .before .before .before .before .before .before .before .before .pre .1 .1 .1 .1) (c .before .before .before .before .before .before .before .before .before .before .before .before .before .before .pre .1 .1 .1 .2) _ _ (c .before .before .before .loop-test .taken) refl _ _ _ (c .before .before .before .before .before .before .before .term-of .ensures) (c .before .before .before .before .before .before .memory-of .ensures) (c .before .before .before .before .before .remember .ensures) _ (c .before .resolve-term .ensures) _ _ (c .before .before .before .before .loop .inv .2))))
+walk-leaf-walk-requires t c κs =
+    let at-memory-of = c .before .before .before .before .before .before in let at-term-of = at-memory-of .before in
+    let at-start = at-term-of .before .before .before .before .before .before .before in (
+      omega (arith, at-start .pre .0, at-start .pre .1 .1 .0 .few, at-start .pre .1 .1 .1 .1),
+      (
+        at-start .pre .1 .0,
+        (
+          at-start .pre .1 .1 .0,
+          go-place (at-start .pre .1 .1 .0) _ _ _ _ _ (at-start .pre .1 .1 .1 .0)
+              (at-start .pre .1 .1 .1 .1) (at-start .pre .1 .1 .1 .2) _ _ (c .before .before .before .loop-test .taken) refl _ _
+              _ (at-term-of .term-of .ensures) (at-memory-of .memory-of .ensures)
+              (c .before .before .before .before .before .remember .ensures) _ (c .before .resolve-term .ensures) _ _
+              (c .before .before .before .before .loop .inv .2),
+        ),
+      ),
+    )
 
 walk-leaf-enum-known-d : (t : ℕ) → walk-leaf-lts.Need-enum-known-d (
   term-of-reads.Asked,
@@ -719,7 +900,17 @@ walk-leaf-add-j : (t : ℕ) → walk-leaf-lts.Need-add-j (
   walk-below t,
   walk.Post,
 ) (walk-leaf-at t) walk-leaf.Post walk-leaf-Inv-loop walk-leaf-μ-loop
-walk-leaf-add-j t c = omega (arith, c .before .before .before .before .before .before .before .before .before .before .before .before .before .before .before .before .before .before .before .before .pre .1 .1 .0 .size, c .before .before .before .before .before .before .before .before .before .before .before .before .before .before .before .before .before .before .before .before .pre .1 .1 .0 .few, c .before .before .before .before .before .before .before .before .before .before .before .before .before .before .before .before .before .before .before .before .pre .1 .1 .1 .1, leaf-few (c .before .before .before .before .before .before .before .before .before .before .before .before .before .before .before .before .before .before .before .before .pre .1 .1 .0) _ _ _ _ _ (c .before .before .before .before .before .before .before .before .before .before .before .before .before .before .before .before .before .before .before .before .pre .1 .1 .1 .0) (c .before .before .before .before .before .before .before .before .before .before .before .before .before .before .before .before .before .before .before .before .pre .1 .1 .1 .1) (c .before .before .before .before .before .before .before .before .before .before .before .before .before .before .before .before .before .before .before .before .pre .1 .1 .1 .2) _ _ (c .before .before .before .before .before .before .before .before .before .loop-test .taken) refl)
+walk-leaf-add-j t c =
+    let at-loop-test = c .before .before .before .before .before .before .before .before .before in
+    let at-start
+    = at-loop-test .before .before .before .before .before .before .before .before .before .before .before in omega (
+      arith,
+      at-start .pre .1 .1 .0 .size,
+      at-start .pre .1 .1 .0 .few,
+      at-start .pre .1 .1 .1 .1,
+      leaf-few (at-start .pre .1 .1 .0) _ _ _ _ _ (at-start .pre .1 .1 .1 .0) (at-start .pre .1 .1 .1 .1)
+          (at-start .pre .1 .1 .1 .2) _ _ (at-loop-test .loop-test .taken) refl,
+    )
 
 walk-leaf-loop-less : (t : ℕ) → walk-leaf-lts.Need-loop-less (
   term-of-reads.Asked,
@@ -747,7 +938,22 @@ walk-leaf-loop-again : (t : ℕ) → walk-leaf-lts.Need-loop-again (
   walk-below t,
   walk.Post,
 ) (walk-leaf-at t) walk-leaf.Post walk-leaf-Inv-loop walk-leaf-μ-loop
-walk-leaf-loop-again t c = let q = go-next (c .before .before .before .before .before .before .before .before .before .before .before .before .before .before .before .before .before .before .before .before .pre .1 .1 .0) _ _ _ _ _ (c .before .before .before .before .before .before .before .before .before .before .before .before .before .before .before .before .before .before .before .before .pre .1 .1 .1 .0) (c .before .before .before .before .before .before .before .before .before .before .before .before .before .before .before .before .before .before .before .before .pre .1 .1 .1 .1) (c .before .before .before .before .before .before .before .before .before .before .before .before .before .before .before .before .before .before .before .before .pre .1 .1 .1 .2) _ _ (c .before .before .before .before .before .before .before .before .before .loop-test .taken) refl _ _ _ (c .before .before .before .before .before .before .before .before .before .before .before .before .before .term-of .ensures) (c .before .before .before .before .before .before .before .before .before .before .before .before .memory-of .ensures) (c .before .before .before .before .before .before .before .before .before .before .before .remember .ensures) _ (c .before .before .before .before .before .before .before .resolve-term .ensures) _ _ _ _ (c .before .before .before .before .before .walk .ensures) _ (c .before .d .given .1) in (omega (arith, c .before .before .before .before .before .before .before .before .before .loop-test .taken), c .before .before .before .before .before .walk .kept .1 .1 .1 .1 .1 .1 .1 .1 .0 ∙ c .before .before .before .before .before .before .before .before .before .before .loop .inv .1, q .1, q .0 ∙ c .before .before .before .before .before .before .before .before .before .before .loop .inv .3)
+walk-leaf-loop-again t c =
+    let at-walk = c .before .before .before .before .before in let at-resolve-term = at-walk .before .before in
+    let at-loop-test = at-resolve-term .before .before in let at-loop = at-loop-test .before in
+    let at-remember = at-loop .before in let at-memory-of = at-remember .before in
+    let at-term-of = at-memory-of .before in
+    let at-start = at-term-of .before .before .before .before .before .before .before in
+    let q = go-next (at-start .pre .1 .1 .0) _ _ _ _ _ (at-start .pre .1 .1 .1 .0) (at-start .pre .1 .1 .1 .1)
+    (at-start .pre .1 .1 .1 .2) _ _ (at-loop-test .loop-test .taken) refl _ _ _ (at-term-of .term-of .ensures)
+    (at-memory-of .memory-of .ensures) (at-remember .remember .ensures) _ (at-resolve-term .resolve-term .ensures) _ _
+    _ _ (at-walk .walk .ensures) _ (c .before .d .given .1) in (
+      omega (arith, at-loop-test .loop-test .taken),
+      at-walk .walk .kept .1 .1 .1 .1 .1 .1 .1 .1 .0
+          ∙ at-loop .loop .inv .1,
+      q .1,
+      q .0 ∙ at-loop .loop .inv .3,
+    )
 
 walk-leaf-enum-told : (t : ℕ) → walk-leaf-lts.Need-enum-told (
   term-of-reads.Asked,
@@ -789,7 +995,22 @@ walk-leaf-returns : (t : ℕ) → walk-leaf-lts.Need-returns (
   walk-below t,
   walk.Post,
 ) (walk-leaf-at t) walk-leaf.Post walk-leaf-Inv-loop walk-leaf-μ-loop
-walk-leaf-returns t c = record { same = go-exceeded (c .before .before .before .before .before .before .before .before .before .before .before .before .before .before .before .before .before .before .before .pre .1 .1 .0) _ _ _ _ _ (c .before .before .before .before .before .before .before .before .before .before .before .before .before .before .before .before .before .before .before .pre .1 .1 .1 .0) (c .before .before .before .before .before .before .before .before .before .before .before .before .before .before .before .before .before .before .before .pre .1 .1 .1 .1) (c .before .before .before .before .before .before .before .before .before .before .before .before .before .before .before .before .before .before .before .pre .1 .1 .1 .2) _ _ (c .before .before .before .before .before .before .before .before .loop-test .taken) refl _ _ _ (c .before .before .before .before .before .before .before .before .before .before .before .before .term-of .ensures) (c .before .before .before .before .before .before .before .before .before .before .before .memory-of .ensures) (c .before .before .before .before .before .before .before .before .before .before .remember .ensures) _ (c .before .before .before .before .before .before .resolve-term .ensures) _ _ _ _ (c .before .before .before .before .walk .ensures) (c .enum-told .given .1) ∙ c .before .before .before .before .before .before .before .before .before .loop .inv .3 ∙ leaf-start (c .before .before .before .before .before .before .before .before .before .before .before .before .before .before .before .before .before .before .before .pre .1 .1 .0) _ _ _ _ _ (c .before .before .before .before .before .before .before .before .before .before .before .before .before .before .before .before .before .before .before .pre .1 .1 .1 .0) (c .before .before .before .before .before .before .before .before .before .before .before .before .before .before .before .before .before .before .before .pre .1 .1 .1 .1) (c .before .before .before .before .before .before .before .before .before .before .before .before .before .before .before .before .before .before .before .pre .1 .1 .1 .2); fits = omega arith }
+walk-leaf-returns t c =
+    let at-resolve-term = c .before .before .before .before .before .before in
+    let at-loop-test = at-resolve-term .before .before in let at-loop = at-loop-test .before in
+    let at-remember = at-loop .before in let at-memory-of = at-remember .before in
+    let at-term-of = at-memory-of .before in
+    let at-start = at-term-of .before .before .before .before .before .before .before in
+    record {
+      same = go-exceeded (at-start .pre .1 .1 .0) _ _ _ _ _ (at-start .pre .1 .1 .1 .0)
+          (at-start .pre .1 .1 .1 .1) (at-start .pre .1 .1 .1 .2) _ _ (at-loop-test .loop-test .taken) refl _ _ _
+          (at-term-of .term-of .ensures) (at-memory-of .memory-of .ensures) (at-remember .remember .ensures) _
+          (at-resolve-term .resolve-term .ensures) _ _ _ _ (c .before .before .before .before .walk .ensures)
+          (c .enum-told .given .1) ∙ at-loop .loop .inv .3
+          ∙ leaf-start (at-start .pre .1 .1 .0) _ _ _ _ _ (at-start .pre .1 .1 .1 .0) (at-start .pre .1 .1 .1 .1)
+          (at-start .pre .1 .1 .1 .2);
+      fits = omega arith;
+    }
 
 walk-leaf-same-length-2 : (t : ℕ) → walk-leaf-lts.Need-same-length-2 (
   term-of-reads.Asked,
@@ -817,7 +1038,15 @@ walk-leaf-returns-2 : (t : ℕ) → walk-leaf-lts.Need-returns-2 (
   walk-below t,
   walk.Post,
 ) (walk-leaf-at t) walk-leaf.Post walk-leaf-Inv-loop walk-leaf-μ-loop
-walk-leaf-returns-2 t c = record { same = leaf-end (c .before .before .before .before .before .before .before .before .before .before .before .pre .1 .1 .0) _ _ _ _ _ (c .before .before .before .before .before .before .before .before .before .before .before .pre .1 .1 .1 .0) (c .before .before .before .before .before .before .before .before .before .before .before .pre .1 .1 .1 .1) (c .before .before .before .before .before .before .before .before .before .before .before .pre .1 .1 .1 .2) _ _ _ (c .loop-test .left) ∙ c .before .loop .inv .3 ∙ leaf-start (c .before .before .before .before .before .before .before .before .before .before .before .pre .1 .1 .0) _ _ _ _ _ (c .before .before .before .before .before .before .before .before .before .before .before .pre .1 .1 .1 .0) (c .before .before .before .before .before .before .before .before .before .before .before .pre .1 .1 .1 .1) (c .before .before .before .before .before .before .before .before .before .before .before .pre .1 .1 .1 .2); fits = c .before .loop .inv .2 }
+walk-leaf-returns-2 t c =
+    let at-start = c .before .before .before .before .before .before .before .before .before .before .before in
+    record {
+      same = leaf-end (at-start .pre .1 .1 .0) _ _ _ _ _ (at-start .pre .1 .1 .1 .0)
+          (at-start .pre .1 .1 .1 .1) (at-start .pre .1 .1 .1 .2) _ _ _ (c .loop-test .left) ∙ c .before .loop .inv .3
+          ∙ leaf-start (at-start .pre .1 .1 .0) _ _ _ _ _ (at-start .pre .1 .1 .1 .0) (at-start .pre .1 .1 .1 .1)
+          (at-start .pre .1 .1 .1 .2);
+      fits = c .before .loop .inv .2;
+    }
 
 walk-pair-mul-w : (t : ℕ) → walk-pair-lts.Need-mul-w (
   push-reads.Asked,
@@ -829,7 +1058,9 @@ walk-pair-mul-w : (t : ℕ) → walk-pair-lts.Need-mul-w (
   walk-below t,
   walk.Post,
 ) (walk-pair-at t) walk-pair.Post
-walk-pair-mul-w t c = omega (arith, c .before .before .before .before .pre .1 .1 .0 .size, c .before .before .before .before .pre .1 .1 .0 .few, c .before .before .before .before .pre .1 .1 .1 .1)
+walk-pair-mul-w t c =
+    let at-start = c .before .before .before .before in
+    omega (arith, at-start .pre .1 .1 .0 .size, at-start .pre .1 .1 .0 .few, at-start .pre .1 .1 .1 .1)
 
 walk-pair-shared-slice-read-w : (t : ℕ) → walk-pair-lts.Need-shared-slice-read-w (
   push-reads.Asked,
@@ -841,7 +1072,9 @@ walk-pair-shared-slice-read-w : (t : ℕ) → walk-pair-lts.Need-shared-slice-re
   walk-below t,
   walk.Post,
 ) (walk-pair-at t) walk-pair.Post
-walk-pair-shared-slice-read-w t c = omega (arith, c .before .before .before .before .before .pre .1 .1 .0 .size, c .before .before .before .before .before .pre .1 .1 .0 .few, c .before .before .before .before .before .pre .1 .1 .1 .1)
+walk-pair-shared-slice-read-w t c =
+    let at-start = c .before .before .before .before .before in
+    omega (arith, at-start .pre .1 .1 .0 .size, at-start .pre .1 .1 .0 .few, at-start .pre .1 .1 .1 .1)
 
 walk-pair-push-requires : (t : ℕ) → walk-pair-lts.Need-push-requires (
   push-reads.Asked,
@@ -853,7 +1086,9 @@ walk-pair-push-requires : (t : ℕ) → walk-pair-lts.Need-push-requires (
   walk-below t,
   walk.Post,
 ) (walk-pair-at t) walk-pair.Post
-walk-pair-push-requires t c κs = push-room (c .before .before .before .before .before .pre .1 .1 .0) _ _ _ _ _ (c .before .before .before .before .before .pre .1 .1 .1 .0) (c .before .before .before .before .before .pre .1 .1 .1 .1)
+walk-pair-push-requires t c κs =
+    let at-start = c .before .before .before .before .before in
+    push-room (at-start .pre .1 .1 .0) _ _ _ _ _ (at-start .pre .1 .1 .1 .0) (at-start .pre .1 .1 .1 .1)
 
 walk-pair-add-can-at : (t : ℕ) → walk-pair-lts.Need-add-can-at (
   push-reads.Asked,
@@ -865,7 +1100,9 @@ walk-pair-add-can-at : (t : ℕ) → walk-pair-lts.Need-add-can-at (
   walk-below t,
   walk.Post,
 ) (walk-pair-at t) walk-pair.Post
-walk-pair-add-can-at t c = omega (arith, c .before .before .before .before .before .before .pre .1 .1 .0 .size, c .before .before .before .before .before .before .pre .1 .1 .0 .few, c .before .before .before .before .before .before .pre .1 .1 .1 .1)
+walk-pair-add-can-at t c =
+    let at-start = c .before .before .before .before .before .before in
+    omega (arith, at-start .pre .1 .1 .0 .size, at-start .pre .1 .1 .0 .few, at-start .pre .1 .1 .1 .1)
 
 walk-pair-can-at-requires : (t : ℕ) → walk-pair-lts.Need-can-at-requires (
   push-reads.Asked,
@@ -877,7 +1114,17 @@ walk-pair-can-at-requires : (t : ℕ) → walk-pair-lts.Need-can-at-requires (
   walk-below t,
   walk.Post,
 ) (walk-pair-at t) walk-pair.Post
-walk-pair-can-at-requires t c κs = (c .before .before .before .before .before .before .pre .1 .0, (c .before .before .before .before .before .before .pre .1 .1 .0, stands-left _ (c .before .before .before .before .before .before .args .e) _ _ (omega (arith, c .before .before .before .before .before .before .pre .1 .1 .0 .size, c .before .before .before .before .before .before .pre .1 .1 .0 .few)) (head-forest (c .before .before .before .before .before .before .pre .1 .1 .0) _ _ _ _ _ (c .before .before .before .before .before .before .pre .1 .1 .1 .0) (c .before .before .before .before .before .before .pre .1 .1 .1 .1)) (c .before .before .before .before .before .before .pre .1 .1 .1 .2)))
+walk-pair-can-at-requires t c κs =
+    let at-start = c .before .before .before .before .before .before in (
+      at-start .pre .1 .0,
+      (
+        at-start .pre .1 .1 .0,
+        stands-left _ (at-start .args .e) _ _
+            (omega (arith, at-start .pre .1 .1 .0 .size, at-start .pre .1 .1 .0 .few))
+            (head-forest (at-start .pre .1 .1 .0) _ _ _ _ _ (at-start .pre .1 .1 .1 .0) (at-start .pre .1 .1 .1 .1))
+            (at-start .pre .1 .1 .1 .2),
+      ),
+    )
 
 walk-pair-can-at-requires-2 : (t : ℕ) → walk-pair-lts.Need-can-at-requires-2 (
   push-reads.Asked,
@@ -889,7 +1136,17 @@ walk-pair-can-at-requires-2 : (t : ℕ) → walk-pair-lts.Need-can-at-requires-2
   walk-below t,
   walk.Post,
 ) (walk-pair-at t) walk-pair.Post
-walk-pair-can-at-requires-2 t c κs = (c .before .before .before .before .before .before .before .pre .1 .0, (c .before .before .before .before .before .before .before .pre .1 .1 .0, stands-right _ (c .before .before .before .before .before .before .before .args .e) _ _ (omega (arith, c .before .before .before .before .before .before .before .pre .1 .1 .0 .size, c .before .before .before .before .before .before .before .pre .1 .1 .0 .few)) (head-forest (c .before .before .before .before .before .before .before .pre .1 .1 .0) _ _ _ _ _ (c .before .before .before .before .before .before .before .pre .1 .1 .1 .0) (c .before .before .before .before .before .before .before .pre .1 .1 .1 .1)) (c .before .before .before .before .before .before .before .pre .1 .1 .1 .2) _ (c .can-at .ensures) .0))
+walk-pair-can-at-requires-2 t c κs =
+    let at-start = c .before .before .before .before .before .before .before in (
+      at-start .pre .1 .0,
+      (
+        at-start .pre .1 .1 .0,
+        stands-right _ (at-start .args .e) _ _
+            (omega (arith, at-start .pre .1 .1 .0 .size, at-start .pre .1 .1 .0 .few))
+            (head-forest (at-start .pre .1 .1 .0) _ _ _ _ _ (at-start .pre .1 .1 .1 .0) (at-start .pre .1 .1 .1 .1))
+            (at-start .pre .1 .1 .1 .2) _ (c .can-at .ensures) .0,
+      ),
+    )
 
 walk-pair-holds-at-requires : (t : ℕ) → walk-pair-lts.Need-holds-at-requires (
   push-reads.Asked,
@@ -901,7 +1158,14 @@ walk-pair-holds-at-requires : (t : ℕ) → walk-pair-lts.Need-holds-at-requires
   walk-below t,
   walk.Post,
 ) (walk-pair-at t) walk-pair.Post
-walk-pair-holds-at-requires t c κs = (c .before .before .before .before .before .before .before .before .pre .1 .0, (known (c .before .before .before .before .before .before .before .before .pre .1 .1 .0) _ _ _ _ _ (c .before .before .before .before .before .before .before .before .pre .1 .1 .1 .0) (c .before .before .before .before .before .before .before .before .pre .1 .1 .1 .1), (inr (c .before .before .before .before .before .before .before .before .pre .1 .1 .1 .2), c .before .before .before .before .before .before .before .before .pre .1 .1 .0 .event)))
+walk-pair-holds-at-requires t c κs =
+    let at-start = c .before .before .before .before .before .before .before .before in (
+      at-start .pre .1 .0,
+      (
+        known (at-start .pre .1 .1 .0) _ _ _ _ _ (at-start .pre .1 .1 .1 .0) (at-start .pre .1 .1 .1 .1),
+        (inr (at-start .pre .1 .1 .1 .2), at-start .pre .1 .1 .0 .event),
+      ),
+    )
 
 walk-pair-add-walk : (t : ℕ) → walk-pair-lts.Need-add-walk (
   push-reads.Asked,
@@ -913,7 +1177,9 @@ walk-pair-add-walk : (t : ℕ) → walk-pair-lts.Need-add-walk (
   walk-below t,
   walk.Post,
 ) (walk-pair-at t) walk-pair.Post
-walk-pair-add-walk t c = omega (arith, c .before .before .before .before .before .before .before .before .before .before .before .before .pre .1 .1 .0 .size, c .before .before .before .before .before .before .before .before .before .before .before .before .pre .1 .1 .0 .few, c .before .before .before .before .before .before .before .before .before .before .before .before .pre .1 .1 .1 .1)
+walk-pair-add-walk t c =
+    let at-start = c .before .before .before .before .before .before .before .before .before .before .before .before
+    in omega (arith, at-start .pre .1 .1 .0 .size, at-start .pre .1 .1 .0 .few, at-start .pre .1 .1 .1 .1)
 
 walk-pair-mul-walk : (t : ℕ) → walk-pair-lts.Need-mul-walk (
   push-reads.Asked,
@@ -925,7 +1191,10 @@ walk-pair-mul-walk : (t : ℕ) → walk-pair-lts.Need-mul-walk (
   walk-below t,
   walk.Post,
 ) (walk-pair-at t) walk-pair.Post
-walk-pair-mul-walk t c = omega (arith, bits-fit (c .before .before .before .before .before .before .before .before .before .before .before .before .pre .1 .1 .0) _ _ _ _ _ (c .before .before .before .before .before .before .before .before .before .before .before .before .pre .1 .1 .1 .0) (c .before .before .before .before .before .before .before .before .before .before .before .before .pre .1 .1 .1 .1))
+walk-pair-mul-walk t c =
+    let at-start = c .before .before .before .before .before .before .before .before .before .before .before .before
+    in omega
+    (arith, bits-fit (at-start .pre .1 .1 .0) _ _ _ _ _ (at-start .pre .1 .1 .1 .0) (at-start .pre .1 .1 .1 .1))
 
 walk-pair-add-walk-2 : (t : ℕ) → walk-pair-lts.Need-add-walk-2 (
   push-reads.Asked,
@@ -937,7 +1206,10 @@ walk-pair-add-walk-2 : (t : ℕ) → walk-pair-lts.Need-add-walk-2 (
   walk-below t,
   walk.Post,
 ) (walk-pair-at t) walk-pair.Post
-walk-pair-add-walk-2 t c = omega (arith, bits-fit (c .before .before .before .before .before .before .before .before .before .before .before .before .pre .1 .1 .0) _ _ _ _ _ (c .before .before .before .before .before .before .before .before .before .before .before .before .pre .1 .1 .1 .0) (c .before .before .before .before .before .before .before .before .before .before .before .before .pre .1 .1 .1 .1))
+walk-pair-add-walk-2 t c =
+    let at-start = c .before .before .before .before .before .before .before .before .before .before .before .before
+    in omega
+    (arith, bits-fit (at-start .pre .1 .1 .0) _ _ _ _ _ (at-start .pre .1 .1 .1 .0) (at-start .pre .1 .1 .1 .1))
 
 walk-pair-walk-requires : (t : ℕ) → walk-pair-lts.Need-walk-requires (
   push-reads.Asked,
@@ -949,7 +1221,21 @@ walk-pair-walk-requires : (t : ℕ) → walk-pair-lts.Need-walk-requires (
   walk-below t,
   walk.Post,
 ) (walk-pair-at t) walk-pair.Post
-walk-pair-walk-requires t c κs = (omega (arith, c .before .before .before .before .before .before .before .before .before .before .before .before .before .pre .0, c .before .before .before .before .before .before .before .before .before .before .before .before .before .pre .1 .1 .0 .few, c .before .before .before .before .before .before .before .before .before .before .before .before .before .pre .1 .1 .1 .1), (c .before .before .before .before .before .before .before .before .before .before .before .before .before .pre .1 .0, (c .before .before .before .before .before .before .before .before .before .before .before .before .before .pre .1 .1 .0, next-place (c .before .before .before .before .before .before .before .before .before .before .before .before .before .pre .1 .1 .0) _ _ _ _ _ (c .before .before .before .before .before .before .before .before .before .before .before .before .before .pre .1 .1 .1 .0) (c .before .before .before .before .before .before .before .before .before .before .before .before .before .pre .1 .1 .1 .1) _ _ _ _ (omega arith) (c .before .before .before .before .before .before .before .push .ensures) (c .before .before .before .before .before .before .before .before .before .before .before .before .before .pre .1 .1 .1 .0 .held) (next-pair (c .before .before .before .before .before .before .before .before .before .before .before .before .before .pre .1 .1 .0) _ _ _ _ _ (c .before .before .before .before .before .before .before .before .before .before .before .before .before .pre .1 .1 .1 .0) (c .before .before .before .before .before .before .before .before .before .before .before .before .before .pre .1 .1 .1 .1) (c .before .before .before .before .before .before .before .before .before .before .before .before .before .pre .1 .1 .1 .2)))))
+walk-pair-walk-requires t c κs =
+    let at-push = c .before .before .before .before .before .before .before in
+    let at-start = at-push .before .before .before .before .before .before in (
+      omega (arith, at-start .pre .0, at-start .pre .1 .1 .0 .few, at-start .pre .1 .1 .1 .1),
+      (
+        at-start .pre .1 .0,
+        (
+          at-start .pre .1 .1 .0,
+          next-place (at-start .pre .1 .1 .0) _ _ _ _ _ (at-start .pre .1 .1 .1 .0)
+              (at-start .pre .1 .1 .1 .1) _ _ _ _ (omega arith) (at-push .push .ensures) (at-start .pre .1 .1 .1 .0 .held)
+              (next-pair (at-start .pre .1 .1 .0) _ _ _ _ _ (at-start .pre .1 .1 .1 .0) (at-start .pre .1 .1 .1 .1)
+              (at-start .pre .1 .1 .1 .2)),
+        ),
+      ),
+    )
 
 walk-pair-same-length : (t : ℕ) → walk-pair-lts.Need-same-length (
   push-reads.Asked,
@@ -973,7 +1259,14 @@ walk-pair-returns : (t : ℕ) → walk-pair-lts.Need-returns (
   walk-below t,
   walk.Post,
 ) (walk-pair-at t) walk-pair.Post
-walk-pair-returns t c = pair-both (c .before .before .before .before .before .before .before .before .before .before .before .before .before .before .before .before .pre .1 .1 .0) _ _ _ _ _ (c .before .before .before .before .before .before .before .before .before .before .before .before .before .before .before .before .pre .1 .1 .1 .0) (c .before .before .before .before .before .before .before .before .before .before .before .before .before .before .before .before .pre .1 .1 .1 .1) (c .before .before .before .before .before .before .before .before .before .before .before .before .before .before .before .before .pre .1 .1 .1 .2) _ (c .before .before .before .before .before .before .before .before .before .can-at .ensures) _ (c .before .before .before .before .before .before .before .before .can-at2 .ensures) (sym (c .before .before .before .before .before .before .before .holds-at .ensures) ∙ c .before .before .before .before .before .before .if1 .taken) _ (c .before .before .before .before .before .before .before .before .before .before .push .ensures) _ _ (c .before .before .walk .ensures)
+walk-pair-returns t c =
+    let at-if1 = c .before .before .before .before .before .before in let at-holds-at = at-if1 .before in
+    let at-can-at2 = at-holds-at .before in let at-can-at = at-can-at2 .before in let at-push = at-can-at .before in
+    let at-start = at-push .before .before .before .before .before .before in
+    pair-both (at-start .pre .1 .1 .0) _ _ _ _ _ (at-start .pre .1 .1 .1 .0) (at-start .pre .1 .1 .1 .1)
+    (at-start .pre .1 .1 .1 .2) _ (at-can-at .can-at .ensures) _ (at-can-at2 .can-at2 .ensures)
+    (sym (at-holds-at .holds-at .ensures) ∙ at-if1 .if1 .taken) _ (at-push .push .ensures) _ _
+    (c .before .before .walk .ensures)
 
 walk-pair-returns-2 : (t : ℕ) → walk-pair-lts.Need-returns-2 (
   push-reads.Asked,
@@ -985,7 +1278,12 @@ walk-pair-returns-2 : (t : ℕ) → walk-pair-lts.Need-returns-2 (
   walk-below t,
   walk.Post,
 ) (walk-pair-at t) walk-pair.Post
-walk-pair-returns-2 t c = pair-right-stuck (c .before .before .before .before .before .before .before .before .before .before .before .before .pre .1 .1 .0) _ _ _ _ _ (c .before .before .before .before .before .before .before .before .before .before .before .before .pre .1 .1 .1 .0) (c .before .before .before .before .before .before .before .before .before .before .before .before .pre .1 .1 .1 .1) (c .before .before .before .before .before .before .before .before .before .before .before .before .pre .1 .1 .1 .2) _ (c .before .before .before .before .before .can-at .ensures) _ (c .before .before .before .before .can-at2 .ensures) (sym (c .before .before .before .holds-at .ensures) ∙ c .before .before .if1 .taken) (c .if3 .left)
+walk-pair-returns-2 t c =
+    let at-start = c .before .before .before .before .before .before .before .before .before .before .before .before
+    in pair-right-stuck (at-start .pre .1 .1 .0) _ _ _ _ _ (at-start .pre .1 .1 .1 .0) (at-start .pre .1 .1 .1 .1)
+    (at-start .pre .1 .1 .1 .2) _ (c .before .before .before .before .before .can-at .ensures) _
+    (c .before .before .before .before .can-at2 .ensures) (sym (c .before .before .before .holds-at .ensures)
+    ∙ c .before .before .if1 .taken) (c .if3 .left)
 
 walk-pair-returns-3 : (t : ℕ) → walk-pair-lts.Need-returns-3 (
   push-reads.Asked,
@@ -997,7 +1295,12 @@ walk-pair-returns-3 : (t : ℕ) → walk-pair-lts.Need-returns-3 (
   walk-below t,
   walk.Post,
 ) (walk-pair-at t) walk-pair.Post
-walk-pair-returns-3 t c = pair-left-stuck (c .before .before .before .before .before .before .before .before .before .before .before .pre .1 .1 .0) _ _ _ _ _ (c .before .before .before .before .before .before .before .before .before .before .before .pre .1 .1 .1 .0) (c .before .before .before .before .before .before .before .before .before .before .before .pre .1 .1 .1 .1) (c .before .before .before .before .before .before .before .before .before .before .before .pre .1 .1 .1 .2) _ (c .before .before .before .before .can-at .ensures) _ (c .before .before .before .can-at2 .ensures) (sym (c .before .before .holds-at .ensures) ∙ c .before .if1 .taken) (c .if2 .left)
+walk-pair-returns-3 t c =
+    let at-start = c .before .before .before .before .before .before .before .before .before .before .before in
+    pair-left-stuck (at-start .pre .1 .1 .0) _ _ _ _ _ (at-start .pre .1 .1 .1 .0) (at-start .pre .1 .1 .1 .1)
+    (at-start .pre .1 .1 .1 .2) _ (c .before .before .before .before .can-at .ensures) _
+    (c .before .before .before .can-at2 .ensures) (sym (c .before .before .holds-at .ensures) ∙ c .before .if1 .taken)
+    (c .if2 .left)
 
 walk-pair-add-walk-3 : (t : ℕ) → walk-pair-lts.Need-add-walk-3 (
   push-reads.Asked,
@@ -1009,7 +1312,9 @@ walk-pair-add-walk-3 : (t : ℕ) → walk-pair-lts.Need-add-walk-3 (
   walk-below t,
   walk.Post,
 ) (walk-pair-at t) walk-pair.Post
-walk-pair-add-walk-3 t c = omega (arith, c .before .before .before .before .before .before .before .before .before .before .before .before .pre .1 .1 .0 .size, c .before .before .before .before .before .before .before .before .before .before .before .before .pre .1 .1 .0 .few, c .before .before .before .before .before .before .before .before .before .before .before .before .pre .1 .1 .1 .1)
+walk-pair-add-walk-3 t c =
+    let at-start = c .before .before .before .before .before .before .before .before .before .before .before .before
+    in omega (arith, at-start .pre .1 .1 .0 .size, at-start .pre .1 .1 .0 .few, at-start .pre .1 .1 .1 .1)
 
 walk-pair-mul-walk-2 : (t : ℕ) → walk-pair-lts.Need-mul-walk-2 (
   push-reads.Asked,
@@ -1021,7 +1326,10 @@ walk-pair-mul-walk-2 : (t : ℕ) → walk-pair-lts.Need-mul-walk-2 (
   walk-below t,
   walk.Post,
 ) (walk-pair-at t) walk-pair.Post
-walk-pair-mul-walk-2 t c = omega (arith, bits-fit (c .before .before .before .before .before .before .before .before .before .before .before .before .pre .1 .1 .0) _ _ _ _ _ (c .before .before .before .before .before .before .before .before .before .before .before .before .pre .1 .1 .1 .0) (c .before .before .before .before .before .before .before .before .before .before .before .before .pre .1 .1 .1 .1))
+walk-pair-mul-walk-2 t c =
+    let at-start = c .before .before .before .before .before .before .before .before .before .before .before .before
+    in omega
+    (arith, bits-fit (at-start .pre .1 .1 .0) _ _ _ _ _ (at-start .pre .1 .1 .1 .0) (at-start .pre .1 .1 .1 .1))
 
 walk-pair-add-walk-4 : (t : ℕ) → walk-pair-lts.Need-add-walk-4 (
   push-reads.Asked,
@@ -1033,7 +1341,10 @@ walk-pair-add-walk-4 : (t : ℕ) → walk-pair-lts.Need-add-walk-4 (
   walk-below t,
   walk.Post,
 ) (walk-pair-at t) walk-pair.Post
-walk-pair-add-walk-4 t c = omega (arith, bits-fit (c .before .before .before .before .before .before .before .before .before .before .before .before .pre .1 .1 .0) _ _ _ _ _ (c .before .before .before .before .before .before .before .before .before .before .before .before .pre .1 .1 .1 .0) (c .before .before .before .before .before .before .before .before .before .before .before .before .pre .1 .1 .1 .1))
+walk-pair-add-walk-4 t c =
+    let at-start = c .before .before .before .before .before .before .before .before .before .before .before .before
+    in omega
+    (arith, bits-fit (at-start .pre .1 .1 .0) _ _ _ _ _ (at-start .pre .1 .1 .1 .0) (at-start .pre .1 .1 .1 .1))
 
 walk-pair-walk-requires-2 : (t : ℕ) → walk-pair-lts.Need-walk-requires-2 (
   push-reads.Asked,
@@ -1045,7 +1356,21 @@ walk-pair-walk-requires-2 : (t : ℕ) → walk-pair-lts.Need-walk-requires-2 (
   walk-below t,
   walk.Post,
 ) (walk-pair-at t) walk-pair.Post
-walk-pair-walk-requires-2 t c κs = (omega (arith, c .before .before .before .before .before .before .before .before .before .before .before .before .before .pre .0, c .before .before .before .before .before .before .before .before .before .before .before .before .before .pre .1 .1 .0 .few, c .before .before .before .before .before .before .before .before .before .before .before .before .before .pre .1 .1 .1 .1), (c .before .before .before .before .before .before .before .before .before .before .before .before .before .pre .1 .0, (c .before .before .before .before .before .before .before .before .before .before .before .before .before .pre .1 .1 .0, next-place (c .before .before .before .before .before .before .before .before .before .before .before .before .before .pre .1 .1 .0) _ _ _ _ _ (c .before .before .before .before .before .before .before .before .before .before .before .before .before .pre .1 .1 .1 .0) (c .before .before .before .before .before .before .before .before .before .before .before .before .before .pre .1 .1 .1 .1) _ _ _ _ (omega arith) (c .before .before .before .before .before .before .before .push .ensures) (c .before .before .before .before .before .before .before .before .before .before .before .before .before .pre .1 .1 .1 .0 .held) (next-pair (c .before .before .before .before .before .before .before .before .before .before .before .before .before .pre .1 .1 .0) _ _ _ _ _ (c .before .before .before .before .before .before .before .before .before .before .before .before .before .pre .1 .1 .1 .0) (c .before .before .before .before .before .before .before .before .before .before .before .before .before .pre .1 .1 .1 .1) (c .before .before .before .before .before .before .before .before .before .before .before .before .before .pre .1 .1 .1 .2)))))
+walk-pair-walk-requires-2 t c κs =
+    let at-push = c .before .before .before .before .before .before .before in
+    let at-start = at-push .before .before .before .before .before .before in (
+      omega (arith, at-start .pre .0, at-start .pre .1 .1 .0 .few, at-start .pre .1 .1 .1 .1),
+      (
+        at-start .pre .1 .0,
+        (
+          at-start .pre .1 .1 .0,
+          next-place (at-start .pre .1 .1 .0) _ _ _ _ _ (at-start .pre .1 .1 .1 .0)
+              (at-start .pre .1 .1 .1 .1) _ _ _ _ (omega arith) (at-push .push .ensures) (at-start .pre .1 .1 .1 .0 .held)
+              (next-pair (at-start .pre .1 .1 .0) _ _ _ _ _ (at-start .pre .1 .1 .1 .0) (at-start .pre .1 .1 .1 .1)
+              (at-start .pre .1 .1 .1 .2)),
+        ),
+      ),
+    )
 
 walk-pair-enum-known-c : (t : ℕ) → walk-pair-lts.Need-enum-known-c (
   push-reads.Asked,
@@ -1069,7 +1394,10 @@ walk-pair-add-walk-5 : (t : ℕ) → walk-pair-lts.Need-add-walk-5 (
   walk-below t,
   walk.Post,
 ) (walk-pair-at t) walk-pair.Post
-walk-pair-add-walk-5 t c = omega (arith, c .before .before .before .before .before .before .before .before .before .before .before .before .before .before .before .before .before .before .before .pre .1 .1 .0 .size, c .before .before .before .before .before .before .before .before .before .before .before .before .before .before .before .before .before .before .before .pre .1 .1 .0 .few, c .before .before .before .before .before .before .before .before .before .before .before .before .before .before .before .before .before .before .before .pre .1 .1 .1 .1)
+walk-pair-add-walk-5 t c =
+    let after-can = c .before .before .before .before .before .before .before .before .before .before in
+    let at-start = after-can .before .before .before .before .before .before .before .before .before in
+    omega (arith, at-start .pre .1 .1 .0 .size, at-start .pre .1 .1 .0 .few, at-start .pre .1 .1 .1 .1)
 
 walk-pair-mul-walk-3 : (t : ℕ) → walk-pair-lts.Need-mul-walk-3 (
   push-reads.Asked,
@@ -1081,7 +1409,10 @@ walk-pair-mul-walk-3 : (t : ℕ) → walk-pair-lts.Need-mul-walk-3 (
   walk-below t,
   walk.Post,
 ) (walk-pair-at t) walk-pair.Post
-walk-pair-mul-walk-3 t c = omega (arith, bits-fit (c .before .before .before .before .before .before .before .before .before .before .before .before .before .before .before .before .before .before .before .pre .1 .1 .0) _ _ _ _ _ (c .before .before .before .before .before .before .before .before .before .before .before .before .before .before .before .before .before .before .before .pre .1 .1 .1 .0) (c .before .before .before .before .before .before .before .before .before .before .before .before .before .before .before .before .before .before .before .pre .1 .1 .1 .1))
+walk-pair-mul-walk-3 t c =
+    let after-can = c .before .before .before .before .before .before .before .before .before .before in
+    let at-start = after-can .before .before .before .before .before .before .before .before .before in
+    omega (arith, bits-fit (at-start .pre .1 .1 .0) _ _ _ _ _ (at-start .pre .1 .1 .1 .0) (at-start .pre .1 .1 .1 .1))
 
 walk-pair-add-walk-6 : (t : ℕ) → walk-pair-lts.Need-add-walk-6 (
   push-reads.Asked,
@@ -1093,7 +1424,10 @@ walk-pair-add-walk-6 : (t : ℕ) → walk-pair-lts.Need-add-walk-6 (
   walk-below t,
   walk.Post,
 ) (walk-pair-at t) walk-pair.Post
-walk-pair-add-walk-6 t c = omega (arith, bits-fit (c .before .before .before .before .before .before .before .before .before .before .before .before .before .before .before .before .before .before .before .pre .1 .1 .0) _ _ _ _ _ (c .before .before .before .before .before .before .before .before .before .before .before .before .before .before .before .before .before .before .before .pre .1 .1 .1 .0) (c .before .before .before .before .before .before .before .before .before .before .before .before .before .before .before .before .before .before .before .pre .1 .1 .1 .1))
+walk-pair-add-walk-6 t c =
+    let after-can = c .before .before .before .before .before .before .before .before .before .before in
+    let at-start = after-can .before .before .before .before .before .before .before .before .before in
+    omega (arith, bits-fit (at-start .pre .1 .1 .0) _ _ _ _ _ (at-start .pre .1 .1 .1 .0) (at-start .pre .1 .1 .1 .1))
 
 walk-pair-walk-requires-3 : (t : ℕ) → walk-pair-lts.Need-walk-requires-3 (
   push-reads.Asked,
@@ -1105,7 +1439,27 @@ walk-pair-walk-requires-3 : (t : ℕ) → walk-pair-lts.Need-walk-requires-3 (
   walk-below t,
   walk.Post,
 ) (walk-pair-at t) walk-pair.Post
-walk-pair-walk-requires-3 t c κs = (omega (arith, c .before .before .before .before .before .before .before .before .before .before .before .before .before .before .before .before .before .before .before .before .pre .0, c .before .before .before .before .before .before .before .before .before .before .before .before .before .before .before .before .before .before .before .before .pre .1 .1 .0 .few, c .before .before .before .before .before .before .before .before .before .before .before .before .before .before .before .before .before .before .before .before .pre .1 .1 .1 .1), (c .before .before .before .before .before .before .before .before .before .before .before .before .before .before .before .before .before .before .before .before .pre .1 .0, (c .before .before .before .before .before .before .before .before .before .before .before .before .before .before .before .before .before .before .before .before .pre .1 .1 .0, next-place (c .before .before .before .before .before .before .before .before .before .before .before .before .before .before .before .before .before .before .before .before .pre .1 .1 .0) _ _ _ _ _ (c .before .before .before .before .before .before .before .before .before .before .before .before .before .before .before .before .before .before .before .before .pre .1 .1 .1 .0) (c .before .before .before .before .before .before .before .before .before .before .before .before .before .before .before .before .before .before .before .before .pre .1 .1 .1 .1) _ _ _ _ (omega arith) (c .before .before .before .before .before .before .before .before .before .before .before .before .before .before .push .ensures) (pair-room (c .before .before .before .before .before .before .before .before .before .before .before .before .before .before .before .before .before .before .before .before .pre .1 .1 .0) _ _ _ _ _ (c .before .before .before .before .before .before .before .before .before .before .before .before .before .before .before .before .before .before .before .before .pre .1 .1 .1 .0) (c .before .before .before .before .before .before .before .before .before .before .before .before .before .before .before .before .before .before .before .before .pre .1 .1 .1 .1) (c .before .before .before .before .before .before .before .before .before .before .before .before .before .before .before .before .before .before .before .before .pre .1 .1 .1 .2) _ (c .before .before .before .before .before .before .before .before .before .before .before .before .before .can-at .ensures) _ (c .before .before .before .before .before .before .before .before .before .before .before .before .can-at2 .ensures) (sym (c .before .before .before .before .before .before .before .before .before .before .before .holds-at .ensures) ∙ c .before .before .before .before .before .before .before .before .before .before .if1 .left) _ (c .before .before .before .before .before .before .before .before .before .before .before .before .before .before .push .ensures) _ _ (c .before .before .before .before .before .before .walk2 .ensures) _ (c .before .before .c .given .1)) (next-pair (c .before .before .before .before .before .before .before .before .before .before .before .before .before .before .before .before .before .before .before .before .pre .1 .1 .0) _ _ _ _ _ (c .before .before .before .before .before .before .before .before .before .before .before .before .before .before .before .before .before .before .before .before .pre .1 .1 .1 .0) (c .before .before .before .before .before .before .before .before .before .before .before .before .before .before .before .before .before .before .before .before .pre .1 .1 .1 .1) (c .before .before .before .before .before .before .before .before .before .before .before .before .before .before .before .before .before .before .before .before .pre .1 .1 .1 .2)))))
+walk-pair-walk-requires-3 t c κs =
+    let at-walk2 = c .before .before .before .before .before .before in
+    let at-if1 = at-walk2 .before .before .before .before in let at-holds-at = at-if1 .before in
+    let at-can-at2 = at-holds-at .before in let at-can-at = at-can-at2 .before in let at-push = at-can-at .before in
+    let at-start = at-push .before .before .before .before .before .before in (
+      omega (arith, at-start .pre .0, at-start .pre .1 .1 .0 .few, at-start .pre .1 .1 .1 .1),
+      (
+        at-start .pre .1 .0,
+        (
+          at-start .pre .1 .1 .0,
+          next-place (at-start .pre .1 .1 .0) _ _ _ _ _ (at-start .pre .1 .1 .1 .0)
+              (at-start .pre .1 .1 .1 .1) _ _ _ _ (omega arith) (at-push .push .ensures)
+              (pair-room (at-start .pre .1 .1 .0) _ _ _ _ _ (at-start .pre .1 .1 .1 .0) (at-start .pre .1 .1 .1 .1)
+              (at-start .pre .1 .1 .1 .2) _ (at-can-at .can-at .ensures) _ (at-can-at2 .can-at2 .ensures)
+              (sym (at-holds-at .holds-at .ensures) ∙ at-if1 .if1 .left) _ (at-push .push .ensures) _ _
+              (at-walk2 .walk2 .ensures) _ (c .before .before .c .given .1))
+              (next-pair (at-start .pre .1 .1 .0) _ _ _ _ _ (at-start .pre .1 .1 .1 .0) (at-start .pre .1 .1 .1 .1)
+              (at-start .pre .1 .1 .1 .2)),
+        ),
+      ),
+    )
 
 walk-pair-enum-told : (t : ℕ) → walk-pair-lts.Need-enum-told (
   push-reads.Asked,
@@ -1141,7 +1495,16 @@ walk-pair-returns-4 : (t : ℕ) → walk-pair-lts.Need-returns-4 (
   walk-below t,
   walk.Post,
 ) (walk-pair-at t) walk-pair.Post
-walk-pair-returns-4 t c = pair-then (c .before .before .before .before .before .before .before .before .before .before .before .before .before .before .before .before .before .before .before .before .before .before .before .pre .1 .1 .0) _ _ _ _ _ (c .before .before .before .before .before .before .before .before .before .before .before .before .before .before .before .before .before .before .before .before .before .before .before .pre .1 .1 .1 .0) (c .before .before .before .before .before .before .before .before .before .before .before .before .before .before .before .before .before .before .before .before .before .before .before .pre .1 .1 .1 .1) (c .before .before .before .before .before .before .before .before .before .before .before .before .before .before .before .before .before .before .before .before .before .before .before .pre .1 .1 .1 .2) _ (c .before .before .before .before .before .before .before .before .before .before .before .before .before .before .before .before .can-at .ensures) _ (c .before .before .before .before .before .before .before .before .before .before .before .before .before .before .before .can-at2 .ensures) (sym (c .before .before .before .before .before .before .before .before .before .before .before .before .before .before .holds-at .ensures) ∙ c .before .before .before .before .before .before .before .before .before .before .before .before .before .if1 .left) _ (c .before .before .before .before .before .before .before .before .before .before .before .before .before .before .before .before .before .push .ensures) _ _ (c .before .before .before .before .before .before .before .before .before .walk2 .ensures) _ (c .before .before .before .before .before .c .given .1) _ _ (c .before .before .walk3 .ensures)
+walk-pair-returns-4 t c =
+    let at-walk2 = c .before .before .before .before .before .before .before .before .before in
+    let at-if1 = at-walk2 .before .before .before .before in let at-holds-at = at-if1 .before in
+    let at-can-at2 = at-holds-at .before in let at-can-at = at-can-at2 .before in let at-push = at-can-at .before in
+    let at-start = at-push .before .before .before .before .before .before in
+    pair-then (at-start .pre .1 .1 .0) _ _ _ _ _ (at-start .pre .1 .1 .1 .0) (at-start .pre .1 .1 .1 .1)
+    (at-start .pre .1 .1 .1 .2) _ (at-can-at .can-at .ensures) _ (at-can-at2 .can-at2 .ensures)
+    (sym (at-holds-at .holds-at .ensures) ∙ at-if1 .if1 .left) _ (at-push .push .ensures) _ _
+    (at-walk2 .walk2 .ensures) _ (c .before .before .before .before .before .c .given .1) _ _
+    (c .before .before .walk3 .ensures)
 
 walk-pair-same-length-3 : (t : ℕ) → walk-pair-lts.Need-same-length-3 (
   push-reads.Asked,
@@ -1165,7 +1528,14 @@ walk-pair-returns-5 : (t : ℕ) → walk-pair-lts.Need-returns-5 (
   walk-below t,
   walk.Post,
 ) (walk-pair-at t) walk-pair.Post
-walk-pair-returns-5 t c = pair-exceeded (c .before .before .before .before .before .before .before .before .before .before .before .before .before .before .before .before .before .before .pre .1 .1 .0) _ _ _ _ _ (c .before .before .before .before .before .before .before .before .before .before .before .before .before .before .before .before .before .before .pre .1 .1 .1 .0) (c .before .before .before .before .before .before .before .before .before .before .before .before .before .before .before .before .before .before .pre .1 .1 .1 .1) (c .before .before .before .before .before .before .before .before .before .before .before .before .before .before .before .before .before .before .pre .1 .1 .1 .2) _ (c .before .before .before .before .before .before .before .before .before .before .before .can-at .ensures) _ (c .before .before .before .before .before .before .before .before .before .before .can-at2 .ensures) (sym (c .before .before .before .before .before .before .before .before .before .holds-at .ensures) ∙ c .before .before .before .before .before .before .before .before .if1 .left) _ (c .before .before .before .before .before .before .before .before .before .before .before .before .push .ensures) _ _ (c .before .before .before .before .walk2 .ensures) (c .enum-told .given .1)
+walk-pair-returns-5 t c =
+    let at-if1 = c .before .before .before .before .before .before .before .before in
+    let at-holds-at = at-if1 .before in let at-can-at2 = at-holds-at .before in let at-can-at = at-can-at2 .before in
+    let at-push = at-can-at .before in let at-start = at-push .before .before .before .before .before .before in
+    pair-exceeded (at-start .pre .1 .1 .0) _ _ _ _ _ (at-start .pre .1 .1 .1 .0) (at-start .pre .1 .1 .1 .1)
+    (at-start .pre .1 .1 .1 .2) _ (at-can-at .can-at .ensures) _ (at-can-at2 .can-at2 .ensures)
+    (sym (at-holds-at .holds-at .ensures) ∙ at-if1 .if1 .left) _ (at-push .push .ensures) _ _
+    (c .before .before .before .before .walk2 .ensures) (c .enum-told .given .1)
 
 walk-pair-add-walk-7 : (t : ℕ) → walk-pair-lts.Need-add-walk-7 (
   push-reads.Asked,
@@ -1177,7 +1547,9 @@ walk-pair-add-walk-7 : (t : ℕ) → walk-pair-lts.Need-add-walk-7 (
   walk-below t,
   walk.Post,
 ) (walk-pair-at t) walk-pair.Post
-walk-pair-add-walk-7 t c = omega (arith, c .before .before .before .before .before .before .before .before .before .before .before .before .pre .1 .1 .0 .size, c .before .before .before .before .before .before .before .before .before .before .before .before .pre .1 .1 .0 .few, c .before .before .before .before .before .before .before .before .before .before .before .before .pre .1 .1 .1 .1)
+walk-pair-add-walk-7 t c =
+    let at-start = c .before .before .before .before .before .before .before .before .before .before .before .before
+    in omega (arith, at-start .pre .1 .1 .0 .size, at-start .pre .1 .1 .0 .few, at-start .pre .1 .1 .1 .1)
 
 walk-pair-mul-walk-4 : (t : ℕ) → walk-pair-lts.Need-mul-walk-4 (
   push-reads.Asked,
@@ -1189,7 +1561,10 @@ walk-pair-mul-walk-4 : (t : ℕ) → walk-pair-lts.Need-mul-walk-4 (
   walk-below t,
   walk.Post,
 ) (walk-pair-at t) walk-pair.Post
-walk-pair-mul-walk-4 t c = omega (arith, bits-fit (c .before .before .before .before .before .before .before .before .before .before .before .before .pre .1 .1 .0) _ _ _ _ _ (c .before .before .before .before .before .before .before .before .before .before .before .before .pre .1 .1 .1 .0) (c .before .before .before .before .before .before .before .before .before .before .before .before .pre .1 .1 .1 .1))
+walk-pair-mul-walk-4 t c =
+    let at-start = c .before .before .before .before .before .before .before .before .before .before .before .before
+    in omega
+    (arith, bits-fit (at-start .pre .1 .1 .0) _ _ _ _ _ (at-start .pre .1 .1 .1 .0) (at-start .pre .1 .1 .1 .1))
 
 walk-pair-add-walk-8 : (t : ℕ) → walk-pair-lts.Need-add-walk-8 (
   push-reads.Asked,
@@ -1201,7 +1576,10 @@ walk-pair-add-walk-8 : (t : ℕ) → walk-pair-lts.Need-add-walk-8 (
   walk-below t,
   walk.Post,
 ) (walk-pair-at t) walk-pair.Post
-walk-pair-add-walk-8 t c = omega (arith, bits-fit (c .before .before .before .before .before .before .before .before .before .before .before .before .pre .1 .1 .0) _ _ _ _ _ (c .before .before .before .before .before .before .before .before .before .before .before .before .pre .1 .1 .1 .0) (c .before .before .before .before .before .before .before .before .before .before .before .before .pre .1 .1 .1 .1))
+walk-pair-add-walk-8 t c =
+    let at-start = c .before .before .before .before .before .before .before .before .before .before .before .before
+    in omega
+    (arith, bits-fit (at-start .pre .1 .1 .0) _ _ _ _ _ (at-start .pre .1 .1 .1 .0) (at-start .pre .1 .1 .1 .1))
 
 walk-pair-walk-requires-4 : (t : ℕ) → walk-pair-lts.Need-walk-requires-4 (
   push-reads.Asked,
@@ -1213,7 +1591,21 @@ walk-pair-walk-requires-4 : (t : ℕ) → walk-pair-lts.Need-walk-requires-4 (
   walk-below t,
   walk.Post,
 ) (walk-pair-at t) walk-pair.Post
-walk-pair-walk-requires-4 t c κs = (omega (arith, c .before .before .before .before .before .before .before .before .before .before .before .before .before .pre .0, c .before .before .before .before .before .before .before .before .before .before .before .before .before .pre .1 .1 .0 .few, c .before .before .before .before .before .before .before .before .before .before .before .before .before .pre .1 .1 .1 .1), (c .before .before .before .before .before .before .before .before .before .before .before .before .before .pre .1 .0, (c .before .before .before .before .before .before .before .before .before .before .before .before .before .pre .1 .1 .0, next-place (c .before .before .before .before .before .before .before .before .before .before .before .before .before .pre .1 .1 .0) _ _ _ _ _ (c .before .before .before .before .before .before .before .before .before .before .before .before .before .pre .1 .1 .1 .0) (c .before .before .before .before .before .before .before .before .before .before .before .before .before .pre .1 .1 .1 .1) _ _ _ _ (omega arith) (c .before .before .before .before .before .before .before .push .ensures) (c .before .before .before .before .before .before .before .before .before .before .before .before .before .pre .1 .1 .1 .0 .held) (next-pair (c .before .before .before .before .before .before .before .before .before .before .before .before .before .pre .1 .1 .0) _ _ _ _ _ (c .before .before .before .before .before .before .before .before .before .before .before .before .before .pre .1 .1 .1 .0) (c .before .before .before .before .before .before .before .before .before .before .before .before .before .pre .1 .1 .1 .1) (c .before .before .before .before .before .before .before .before .before .before .before .before .before .pre .1 .1 .1 .2)))))
+walk-pair-walk-requires-4 t c κs =
+    let at-push = c .before .before .before .before .before .before .before in
+    let at-start = at-push .before .before .before .before .before .before in (
+      omega (arith, at-start .pre .0, at-start .pre .1 .1 .0 .few, at-start .pre .1 .1 .1 .1),
+      (
+        at-start .pre .1 .0,
+        (
+          at-start .pre .1 .1 .0,
+          next-place (at-start .pre .1 .1 .0) _ _ _ _ _ (at-start .pre .1 .1 .1 .0)
+              (at-start .pre .1 .1 .1 .1) _ _ _ _ (omega arith) (at-push .push .ensures) (at-start .pre .1 .1 .1 .0 .held)
+              (next-pair (at-start .pre .1 .1 .0) _ _ _ _ _ (at-start .pre .1 .1 .1 .0) (at-start .pre .1 .1 .1 .1)
+              (at-start .pre .1 .1 .1 .2)),
+        ),
+      ),
+    )
 
 walk-pair-same-length-4 : (t : ℕ) → walk-pair-lts.Need-same-length-4 (
   push-reads.Asked,
@@ -1237,7 +1629,14 @@ walk-pair-returns-6 : (t : ℕ) → walk-pair-lts.Need-returns-6 (
   walk-below t,
   walk.Post,
 ) (walk-pair-at t) walk-pair.Post
-walk-pair-returns-6 t c = pair-left (c .before .before .before .before .before .before .before .before .before .before .before .before .before .before .before .before .pre .1 .1 .0) _ _ _ _ _ (c .before .before .before .before .before .before .before .before .before .before .before .before .before .before .before .before .pre .1 .1 .1 .0) (c .before .before .before .before .before .before .before .before .before .before .before .before .before .before .before .before .pre .1 .1 .1 .1) (c .before .before .before .before .before .before .before .before .before .before .before .before .before .before .before .before .pre .1 .1 .1 .2) _ (c .before .before .before .before .before .before .before .before .before .can-at .ensures) _ (c .before .before .before .before .before .before .before .before .can-at2 .ensures) (sym (c .before .before .before .before .before .before .before .holds-at .ensures) ∙ c .before .before .before .before .before .before .if1 .left) (c .before .before .before .before .if5 .left) _ (c .before .before .before .before .before .before .before .before .before .before .push .ensures) _ _ (c .before .before .walk4 .ensures)
+walk-pair-returns-6 t c =
+    let at-if1 = c .before .before .before .before .before .before in let at-holds-at = at-if1 .before in
+    let at-can-at2 = at-holds-at .before in let at-can-at = at-can-at2 .before in let at-push = at-can-at .before in
+    let at-start = at-push .before .before .before .before .before .before in
+    pair-left (at-start .pre .1 .1 .0) _ _ _ _ _ (at-start .pre .1 .1 .1 .0) (at-start .pre .1 .1 .1 .1)
+    (at-start .pre .1 .1 .1 .2) _ (at-can-at .can-at .ensures) _ (at-can-at2 .can-at2 .ensures)
+    (sym (at-holds-at .holds-at .ensures) ∙ at-if1 .if1 .left) (c .before .before .before .before .if5 .left) _
+    (at-push .push .ensures) _ _ (c .before .before .walk4 .ensures)
 
 walk-pair-add-walk-9 : (t : ℕ) → walk-pair-lts.Need-add-walk-9 (
   push-reads.Asked,
@@ -1249,7 +1648,9 @@ walk-pair-add-walk-9 : (t : ℕ) → walk-pair-lts.Need-add-walk-9 (
   walk-below t,
   walk.Post,
 ) (walk-pair-at t) walk-pair.Post
-walk-pair-add-walk-9 t c = omega (arith, c .before .before .before .before .before .before .before .before .before .before .before .before .pre .1 .1 .0 .size, c .before .before .before .before .before .before .before .before .before .before .before .before .pre .1 .1 .0 .few, c .before .before .before .before .before .before .before .before .before .before .before .before .pre .1 .1 .1 .1)
+walk-pair-add-walk-9 t c =
+    let at-start = c .before .before .before .before .before .before .before .before .before .before .before .before
+    in omega (arith, at-start .pre .1 .1 .0 .size, at-start .pre .1 .1 .0 .few, at-start .pre .1 .1 .1 .1)
 
 walk-pair-mul-walk-5 : (t : ℕ) → walk-pair-lts.Need-mul-walk-5 (
   push-reads.Asked,
@@ -1261,7 +1662,10 @@ walk-pair-mul-walk-5 : (t : ℕ) → walk-pair-lts.Need-mul-walk-5 (
   walk-below t,
   walk.Post,
 ) (walk-pair-at t) walk-pair.Post
-walk-pair-mul-walk-5 t c = omega (arith, bits-fit (c .before .before .before .before .before .before .before .before .before .before .before .before .pre .1 .1 .0) _ _ _ _ _ (c .before .before .before .before .before .before .before .before .before .before .before .before .pre .1 .1 .1 .0) (c .before .before .before .before .before .before .before .before .before .before .before .before .pre .1 .1 .1 .1))
+walk-pair-mul-walk-5 t c =
+    let at-start = c .before .before .before .before .before .before .before .before .before .before .before .before
+    in omega
+    (arith, bits-fit (at-start .pre .1 .1 .0) _ _ _ _ _ (at-start .pre .1 .1 .1 .0) (at-start .pre .1 .1 .1 .1))
 
 walk-pair-add-walk-10 : (t : ℕ) → walk-pair-lts.Need-add-walk-10 (
   push-reads.Asked,
@@ -1273,7 +1677,10 @@ walk-pair-add-walk-10 : (t : ℕ) → walk-pair-lts.Need-add-walk-10 (
   walk-below t,
   walk.Post,
 ) (walk-pair-at t) walk-pair.Post
-walk-pair-add-walk-10 t c = omega (arith, bits-fit (c .before .before .before .before .before .before .before .before .before .before .before .before .pre .1 .1 .0) _ _ _ _ _ (c .before .before .before .before .before .before .before .before .before .before .before .before .pre .1 .1 .1 .0) (c .before .before .before .before .before .before .before .before .before .before .before .before .pre .1 .1 .1 .1))
+walk-pair-add-walk-10 t c =
+    let at-start = c .before .before .before .before .before .before .before .before .before .before .before .before
+    in omega
+    (arith, bits-fit (at-start .pre .1 .1 .0) _ _ _ _ _ (at-start .pre .1 .1 .1 .0) (at-start .pre .1 .1 .1 .1))
 
 walk-pair-walk-requires-5 : (t : ℕ) → walk-pair-lts.Need-walk-requires-5 (
   push-reads.Asked,
@@ -1285,7 +1692,21 @@ walk-pair-walk-requires-5 : (t : ℕ) → walk-pair-lts.Need-walk-requires-5 (
   walk-below t,
   walk.Post,
 ) (walk-pair-at t) walk-pair.Post
-walk-pair-walk-requires-5 t c κs = (omega (arith, c .before .before .before .before .before .before .before .before .before .before .before .before .before .pre .0, c .before .before .before .before .before .before .before .before .before .before .before .before .before .pre .1 .1 .0 .few, c .before .before .before .before .before .before .before .before .before .before .before .before .before .pre .1 .1 .1 .1), (c .before .before .before .before .before .before .before .before .before .before .before .before .before .pre .1 .0, (c .before .before .before .before .before .before .before .before .before .before .before .before .before .pre .1 .1 .0, next-place (c .before .before .before .before .before .before .before .before .before .before .before .before .before .pre .1 .1 .0) _ _ _ _ _ (c .before .before .before .before .before .before .before .before .before .before .before .before .before .pre .1 .1 .1 .0) (c .before .before .before .before .before .before .before .before .before .before .before .before .before .pre .1 .1 .1 .1) _ _ _ _ (omega arith) (c .before .before .before .before .before .before .before .push .ensures) (c .before .before .before .before .before .before .before .before .before .before .before .before .before .pre .1 .1 .1 .0 .held) (next-pair (c .before .before .before .before .before .before .before .before .before .before .before .before .before .pre .1 .1 .0) _ _ _ _ _ (c .before .before .before .before .before .before .before .before .before .before .before .before .before .pre .1 .1 .1 .0) (c .before .before .before .before .before .before .before .before .before .before .before .before .before .pre .1 .1 .1 .1) (c .before .before .before .before .before .before .before .before .before .before .before .before .before .pre .1 .1 .1 .2)))))
+walk-pair-walk-requires-5 t c κs =
+    let at-push = c .before .before .before .before .before .before .before in
+    let at-start = at-push .before .before .before .before .before .before in (
+      omega (arith, at-start .pre .0, at-start .pre .1 .1 .0 .few, at-start .pre .1 .1 .1 .1),
+      (
+        at-start .pre .1 .0,
+        (
+          at-start .pre .1 .1 .0,
+          next-place (at-start .pre .1 .1 .0) _ _ _ _ _ (at-start .pre .1 .1 .1 .0)
+              (at-start .pre .1 .1 .1 .1) _ _ _ _ (omega arith) (at-push .push .ensures) (at-start .pre .1 .1 .1 .0 .held)
+              (next-pair (at-start .pre .1 .1 .0) _ _ _ _ _ (at-start .pre .1 .1 .1 .0) (at-start .pre .1 .1 .1 .1)
+              (at-start .pre .1 .1 .1 .2)),
+        ),
+      ),
+    )
 
 walk-pair-same-length-5 : (t : ℕ) → walk-pair-lts.Need-same-length-5 (
   push-reads.Asked,
@@ -1309,7 +1730,14 @@ walk-pair-returns-7 : (t : ℕ) → walk-pair-lts.Need-returns-7 (
   walk-below t,
   walk.Post,
 ) (walk-pair-at t) walk-pair.Post
-walk-pair-returns-7 t c = pair-right (c .before .before .before .before .before .before .before .before .before .before .before .before .before .before .before .before .pre .1 .1 .0) _ _ _ _ _ (c .before .before .before .before .before .before .before .before .before .before .before .before .before .before .before .before .pre .1 .1 .1 .0) (c .before .before .before .before .before .before .before .before .before .before .before .before .before .before .before .before .pre .1 .1 .1 .1) (c .before .before .before .before .before .before .before .before .before .before .before .before .before .before .before .before .pre .1 .1 .1 .2) _ (c .before .before .before .before .before .before .before .before .before .can-at .ensures) _ (c .before .before .before .before .before .before .before .before .can-at2 .ensures) (sym (c .before .before .before .before .before .before .before .holds-at .ensures) ∙ c .before .before .before .before .before .before .if1 .left) (c .before .before .before .before .before .if4 .left) _ (c .before .before .before .before .before .before .before .before .before .before .push .ensures) _ _ (c .before .before .walk5 .ensures)
+walk-pair-returns-7 t c =
+    let at-if1 = c .before .before .before .before .before .before in let at-holds-at = at-if1 .before in
+    let at-can-at2 = at-holds-at .before in let at-can-at = at-can-at2 .before in let at-push = at-can-at .before in
+    let at-start = at-push .before .before .before .before .before .before in
+    pair-right (at-start .pre .1 .1 .0) _ _ _ _ _ (at-start .pre .1 .1 .1 .0) (at-start .pre .1 .1 .1 .1)
+    (at-start .pre .1 .1 .1 .2) _ (at-can-at .can-at .ensures) _ (at-can-at2 .can-at2 .ensures)
+    (sym (at-holds-at .holds-at .ensures) ∙ at-if1 .if1 .left) (c .before .before .before .before .before .if4 .left)
+    _ (at-push .push .ensures) _ _ (c .before .before .walk5 .ensures)
 
 walk-pair-returns-8 : (t : ℕ) → walk-pair-lts.Need-returns-8 (
   push-reads.Asked,
@@ -1321,7 +1749,12 @@ walk-pair-returns-8 : (t : ℕ) → walk-pair-lts.Need-returns-8 (
   walk-below t,
   walk.Post,
 ) (walk-pair-at t) walk-pair.Post
-walk-pair-returns-8 t c = pair-no-side (c .before .before .before .before .before .before .before .before .before .before .before .before .pre .1 .1 .0) _ _ _ _ _ (c .before .before .before .before .before .before .before .before .before .before .before .before .pre .1 .1 .1 .0) (c .before .before .before .before .before .before .before .before .before .before .before .before .pre .1 .1 .1 .1) (c .before .before .before .before .before .before .before .before .before .before .before .before .pre .1 .1 .1 .2) _ (c .before .before .before .before .before .can-at .ensures) _ (c .before .before .before .before .can-at2 .ensures) (sym (c .before .before .before .holds-at .ensures) ∙ c .before .before .if1 .left) (c .before .if4 .left) (c .if6 .left)
+walk-pair-returns-8 t c =
+    let at-start = c .before .before .before .before .before .before .before .before .before .before .before .before
+    in pair-no-side (at-start .pre .1 .1 .0) _ _ _ _ _ (at-start .pre .1 .1 .1 .0) (at-start .pre .1 .1 .1 .1)
+    (at-start .pre .1 .1 .1 .2) _ (c .before .before .before .before .before .can-at .ensures) _
+    (c .before .before .before .before .can-at2 .ensures) (sym (c .before .before .before .holds-at .ensures)
+    ∙ c .before .before .if1 .left) (c .before .if4 .left) (c .if6 .left)
 
 pub +walk+walk-leaf+walk-pair-spec : {M : Type 1} → statement M
 +walk+walk-leaf+walk-pair-spec = close μ-walk μ-walk-leaf μ-walk-pair (λ t. walk-lts.spec (

@@ -1,13 +1,13 @@
 -- `step::words::holds_at` meets its contract: the event that the set recalls is one of the alphabet. Assumes nothing.
 use mathlib.Core.Path.{_∙_}
-use Rattle.step.specs.Words.{inSet, kindAt, holdsAt}
 use borrow.Author.Needs.{needs}
+use Rattle.index.proofs.holds.Reads as holds-reads
+use Rattle.index.proofs.parameter.Reads as parameter-reads
+use Rattle.step.specs.Words.{inSet, kindAt, holdsAt}
 use Rattle.step.proofs.words.holds_at.Statement.{statement}
 use Rattle.step.proofs.words.holds_at.Tie as tie
 use Rattle.step.proofs.words.holds_at.Reads as reads
 use Rattle.step.proofs.words.holds_at.Lts as lts
-use Rattle.index.proofs.holds.Reads as holds-reads
-use Rattle.index.proofs.parameter.Reads as parameter-reads
 use Rattle.step.proofs.words.digit.Reads as digit-reads
 use Rattle.step.proofs.words.memory_of.Reads as memory-of-reads
 use Rattle.step.proofs.words.term_of.Reads as term-of-reads

@@ -1,12 +1,12 @@
 -- `step::words::kind_at` meets its contract: the kind of the term of the word. Assumes nothing.
 use mathlib.Core.Path.{_∙_}
-use Rattle.step.specs.Words.{kindAt}
 use borrow.Author.Needs.{needs}
+use Rattle.index.proofs.kind.Reads as kind-reads
+use Rattle.step.specs.Words.{kindAt}
 use Rattle.step.proofs.words.kind_at.Statement.{statement}
 use Rattle.step.proofs.words.kind_at.Tie as tie
 use Rattle.step.proofs.words.kind_at.Reads as reads
 use Rattle.step.proofs.words.kind_at.Lts as lts
-use Rattle.index.proofs.kind.Reads as kind-reads
 use Rattle.step.proofs.words.term_of.Reads as term-of-reads
 
 term-of-requires : tie.Need-term-of-requires

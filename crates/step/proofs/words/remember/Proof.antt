@@ -1,7 +1,7 @@
 -- `step::words::remember` meets its contract: it is the definition. Assumes nothing.
 use mathlib.Core.Path.{refl}
-use Rattle.step.specs.Words.{remember}
 use borrow.Author.Needs.{needs}
+use Rattle.step.specs.Words.{remember}
 use Rattle.step.proofs.words.remember.Statement.{statement}
 use Rattle.step.proofs.words.remember.Tie as tie
 use Rattle.step.proofs.words.remember.Reads as reads

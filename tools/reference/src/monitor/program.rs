@@ -1,0 +1,49 @@
+// The program and its line (01, "The program and its lines"): "a number, that many table bytes,
+// then events, one byte each. 256 slots."
+
+use super::operations::{feed, start, MOST_AREA};
+use crate::numbers::{number_at, Reading};
+use crate::operations::{read, READ_OUTPUT, WORK};
+use crate::refusal::*;
+use crate::table::MOST_BYTES;
+
+pub fn line(input: &[u8]) -> String {
+    match judged(input) {
+        Ok(line) => line,
+        Err(Refusal { number, place }) => format!("refused {number} {place}"),
+    }
+}
+
+fn judged(input: &[u8]) -> Result<String, Refusal> {
+    // "The length number uses 3 and 4 with place 0; a length over 16,384 is 2; input ending
+    // within the table is 3, at the number of table bytes there; all before Read."
+    let (length, first) = match number_at(input, 0) {
+        Reading::Truncated => return refuse(TRUNCATED, 0),
+        Reading::Malformed => return refuse(MALFORMED, 0),
+        Reading::Number { value, next } => (value as usize, next),
+    };
+    if length > MOST_BYTES {
+        return refuse(TOO_LONG, 0);
+    }
+    let rest = &input[first..];
+    if rest.len() < length {
+        return refuse(TRUNCATED, rest.len());
+    }
+    let (bytes, events) = rest.split_at(length);
+    let table = read(bytes, READ_OUTPUT, WORK);
+    let list = &table.output[..table.answer?];
+    let started = start(list, &[vec![0; MOST_AREA], vec![0; MOST_AREA]], WORK);
+    if let Some(refusal) = started.answer.refusal {
+        return Err(refusal);
+    }
+    let record = started.answer.record.expect("a record without a refusal");
+    let fed = feed(list, record, &started.areas, events, WORK);
+    if let Some(refusal) = fed.answer.refusal {
+        return Err(refusal);
+    }
+    let record = fed.answer.record.expect("a record without a refusal");
+    Ok(match record.failed {
+        Some(place) => format!("failed {place} {}", record.taken),
+        None => format!("running {} {}", record.taken, record.count),
+    })
+}

@@ -1,0 +1,57 @@
+// The test program in short: the calls of a file of histories made again, and what it prints; or
+// the first line whose answer is another one.
+
+use super::history::{Fill, History};
+use super::state::Record;
+use super::summary::summary;
+
+pub fn replay(text: &str) -> Result<String, String> {
+    let printed = summary(text)?;
+    let mut history = History::new();
+    for (i, line) in text.lines().enumerate().filter(|(_, line)| !line.starts_with('#')) {
+        history.text.clear();
+        again(&mut history, line).ok_or(format!("line {}: cannot be done", i + 1))?;
+        if history.text.trim_end() != line {
+            let given: String = history.text.chars().take(200).collect();
+            return Err(format!("line {}: given: {}", i + 1, given.trim_end()));
+        }
+    }
+    Ok(printed)
+}
+
+// Does what the line says; the history then has the line with its own answer.
+fn again(history: &mut History, line: &str) -> Option<()> {
+    let words: Vec<&str> = line.split(' ').take_while(|word| *word != "=").collect();
+    let numbers: Vec<u64> =
+        words[1..].iter().map(|word| word.parse().ok()).collect::<Option<_>>()?;
+    let list = || numbers.iter().map(|&n| u16::try_from(n).ok()).collect::<Option<Vec<u16>>>();
+    let length = |i: usize| numbers.get(i).map(|&n| n as usize);
+    match words[0] {
+        "t" => history.table(&list()?),
+        "u" => history.other_table(&list()?),
+        "a" => {
+            let fill = *[Fill::Zeros, Fill::Junk, Fill::Kept].get(length(2)?)?;
+            history.lend(length(0)?, length(1)?, fill);
+        }
+        "r" => {
+            let [taken, count, failed, at] = numbers[..] else { return None };
+            history.set_record(Record { taken, count, failed: (failed == 1).then_some(at) });
+        }
+        "x" => history.set_words(length(0)?, length(1)?, &numbers[2..]),
+        "s" => {
+            history.start_work(length(0)?);
+        }
+        "f" => {
+            let events: Vec<u8> = numbers[1..].iter().map(|&e| e as u8).collect();
+            history.feed_work(&events, length(0)?);
+        }
+        "o" => {
+            history.offer_work(length(0)?);
+        }
+        "v" => {
+            history.view();
+        }
+        _ => return None,
+    }
+    Some(())
+}
