@@ -5,8 +5,8 @@
 --     planted, walked     a node word in front; all of a list of node words
 --     isWhole             one tree, of a reach that is not too large
 --     Few                 so few trees that no sum is too large
--- The laws are in `Walk/`: `Laws`, by cases; `Spelling`, that it agrees with `forest`; `Validity`, that it decides
--- which slots are valid. Assumes nothing.
+-- The laws are in `Walk/`: `Laws`, by cases; `Words`, of what words spell; `Spelling`, that the walk agrees with
+-- `forest`; `Validity`, that it decides which slots are valid. Assumes nothing.
 use Prim.Native.Nat.{ℕ, _+_, _-_, _*_, _≤_}
 use mathlib.Core.Bool.{Bool, true, false, _&&_}
 use mathlib.Core.List.{List, [], _∷_}
@@ -19,6 +19,7 @@ use Rattle.monitor.specs.declared.valid.Forest.the-variants.{Broken, Tre
 use Rattle.monitor.specs.Slots.{termOf, memoryOf}
 use Rattle.monitor.specs.Valid.{memoryFits}
 pub mod Laws
+pub mod Words
 pub mod Spelling
 pub mod Validity
 

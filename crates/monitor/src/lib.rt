@@ -1,4 +1,5 @@
-// The monitor of CSP_E tables: residuals, Start, Feed, Offer, View. The definitions are in `specs/`.
+// The monitor of CSP_E tables: residuals, Start, Feed, Offer, View (document 01, "Residuals",
+// "Operations"). The definitions are in `specs/`; `specs/Lib.antt` lists them in reading order.
 mod consistent;
 mod lengths;
 mod state;

@@ -1,5 +1,5 @@
-// The state record and its successors (document 01, "Operations": "each call takes the state record and hands
-// back its successor"). What it stands for is `stateOf` of `specs/Record.antt`.
+// The state record and its successors (document 01, "Operations": "each call takes the state record
+// and hands back its successor"). What it stands for is `stateOf` of `specs/Record.antt`.
 ghost use mathlib.Core.Path.{_≡_};
 ghost use Prim.Native.Nat.{_<_};
 ghost use Rattle.monitor.specs.Record.{stateOf, counted, failing, holding, Successor};
@@ -19,7 +19,7 @@ pub struct State {
 
 impl State {
     // One event more is taken.
-    pub fn take(self) -> Self
+    pub(crate) fn take(self) -> Self
         requires { ⌜ self .taken < 18446744073709551615 ⌝ }
         ensures { λ r. ⌜ stateOf r ≡ counted (stateOf self) ⌝ }
     {
@@ -32,7 +32,7 @@ impl State {
     }
 
     // No residual is left: failed at the events taken, unless it failed before.
-    pub fn fail(self) -> Self
+    pub(crate) fn fail(self) -> Self
         ensures { λ r. ⌜ stateOf r ≡ failing (stateOf self) ⌝ }
     {
         let verdict = self.verdict;
@@ -51,7 +51,7 @@ impl State {
     }
 
     // So many residuals are held.
-    pub fn hold(mut self, count: u64) -> Self
+    pub(crate) fn hold(mut self, count: u64) -> Self
         ensures { λ r. ⌜ stateOf r ≡ holding (stateOf self) count ⌝ }
     {
         self.count = count;
@@ -59,7 +59,7 @@ impl State {
     }
 
     // The record after one event that left so many residuals.
-    pub fn after(self, count: u64) -> Self
+    pub(crate) fn after(self, count: u64) -> Self
         requires { ⌜ self .taken < 18446744073709551615 ⌝ }
         ensures { λ r. ⌜ Successor (stateOf self) count (stateOf r) ⌝ }
     {

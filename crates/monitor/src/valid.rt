@@ -1,6 +1,7 @@
-// Valid slots (document 01, "Disturbed": "A valid slot is one whole residual tree of known STOP, prefix and
-// parallel terms, its other words zero; memory is below A, zero beyond the term's enclosing prefixes; the leaves'
-// reach sums to at most 8"). The definitions are in `specs/Valid.antt`, those of the walk in `specs/Walk.antt`.
+// Valid slots (document 01, "Disturbed": "A valid slot is one whole residual tree of known STOP,
+// prefix and parallel terms, its other words zero; memory is below A, zero beyond the term's
+// enclosing prefixes; the leaves' reach sums to at most 8"). The definitions are in
+// `specs/Valid.antt`, those of the walk over a slot's node words in `specs/Walk.antt`.
 ghost use mathlib.Core.Path.{_≡_};
 ghost use Prim.Native.Nat.{_≤_};
 ghost use lib.ListN.{length, take, drop};
@@ -8,7 +9,8 @@ ghost use Rattle.table.specs.Index.{tableIn, Indexed};
 ghost use Rattle.monitor.specs.Slots.{memoryOf, compareWords};
 ghost use Rattle.monitor.specs.Valid.{digitFits, memoryFits, isBelow, validSlot};
 ghost use Rattle.monitor.specs.Consistent.{allZero};
-ghost use Rattle.monitor.specs.Walk.{Few, withLeaf, joined, wordFits, planted, walked, isWhole};
+ghost use Rattle.monitor.specs.Walk.{Few, withLeaf, joined, isWhole};
+ghost use Rattle.monitor.specs.Walk.{wordFits, planted, walked};
 use crate::words::digit;
 use crate::words::term_of;
 
@@ -71,7 +73,7 @@ fn word_fits(list: &[u16], work: &[u64], w: u64) -> bool
     )
 }
 
-// What the node words behind a place spell: no trees, or so many, with the sum of their leaves' reach.
+// What node words spell: nothing, or so many trees, with the sum of their leaves' reach.
 pub enum Forest {
     Broken,
     Trees(u64, u64),
@@ -138,7 +140,8 @@ fn plant(list: &[u16], work: &[u64], w: u64, forest: Forest) -> Forest
 fn walk(list: &[u16], work: &[u64], slot: &[u64], n: usize) -> Forest
     requires { ⌜ Indexed (now list) (now work) ⌝ }
     requires { ⌜ (length (now slot) ≡ 16) × (n ≤ 15) ⌝ }
-    ensures { λ r. ⌜ r ≡ walked (tableIn (now (list .entry))) (take n (drop 1 (now (slot .entry)))) ⌝ }
+    ensures { λ r.
+        ⌜ r ≡ walked (tableIn (now (list .entry))) (take n (drop 1 (now (slot .entry)))) ⌝ }
 {
     let mut forest = Forest::Trees(0, 0);
     let mut i = n;

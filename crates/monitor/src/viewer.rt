@@ -5,8 +5,9 @@ ghost use Rattle.monitor.specs.View.{viewOf};
 use crate::state::State;
 use crate::state::Verdict;
 
-// The slots of the residuals held: the beginning of area 0 or of area 1, by the parity of the events taken. After
-// failure, and where the count is more than that area has room for, it is the empty beginning of area 0.
+// The slots of the residuals held: the beginning of area 0 or of area 1, by the parity of the
+// events taken. After failure, and where the count is more than that area has room for, it is the
+// empty beginning of area 0.
 pub fn view<'a>(state: State, area0: &'a [u64], area1: &'a [u64]) -> &'a [u64]
     ensures { λ r. ⌜ now r ≡ viewOf (monitorOf state (now (area0 .entry)) (now (area1 .entry))) ⌝ }
 {

@@ -6,13 +6,11 @@ use Prim.Native.Nat.{ℕ, suc, _+_, _-_, _≤_, _<_}
 use native.Mathlib.Omega.{arith}
 use native.Mathlib.Numerals.{add-one}
 use native.Mathlib.Decide.{decLt}
-use mathlib.Core.Path.{_≡_, refl, ap, ap₂, sym, subst, _∙_}
+use mathlib.Core.Path.{_≡_, refl, ap, ap₂, sym, _∙_}
 use mathlib.Core.Bool.{Bool, true, false, _&&_}
 use mathlib.Core.List.{List, [], _∷_}
 use mathlib.Core.Option.{Option, none, some}
 use lib.ListN.{length}
-use lib.Dec.{ltb}
-use borrow.Author.Tests.{lt-ltb, le-ltb}
 use Rattle.table.specs.Table.{Table, Term, stop, fail, prefix, choice, par, call, termCount, termAt, enclosing}
 use Rattle.table.specs.Node.{termOf as nodeTerm}
 use Rattle.table.specs.Node.Numbers.{term-at}
@@ -24,15 +22,11 @@ use Rattle.monitor.specs.Part.Numbers.{number-at, number-below}
 use Rattle.monitor.specs.Proper.Laws.{reachAt-at}
 use Rattle.monitor.specs.Residual.{Residual, leaf, pair}
 use Rattle.monitor.specs.Slots.{termOf, memoryOf}
-use Rattle.monitor.specs.Valid.{joinTrees, plant, plantWord, forest, memoryFits, memoriesFit, reachAt, reachSum}
+use Rattle.monitor.specs.Valid.{joinTrees, plant, plantWord, forest, memoryFits, memoriesFit, reachSum}
 use Rattle.monitor.specs.Valid.Laws.{plant-none, plant-some, forest-none, forest-some}
 use Rattle.monitor.specs.Consistent.{every}
 use Rattle.monitor.specs.Walk.{withLeaf, joined, wordFits, plantedBy, planted, walked}
 use Rattle.monitor.specs.Walk.Laws.{joined-few, joined-two, planted-unfit, planted-fit, unknown-term, known-term}
-
-and-false : (b : Bool) → (b && false) ≡ false
-and-false true = refl
-and-false false = refl
 
 and-assoc : (a b c : Bool) → ((a && b) && c) ≡ (a && (b && c))
 and-assoc true b c = refl

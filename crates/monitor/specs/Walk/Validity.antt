@@ -1,74 +1,31 @@
 -- A slot is valid exactly when its count is 1 to 15, its other words are zero, and the walk over its node words ends
--- with one tree whose reach is not too large. A valid slot's words are those of the tree that they spell.
---     spelled      the words of the trees that words spell are these words
+-- with one tree whose reach is not too large.
 --     slot-empty, slot-large, slot-rest, slot-walk    a slot, by its first word, its last words and the walk
 -- Assumes nothing.
-use Prim.Native.Nat.{ℕ, suc, _+_, _-_, _/_, _≤_, _<_}
+use Prim.Native.Nat.{ℕ, suc, _+_, _-_, _≤_, _<_}
 use native.Mathlib.Omega.{arith}
-use native.Mathlib.Nat.{div-div-eq-div-mul}
-use mathlib.Core.Path.{_≡_, refl, ap, ap₂, sym, subst, _∙_}
+use mathlib.Core.Path.{_≡_, refl, ap, ap₂, sym, _∙_}
 use mathlib.Core.Bool.{Bool, true, false, _&&_}
-use mathlib.Core.List.{List, [], _∷_, _++_, append-assoc, append-nil}
+use mathlib.Core.List.{List, [], _∷_, _++_}
 use mathlib.Core.Option.{Option, none, some}
 use lib.ListN.{length, getD, take, drop, replicate, length-drop, take-append-drop}
 use lib.Seq.{take-all, length-take-le, drop-cons, drop-drop, drop-at}
-use lib.Dec.{eqb, leb}
+use lib.Dec.{leb}
 use borrow.Author.Tests.{ne-eqb}
-use Rattle.table.specs.Table.{Table, Term, stop, fail, prefix, choice, par, call, termAt}
-use Rattle.table.specs.Memory.{Memory}
+use Rattle.table.specs.Table.{Table}
 use Rattle.monitor.specs.declared.valid.Forest.{Forest}
-use Rattle.monitor.specs.declared.valid.Forest.the-variants.{Broken, Trees}
-use Rattle.monitor.specs.Residual.{Residual, leaf, pair}
-use Rattle.monitor.specs.Slots.{Order, below, same, above, pack, termOf, memoryOf, nodes, slotOf, compareWords}
+use Rattle.monitor.specs.Residual.{Residual}
+use Rattle.monitor.specs.Slots.{Order, below, same, above, nodes, slotOf, compareWords}
 use Rattle.monitor.specs.Slots.Comparison.{cmp-refl, same-eq}
-use Rattle.monitor.specs.Valid.{joinTrees, plant, plantWord, forest, oneTree, slotResidual, memoriesFit, reachSum}
+use Rattle.monitor.specs.Valid.{forest, oneTree, memoriesFit, reachSum}
 use Rattle.monitor.specs.Valid.{isSame, validSlot}
-use Rattle.monitor.specs.Valid.Laws.{some-same, none-some, plant-none, plant-some, forest-none, forest-some}
 use Rattle.monitor.specs.Valid.Laws.{slot-none, slot-some, valid-none, valid-at}
 use Rattle.monitor.specs.State.Areas.{zero-zeros}
 use Rattle.monitor.specs.Consistent.{every, allZero}
 use Rattle.monitor.specs.Consistent.Reading.{zero-split}
 use Rattle.monitor.specs.Walk.{walked, isWhole}
+use Rattle.monitor.specs.Walk.Words.{one-words}
 use Rattle.monitor.specs.Walk.Spelling.{reachAll, countedIf, kept, walked-forest}
-
--- ---- words and trees
-
--- a node word is that of its term and memory
-pub pack-word : (w : ℕ) → pack (termOf w) (memoryOf w) ≡ w
-unfolding pack termOf memoryOf
-pack-word w =
-    let a : w / 64 / 64 ≡ w / 4096 = div-div-eq-div-mul w 64 64 in
-    let b : w / 4096 / 64 ≡ w / 262144 = div-div-eq-div-mul w 4096 64 in
-    let c : w / 262144 / 64 ≡ w / 16777216 = div-div-eq-div-mul w 262144 64 in
-    omega arith
-
-unfoldable pub nodesAll : List Residual → List ℕ
-nodesAll [] = []
-nodesAll (r ∷ rs) = nodes r ++ nodesAll rs
-
-join-words : (n : ℕ) (m : Memory) (qs rs : List Residual) → joinTrees n m qs ≡ some rs
-    → nodesAll rs ≡ pack n m ∷ nodesAll qs
-unfolding joinTrees nodesAll nodes
-join-words n m [] rs e = none-some rs e
-join-words n m (x ∷ []) rs e = none-some rs e
-join-words n m (x ∷ y ∷ qs) rs e =
-    ap nodesAll (sym (some-same (pair n m x y ∷ qs) rs e))
-    ∙ ap (pack n m ∷_) (append-assoc (nodes x) (nodes y) (nodesAll qs))
-
-leaf-words : (n : ℕ) (m : Memory) (qs rs : List Residual) → some (leaf n m ∷ qs) ≡ some rs
-    → nodesAll rs ≡ pack n m ∷ nodesAll qs
-unfolding nodesAll nodes
-leaf-words n m qs rs e = ap nodesAll (sym (some-same (leaf n m ∷ qs) rs e))
-
-plant-words : (n : ℕ) (m : Memory) (p : Term) (qs rs : List Residual) → plant n m qs p ≡ some rs
-    → nodesAll rs ≡ pack n m ∷ nodesAll qs
-unfolding plant
-plant-words n m stop qs rs e = leaf-words n m qs rs e
-plant-words n m fail qs rs e = none-some rs e
-plant-words n m (prefix s p) qs rs e = leaf-words n m qs rs e
-plant-words n m (choice p q) qs rs e = none-some rs e
-plant-words n m (par s p q) qs rs e = join-words n m qs rs e
-plant-words n m (call d) qs rs e = none-some rs e
 
 and-false : (b : Bool) → (b && false) ≡ false
 and-false true = refl
@@ -95,27 +52,6 @@ false-true : {X : Type 0} → false ≡ true → X
 false-true e = absurd (let z : _≡_ {A = ℕ} 0 1 = cc in omega arith)
 
 module _ (t : Table) where
-  pub spelled : (ws : List ℕ) (rs : List Residual) → forest t ws ≡ some rs → nodesAll rs ≡ ws
-  unfolding forest nodesAll
-  spelled [] rs e = ap nodesAll (sym (some-same [] rs e))
-  spelled (w ∷ ws) rs e = by (forest t ws) refl (spelled ws)
-    where
-      word : (qs : List Residual) → nodesAll qs ≡ ws → plantWord t w qs ≡ some rs → (o : Option Term)
-          → termAt t (termOf w) ≡ o → nodesAll rs ≡ w ∷ ws
-      word qs q h none k = none-some rs (sym (plant-none t w qs k) ∙ h)
-      word qs q h (some p) k =
-          plant-words (termOf w) (memoryOf w) p qs rs (sym (plant-some t w qs p k) ∙ h)
-          ∙ ap₂ _∷_ (pack-word w) q
-
-      by : (o : Option (List Residual)) → forest t ws ≡ o
-          → ((qs : List Residual) → forest t ws ≡ some qs → nodesAll qs ≡ ws) → nodesAll rs ≡ w ∷ ws
-      by none k ih = none-some rs (sym (forest-none t w ws k) ∙ e)
-      by (some qs) k ih = word qs (ih qs k) (sym (forest-some t w ws qs k) ∙ e) (termAt t (termOf w)) refl
-
-  one-words : (ws : List ℕ) (r : Residual) → forest t ws ≡ some (r ∷ []) → nodes r ≡ ws
-  unfolding nodesAll
-  one-words ws r e = sym (append-nil (nodes r)) ∙ spelled ws (r ∷ []) e
-
   -- ---- how the walk ends
 
   whole-none : isWhole (kept t none) ≡ false
@@ -216,7 +152,7 @@ module _ (t : Table) where
         trees [] e = false-and _ whole-nil (valid-nil e)
         trees (r ∷ []) e =
             valid-one r e
-            ∙ ap₂ _&&_ (same-zero r (one-words (take c ws) r e) h) (sym (whole-one r))
+            ∙ ap₂ _&&_ (same-zero r (one-words t (take c ws) r e) h) (sym (whole-one r))
         trees (r ∷ q ∷ rs) e = false-and _ (whole-more r q rs) (valid-more r q rs e)
 
         by : (o : Option (List Residual)) → forest t (take c ws) ≡ o
@@ -235,7 +171,7 @@ module _ (t : Table) where
         trees [] e = valid-nil e
         trees (r ∷ []) e =
             valid-one r e
-            ∙ ap (_&& (memoriesFit t r && leb (reachSum t r) 8)) (same-large r (one-words (take c ws) r e) h)
+            ∙ ap (_&& (memoriesFit t r && leb (reachSum t r) 8)) (same-large r (one-words t (take c ws) r e) h)
         trees (r ∷ q ∷ rs) e = valid-more r q rs e
 
         by : (o : Option (List Residual)) → forest t (take c ws) ≡ o → validSlot t (c ∷ ws) ≡ false

@@ -10,13 +10,22 @@ slots-fit-requires : tie.Need-slots-fit-requires
 slots-fit-requires c κs = search needs
 
 returns : tie.Need-returns
-returns c = slots-unfit _ _ _ (sym (c .before .slots-fit .ensures) ∙ not-true _ (c .if1 .taken))
+returns c =
+    let if1 = c .if1 in
+    let slots-fit = c .before .slots-fit in
+    slots-unfit _ _ _ (sym (slots-fit .ensures) ∙ not-true _ (if1 .taken))
 
 slots-ascend-requires : tie.Need-slots-ascend-requires
 slots-ascend-requires c κs = search needs
 
 returns-2 : tie.Need-returns-2
-returns-2 c = slots-mixed _ _ _ (sym (c .before .before .before .slots-fit .ensures) ∙ not-false _ (c .before .before .if1 .left)) (sym (c .before .slots-ascend .ensures) ∙ not-true _ (c .if2 .taken))
+returns-2 c =
+    let if2 = c .if2 in
+    let slots-ascend = c .before .slots-ascend in
+    let if1 = c .before .before .if1 in
+    let slots-fit = c .before .before .before .slots-fit in
+    slots-mixed _ _ _ (sym (slots-fit .ensures) ∙ not-false _ (if1 .left))
+    (sym (slots-ascend .ensures) ∙ not-true _ (if2 .taken))
 
 mul-all-zero : tie.Need-mul-all-zero
 mul-all-zero c = search needs
@@ -26,8 +35,13 @@ all-zero-requires c κs = search needs
 
 returns-3 : tie.Need-returns-3
 returns-3 c =
-    rest-zero _ _ _ _ (sym (c .before .before .before .before .slots-fit .ensures) ∙ not-false _ (c .before .before .before .if1 .left)) (sym (c .before .before .slots-ascend .ensures) ∙ not-false _ (c .before .if2 .left))
-    (c .all-zero .ensures)
+    let all-zero = c .all-zero in
+    let if2 = c .before .if2 in
+    let slots-ascend = c .before .before .slots-ascend in
+    let if1 = c .before .before .before .if1 in
+    let slots-fit = c .before .before .before .before .slots-fit in
+    rest-zero _ _ _ _ (sym (slots-fit .ensures) ∙ not-false _ (if1 .left))
+    (sym (slots-ascend .ensures) ∙ not-false _ (if2 .left)) (all-zero .ensures)
 
 pub area-fits-spec : {M : Type 1} → statement M
 area-fits-spec =

@@ -12,16 +12,25 @@ area-fits-requires c κs = search needs
 
 returns : tie.Need-returns
 returns c =
-    area-unfit (tableIn (c .before .before .before .before .before .before .args .list .now)) (c .before .before .before .before .before .before .args .count) (c .before .before .before .before .before .before .args .present .now) (c .before .before .before .before .before .before .args .other .now)
-    (sym (c .before .area-fits .ensures) ∙ not-true _ (c .if1 .taken))
+    let if1 = c .if1 in
+    let area-fits = c .before .area-fits in
+    let at-start = c .before .before .before .before .before .before in
+    area-unfit (tableIn (at-start .args .list .now)) (at-start .args .count)
+    (at-start .args .present .now) (at-start .args .other .now)
+    (sym (area-fits .ensures) ∙ not-true _ (if1 .taken))
 
 all-zero-requires : tie.Need-all-zero-requires
 all-zero-requires c κs = search needs
 
 returns-2 : tie.Need-returns-2
 returns-2 c =
-    other-zero (tableIn (c .before .before .before .before .before .before .before .args .list .now)) (c .before .before .before .before .before .before .before .args .count) (c .before .before .before .before .before .before .before .args .present .now) (c .before .before .before .before .before .before .before .args .other .now) _
-    (sym (c .before .before .area-fits .ensures) ∙ not-false _ (c .before .if1 .left)) (c .all-zero .ensures)
+    let all-zero = c .all-zero in
+    let if1 = c .before .if1 in
+    let area-fits = c .before .before .area-fits in
+    let at-start = c .before .before .before .before .before .before .before in
+    other-zero (tableIn (at-start .args .list .now)) (at-start .args .count)
+    (at-start .args .present .now) (at-start .args .other .now) _
+    (sym (area-fits .ensures) ∙ not-false _ (if1 .left)) (all-zero .ensures)
 
 pub areas-fit-spec : {M : Type 1} → statement M
 areas-fit-spec = tie.close (tie.spec area-fits-requires returns all-zero-requires returns-2)

@@ -17,10 +17,16 @@ returns-2 : tie.Need-returns-2
 returns-2 c = failed-later _ _ _ (c .before .before .before .verdict .given .1) (c .if2 .taken)
 
 returns-3 : tie.Need-returns-3
-returns-3 c = running-some _ _ (c .before .before .before .enum-told .given .1) (c .before .if1 .left)
+returns-3 c =
+    let if1 = c .before .if1 in
+    let enum-told = c .before .before .before .enum-told in
+    running-some _ _ (enum-told .given .1) (if1 .left)
 
 returns-4 : tie.Need-returns-4
-returns-4 c = failed-here _ _ _ (c .before .before .before .before .verdict .given .1) (c .before .if2 .left)
+returns-4 c =
+    let if2 = c .before .if2 in
+    let verdict = c .before .before .before .before .verdict in
+    failed-here _ _ _ (verdict .given .1) (if2 .left)
 
 pub record-fits-spec : {M : Type 1} → statement M
 record-fits-spec =

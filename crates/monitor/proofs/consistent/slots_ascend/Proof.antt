@@ -1,12 +1,13 @@
--- `consistent::slots_ascend` meets its contract. The invariant: the slots from the i-th on ascend exactly where all do.
--- The measure is what is left of the count. Assumes nothing.
+-- `consistent::slots_ascend` meets its contract. The invariant: the slots from the i-th on ascend exactly where all
+-- do. The measure is what is left of the count. Assumes nothing.
 use native.Mathlib.Omega.{arith}
 use Prim.Native.Nat.{_+_, _-_, _*_, _≤_}
 use mathlib.Core.Path.{_≡_, refl, ap, sym, _∙_}
 use borrow.Author.Tests.{not-true, not-false}
 use Rattle.monitor.specs.State.{chunks}
 use Rattle.monitor.specs.Consistent.{ascends}
-use Rattle.monitor.proofs.consistent.SlotsTurn.{part-length, slotsFrom, slots-first, ascends-next, ascends-not, ascends-done}
+use Rattle.monitor.proofs.consistent.SlotsTurn.{part-length, slotsFrom, slots-first}
+use Rattle.monitor.proofs.consistent.SlotsTurn.{ascends-next, ascends-not, ascends-done}
 use borrow.Author.Needs.{needs}
 use Rattle.monitor.proofs.consistent.slots_ascend.Statement.{statement}
 use Rattle.monitor.proofs.consistent.slots_ascend.Tie as tie
@@ -58,16 +59,22 @@ part-below-end-2 c = search needs
 
 below-requires : tie.Need-below-requires Inv-loop μ-loop
 below-requires c κs =
-    let p = c .before .before .before .loop .i * 16 in (
+    let turn = c .before .before .before .loop in
+    let p = turn .i * 16 in (
       part-length p (p + 16) _ refl (omega arith),
       part-length (p + 16) (p + 16 + 16) _ refl (omega arith),
     )
 
 returns : tie.Need-returns Inv-loop μ-loop
 returns c =
-    ascends-not (c .before .before .before .before .before .before .before .args .area .now) (c .before .before .before .before .before .before .before .args .count) (c .before .before .before .before .before .loop .i) (c .before .before .before .before .loop-test .taken)
-    (sym (c .before .below .ensures) ∙ not-true _ (c .if1 .taken))
-    ∙ c .before .before .before .before .before .loop .inv .1
+    let if1 = c .if1 in
+    let below = c .before .below in
+    let loop-test = c .before .before .before .before .loop-test in
+    let turn = c .before .before .before .before .before .loop in
+    let at-start = c .before .before .before .before .before .before .before in
+    ascends-not (at-start .args .area .now) (at-start .args .count) (turn .i) (loop-test .taken)
+    (sym (below .ensures) ∙ not-true _ (if1 .taken))
+    ∙ turn .inv .1
 
 add-i : tie.Need-add-i Inv-loop μ-loop
 add-i c = search needs
@@ -77,12 +84,21 @@ loop-less c = search needs
 
 loop-again : tie.Need-loop-again Inv-loop μ-loop
 loop-again c =
-    let e = ascends-next (c .before .before .before .before .before .before .before .args .area .now) (c .before .before .before .before .before .before .before .args .count) (c .before .before .before .before .before .loop .i) (c .before .before .before .before .loop-test .taken)
-    (sym (c .before .below .ensures) ∙ not-false _ (c .if1 .left)) in
-    (omega arith, e ∙ c .before .before .before .before .before .loop .inv .1)
+    let if1 = c .if1 in
+    let below = c .before .below in
+    let loop-test = c .before .before .before .before .loop-test in
+    let turn = c .before .before .before .before .before .loop in
+    let at-start = c .before .before .before .before .before .before .before in
+    let e = ascends-next (at-start .args .area .now) (at-start .args .count) (turn .i) (loop-test .taken)
+    (sym (below .ensures) ∙ not-false _ (if1 .left)) in
+    (omega arith, e ∙ turn .inv .1)
 
 returns-2 : tie.Need-returns-2 Inv-loop μ-loop
-returns-2 c = ascends-done (c .before .before .before .args .area .now) (c .before .before .before .args .count) (c .before .loop .i) (c .loop-test .left) ∙ c .before .loop .inv .1
+returns-2 c =
+    let loop-test = c .loop-test in
+    let turn = c .before .loop in
+    let at-start = c .before .before .before in
+    ascends-done (at-start .args .area .now) (at-start .args .count) (turn .i) (loop-test .left) ∙ turn .inv .1
 
 pub slots-ascend-spec : {M : Type 1} → statement M
 slots-ascend-spec =

@@ -1,5 +1,5 @@
--- `consistent::slots_fit` meets its contract. The invariant: the slots from the i-th on are valid exactly where all are.
--- The measure is what is left of the count. Assumes nothing.
+-- `consistent::slots_fit` meets its contract. The invariant: the slots from the i-th on are valid exactly where all
+-- are. The measure is what is left of the count. Assumes nothing.
 use native.Mathlib.Omega.{arith}
 use Prim.Native.Nat.{_+_, _-_, _*_, _≤_}
 use mathlib.Core.Path.{_≡_, refl, ap, sym, _∙_}
@@ -8,7 +8,8 @@ use Rattle.table.specs.Index.{tableIn}
 use Rattle.monitor.specs.State.{chunks}
 use Rattle.monitor.specs.Valid.{validSlot}
 use Rattle.monitor.specs.Consistent.{every}
-use Rattle.monitor.proofs.consistent.SlotsTurn.{part-length, slotsFrom, slots-first, every-next, every-not, every-done}
+use Rattle.monitor.proofs.consistent.SlotsTurn.{part-length, slotsFrom, slots-first}
+use Rattle.monitor.proofs.consistent.SlotsTurn.{every-next, every-not, every-done}
 use borrow.Author.Needs.{needs}
 use Rattle.monitor.proofs.consistent.slots_fit.Statement.{statement}
 use Rattle.monitor.proofs.consistent.slots_fit.Tie as tie
@@ -16,13 +17,17 @@ use Rattle.monitor.proofs.consistent.slots_fit.Tie as tie
 abbrev Inv-loop : tie.InvT-loop
 Inv-loop list work area count i₀ i =
     (i ≤ count)
-    × (every (validSlot (tableIn list)) (slotsFrom area count i) ≡ every (validSlot (tableIn list)) (chunks count area))
+    × (every (validSlot (tableIn list)) (slotsFrom area count i)
+    ≡ every (validSlot (tableIn list)) (chunks count area))
 
 abbrev μ-loop : tie.MeasureT-loop
 μ-loop list work area count i₀ i = count - i
 
 loop-holds : tie.Need-loop-holds Inv-loop μ-loop
-loop-holds c = (omega arith, ap (every (validSlot (tableIn (c .before .before .before .args .list .now)))) (slots-first _ _))
+loop-holds c =
+    let at-start = c .before .before .before in
+    let t = tableIn (at-start .args .list .now) in
+    (omega arith, ap (every (validSlot t)) (slots-first _ _))
 
 mul-p : tie.Need-mul-p Inv-loop μ-loop
 mul-p c = search needs
@@ -44,14 +49,22 @@ part-slot-fits-end c = search needs
 
 slot-fits-requires : tie.Need-slot-fits-requires Inv-loop μ-loop
 slot-fits-requires c κs =
-    let i = c .before .before .loop .i in
-    (c .before .before .before .before .before .before .pre .0, part-length (i * 16) (i * 16 + 16) _ refl (omega arith))
+    let turn = c .before .before .loop in
+    let at-start = c .before .before .before .before .before .before in
+    let i = turn .i in
+    (at-start .pre .0, part-length (i * 16) (i * 16 + 16) _ refl (omega arith))
 
 returns : tie.Need-returns Inv-loop μ-loop
 returns c =
-    every-not (c .before .before .before .before .before .before .before .before .args .area .now) (c .before .before .before .before .before .before .before .before .args .count) (c .before .before .before .before .loop .i) (validSlot (tableIn (c .before .before .before .before .before .before .before .before .args .list .now))) (c .before .before .before .loop-test .taken)
-    (sym (c .before .slot-fits .ensures) ∙ not-true _ (c .if1 .taken))
-    ∙ c .before .before .before .before .loop .inv .1
+    let if1 = c .if1 in
+    let slot-fits = c .before .slot-fits in
+    let loop-test = c .before .before .before .loop-test in
+    let turn = c .before .before .before .before .loop in
+    let at-start = c .before .before .before .before .before .before .before .before in
+    let t = tableIn (at-start .args .list .now) in
+    every-not (at-start .args .area .now) (at-start .args .count) (turn .i) (validSlot t) (loop-test .taken)
+    (sym (slot-fits .ensures) ∙ not-true _ (if1 .taken))
+    ∙ turn .inv .1
 
 add-i : tie.Need-add-i Inv-loop μ-loop
 add-i c = search needs
@@ -61,12 +74,24 @@ loop-less c = search needs
 
 loop-again : tie.Need-loop-again Inv-loop μ-loop
 loop-again c =
-    let e = every-next (c .before .before .before .before .before .before .before .before .args .area .now) (c .before .before .before .before .before .before .before .before .args .count) (c .before .before .before .before .loop .i) (validSlot (tableIn (c .before .before .before .before .before .before .before .before .args .list .now))) (c .before .before .before .loop-test .taken)
-    (sym (c .before .slot-fits .ensures) ∙ not-false _ (c .if1 .left)) in
-    (omega arith, e ∙ c .before .before .before .before .loop .inv .1)
+    let if1 = c .if1 in
+    let slot-fits = c .before .slot-fits in
+    let loop-test = c .before .before .before .loop-test in
+    let turn = c .before .before .before .before .loop in
+    let at-start = c .before .before .before .before .before .before .before .before in
+    let t = tableIn (at-start .args .list .now) in
+    let e = every-next (at-start .args .area .now) (at-start .args .count) (turn .i) (validSlot t) (loop-test .taken)
+    (sym (slot-fits .ensures) ∙ not-false _ (if1 .left)) in
+    (omega arith, e ∙ turn .inv .1)
 
 returns-2 : tie.Need-returns-2 Inv-loop μ-loop
-returns-2 c = every-done (c .before .before .before .before .before .args .area .now) (c .before .before .before .before .before .args .count) (c .before .loop .i) (validSlot (tableIn (c .before .before .before .before .before .args .list .now))) (c .loop-test .left) ∙ c .before .loop .inv .1
+returns-2 c =
+    let loop-test = c .loop-test in
+    let turn = c .before .loop in
+    let at-start = c .before .before .before .before .before in
+    let t = tableIn (at-start .args .list .now) in
+    every-done (at-start .args .area .now) (at-start .args .count) (turn .i) (validSlot t) (loop-test .left)
+    ∙ turn .inv .1
 
 pub slots-fit-spec : {M : Type 1} → statement M
 slots-fit-spec =

@@ -1,5 +1,5 @@
--- `valid::all_zero` meets its contract. The invariant: the words from i on are zero exactly where those from `from` on
--- are. The measure is what is left of the length. Assumes nothing.
+-- `valid::all_zero` meets its contract. The invariant: the words from i on are zero exactly where those from `from`
+-- on are. The measure is what is left of the length. Assumes nothing.
 use Prim.Native.Nat.{_-_}
 use mathlib.Core.Path.{_≡_, refl, _∙_}
 use lib.ListN.{length, drop}
@@ -25,7 +25,12 @@ shared-slice-read-if1 : tie.Need-shared-slice-read-if1 Inv-loop μ-loop
 shared-slice-read-if1 c = search needs
 
 returns : tie.Need-returns Inv-loop μ-loop
-returns c = zero-not (c .before .before .before .before .args .area .now) (c .before .before .before .loop .i) (c .before .before .loop-test .taken) (c .if1 .taken) ∙ c .before .before .before .loop .inv
+returns c =
+    let if1 = c .if1 in
+    let loop-test = c .before .before .loop-test in
+    let turn = c .before .before .before .loop in
+    let at-start = c .before .before .before .before in
+    zero-not (at-start .args .area .now) (turn .i) (loop-test .taken) (if1 .taken) ∙ turn .inv
 
 add-i : tie.Need-add-i Inv-loop μ-loop
 add-i c = search needs
@@ -34,10 +39,19 @@ loop-less : tie.Need-loop-less Inv-loop μ-loop
 loop-less c = search needs
 
 loop-again : tie.Need-loop-again Inv-loop μ-loop
-loop-again c = zero-next (c .before .before .before .before .args .area .now) (c .before .before .before .loop .i) (c .before .before .loop-test .taken) (c .if1 .left) ∙ c .before .before .before .loop .inv
+loop-again c =
+    let if1 = c .if1 in
+    let loop-test = c .before .before .loop-test in
+    let turn = c .before .before .before .loop in
+    let at-start = c .before .before .before .before in
+    zero-next (at-start .args .area .now) (turn .i) (loop-test .taken) (if1 .left) ∙ turn .inv
 
 returns-2 : tie.Need-returns-2 Inv-loop μ-loop
-returns-2 c = zero-done (c .before .before .args .area .now) (c .before .loop .i) (c .loop-test .left) ∙ c .before .loop .inv
+returns-2 c =
+    let loop-test = c .loop-test in
+    let turn = c .before .loop in
+    let at-start = c .before .before in
+    zero-done (at-start .args .area .now) (turn .i) (loop-test .left) ∙ turn .inv
 
 pub all-zero-spec : {M : Type 1} → statement M
 all-zero-spec =

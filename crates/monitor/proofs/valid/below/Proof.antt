@@ -1,5 +1,5 @@
--- `valid::below` meets its contract. The invariant: the words from j on compare as all do. The measure is what is left of
--- sixteen. Assumes nothing.
+-- `valid::below` meets its contract. The invariant: the words from j on compare as all do. The measure is what is
+-- left of sixteen. Assumes nothing.
 use native.Mathlib.Omega.{arith}
 use Prim.Native.Nat.{_-_, _≤_}
 use mathlib.Core.Path.{_≡_, refl, ap, sym, _∙_}
@@ -34,17 +34,21 @@ shared-slice-read-b c = search needs
 
 returns : tie.Need-returns Inv-loop μ-loop
 returns c =
-    let k = c .before .before .before .before .loop in
-    let a = c .before .before .before .before .before .args .slot .now in
-    let b = c .before .before .before .before .before .args .next .now in
-    ap isBelow (sym (compare-below a b (k .j) (omega arith) (omega arith) (c .if1 .taken)) ∙ k .inv .1)
+    let if1 = c .if1 in
+    let turn = c .before .before .before .before .loop in
+    let at-start = c .before .before .before .before .before in
+    let a = at-start .args .slot .now in
+    let b = at-start .args .next .now in
+    ap isBelow (sym (compare-below a b (turn .j) (omega arith) (omega arith) (if1 .taken)) ∙ turn .inv .1)
 
 returns-2 : tie.Need-returns-2 Inv-loop μ-loop
 returns-2 c =
-    let k = c .before .before .before .before .before .loop in
-    let a = c .before .before .before .before .before .before .args .slot .now in
-    let b = c .before .before .before .before .before .before .args .next .now in
-    ap isBelow (sym (compare-above a b (k .j) (omega arith) (omega arith) (c .if2 .taken)) ∙ k .inv .1)
+    let if2 = c .if2 in
+    let turn = c .before .before .before .before .before .loop in
+    let at-start = c .before .before .before .before .before .before in
+    let a = at-start .args .slot .now in
+    let b = at-start .args .next .now in
+    ap isBelow (sym (compare-above a b (turn .j) (omega arith) (omega arith) (if2 .taken)) ∙ turn .inv .1)
 
 add-j : tie.Need-add-j Inv-loop μ-loop
 add-j c = search needs
@@ -54,17 +58,21 @@ loop-less c = search needs
 
 loop-again : tie.Need-loop-again Inv-loop μ-loop
 loop-again c =
-    let k = c .before .before .before .before .before .loop in
-    let a = c .before .before .before .before .before .before .args .slot .now in
-    let b = c .before .before .before .before .before .before .args .next .now in
-    (omega arith, compare-next a b (k .j) (omega arith) (omega arith) (c .before .if1 .left) (c .if2 .left) ∙ k .inv .1)
+    let if2 = c .if2 in
+    let if1 = c .before .if1 in
+    let turn = c .before .before .before .before .before .loop in
+    let at-start = c .before .before .before .before .before .before in
+    let a = at-start .args .slot .now in
+    let b = at-start .args .next .now in
+    (omega arith, compare-next a b (turn .j) (omega arith) (omega arith) (if1 .left) (if2 .left) ∙ turn .inv .1)
 
 returns-3 : tie.Need-returns-3 Inv-loop μ-loop
 returns-3 c =
-    let k = c .before .loop in
-    let a = c .before .before .args .slot .now in
-    let b = c .before .before .args .next .now in
-    ap isBelow (sym (compare-done a b (k .j) (omega arith) (omega arith)) ∙ k .inv .1)
+    let turn = c .before .loop in
+    let at-start = c .before .before in
+    let a = at-start .args .slot .now in
+    let b = at-start .args .next .now in
+    ap isBelow (sym (compare-done a b (turn .j) (omega arith) (omega arith)) ∙ turn .inv .1)
 
 pub below-spec : {M : Type 1} → statement M
 below-spec =

@@ -1,4 +1,5 @@
--- `valid::digit_fits` meets its contract: each return’s tests say which part of `digitFits` decides. Assumes nothing.
+-- `valid::digit_fits` meets its contract: the tests of each return say which part of `digitFits` decides. Assumes
+-- nothing.
 use borrow.Author.Tests.{lt-ltb, le-ltb}
 use Rattle.monitor.specs.Valid.{digitFits}
 use Rattle.monitor.proofs.valid.digit_fits.Statement.{statement}

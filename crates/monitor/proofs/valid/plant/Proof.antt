@@ -1,4 +1,4 @@
--- `valid::plant` meets its contract: the kind of the word’s term says which law gives the forest. Assumes nothing.
+-- `valid::plant` meets its contract: the kind of the word's term says which law gives the forest. Assumes nothing.
 use mathlib.Core.Path.{sym, _∙_}
 use borrow.Author.Tests.{not-true, not-false}
 use Rattle.monitor.specs.declared.valid.Forest.the-variants.{Broken}
@@ -17,10 +17,22 @@ term-of-requires : tie.Need-term-of-requires
 term-of-requires c κs = search needs
 
 kind-requires : tie.Need-kind-requires
-kind-requires c κs = (c .before .before .before .before .before .pre .0, term-known _ _ _ (c .term-of .ensures) (sym (c .before .before .word-fits .ensures) ∙ not-false _ (c .before .if1 .left)))
+kind-requires c κs =
+    let term-of = c .term-of in
+    let if1 = c .before .if1 in
+    let word-fits = c .before .before .word-fits in
+    let at-start = c .before .before .before .before .before in
+    let fits = sym (word-fits .ensures) ∙ not-false _ (if1 .left) in
+    (at-start .pre .0, term-known _ _ _ (term-of .ensures) fits)
 
 reach-requires : tie.Need-reach-requires
-reach-requires c κs = (c .before .before .before .before .before .before .before .pre .0, term-known _ _ _ (c .before .before .term-of .ensures) (sym (c .before .before .before .before .word-fits .ensures) ∙ not-false _ (c .before .before .before .if1 .left)))
+reach-requires c κs =
+    let term-of = c .before .before .term-of in
+    let if1 = c .before .before .before .if1 in
+    let word-fits = c .before .before .before .before .word-fits in
+    let at-start = c .before .before .before .before .before .before .before in
+    let fits = sym (word-fits .ensures) ∙ not-false _ (if1 .left) in
+    (at-start .pre .0, term-known _ _ _ (term-of .ensures) fits)
 
 leaf-requires : tie.Need-leaf-requires
 leaf-requires c κs = search needs
@@ -30,18 +42,38 @@ join-requires c κs = search needs
 
 returns-2 : tie.Need-returns-2
 returns-2 c =
-    planted-leaf _ _ _ _ _ _ (sym (c .before .before .before .before .before .before .word-fits .ensures) ∙ not-false _ (c .before .before .before .before .before .if1 .left)) (c .before .before .before .before .term-of .ensures) (c .before .before .before .kind .ensures .0)
-    (c .before .before .match .keys1) _ (c .before .reach .ensures .0) (c .leaf .ensures)
+    let leaf = c .leaf in
+    let reach = c .before .reach in
+    let arm = c .before .before .match in
+    let kind = c .before .before .before .kind in
+    let term-of = c .before .before .before .before .term-of in
+    let if1 = c .before .before .before .before .before .if1 in
+    let word-fits = c .before .before .before .before .before .before .word-fits in
+    let fits = sym (word-fits .ensures) ∙ not-false _ (if1 .left) in
+    planted-leaf _ _ _ _ _ _ fits (term-of .ensures) (kind .ensures .0) (arm .keys1) _
+    (reach .ensures .0) (leaf .ensures)
 
 returns-3 : tie.Need-returns-3
 returns-3 c =
-    planted-par _ _ _ _ _ _ (sym (c .before .before .before .before .before .word-fits .ensures) ∙ not-false _ (c .before .before .before .before .if1 .left)) (c .before .before .before .term-of .ensures) (c .before .before .kind .ensures .0)
-    (c .before .match .keys2) (c .join .ensures)
+    let join = c .join in
+    let arm = c .before .match in
+    let kind = c .before .before .kind in
+    let term-of = c .before .before .before .term-of in
+    let if1 = c .before .before .before .before .if1 in
+    let word-fits = c .before .before .before .before .before .word-fits in
+    let fits = sym (word-fits .ensures) ∙ not-false _ (if1 .left) in
+    planted-par _ _ _ _ _ _ fits (term-of .ensures) (kind .ensures .0) (arm .keys2) (join .ensures)
 
 returns-4 : tie.Need-returns-4
 returns-4 c =
-    planted-none _ _ _ _ _ Broken (sym (c .before .before .before .before .word-fits .ensures) ∙ not-false _ (c .before .before .before .if1 .left)) (c .before .before .term-of .ensures) (c .before .kind .ensures .0)
-    (c .match .rest .0 .1) (c .match .rest .1)
+    let arm = c .match in
+    let kind = c .before .kind in
+    let term-of = c .before .before .term-of in
+    let if1 = c .before .before .before .if1 in
+    let word-fits = c .before .before .before .before .word-fits in
+    let fits = sym (word-fits .ensures) ∙ not-false _ (if1 .left) in
+    planted-none _ _ _ _ _ Broken fits (term-of .ensures) (kind .ensures .0) (arm .rest .0 .1)
+    (arm .rest .1)
 
 pub plant-spec : {M : Type 1} → statement M
 plant-spec =

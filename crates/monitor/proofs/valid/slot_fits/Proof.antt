@@ -1,5 +1,5 @@
--- `valid::slot_fits` meets its contract: the count, the words after the nodes, and then the walk decide.
--- Assumes nothing.
+-- `valid::slot_fits` meets its contract: the count, the words after the nodes, and then the walk decide. Assumes
+-- nothing.
 use mathlib.Core.Path.{sym, _∙_}
 use borrow.Author.Tests.{not-true, not-false}
 use Rattle.monitor.specs.Walk.Validity.{slot-empty, slot-large, slot-rest, slot-walk}
@@ -14,7 +14,10 @@ returns : tie.Need-returns
 returns c = slot-empty _ _ (c .before .before .before .before .before .pre .1) (c .if1 .taken)
 
 returns-2 : tie.Need-returns-2
-returns-2 c = slot-large _ _ (c .before .before .before .before .before .before .pre .1) (c .if2 .taken)
+returns-2 c =
+    let if2 = c .if2 in
+    let at-start = c .before .before .before .before .before .before in
+    slot-large _ _ (at-start .pre .1) (if2 .taken)
 
 add-all-zero : tie.Need-add-all-zero
 add-all-zero c = search needs
@@ -23,7 +26,12 @@ all-zero-requires : tie.Need-all-zero-requires
 all-zero-requires c κs = search needs
 
 returns-3 : tie.Need-returns-3
-returns-3 c = slot-rest _ _ (c .before .before .before .before .before .before .before .before .pre .1) (c .before .before .if2 .left) (sym (c .before .all-zero .ensures) ∙ not-true _ (c .if3 .taken))
+returns-3 c =
+    let if3 = c .if3 in
+    let all-zero = c .before .all-zero in
+    let if2 = c .before .before .if2 in
+    let at-start = c .before .before .before .before .before .before .before .before in
+    slot-rest _ _ (at-start .pre .1) (if2 .left) (sym (all-zero .ensures) ∙ not-true _ (if3 .taken))
 
 walk-requires : tie.Need-walk-requires
 walk-requires c κs = search needs
@@ -33,8 +41,14 @@ whole-requires c κs = search needs
 
 returns-4 : tie.Need-returns-4
 returns-4 c =
-    slot-walk _ _ (c .before .before .before .before .before .before .before .before .before .before .pre .1) (c .before .before .before .before .if2 .left)
-    (sym (c .before .before .before .all-zero .ensures) ∙ not-false _ (c .before .before .if3 .left)) _ _ (c .before .walk .ensures) (c .whole .ensures)
+    let whole = c .whole in
+    let walk = c .before .walk in
+    let if3 = c .before .before .if3 in
+    let all-zero = c .before .before .before .all-zero in
+    let if2 = c .before .before .before .before .if2 in
+    let at-start = c .before .before .before .before .before .before .before .before .before .before in
+    slot-walk _ _ (at-start .pre .1) (if2 .left)
+    (sym (all-zero .ensures) ∙ not-false _ (if3 .left)) _ _ (walk .ensures) (whole .ensures)
 
 pub slot-fits-spec : {M : Type 1} → statement M
 slot-fits-spec =

@@ -1,5 +1,5 @@
--- `valid::walk` meets its contract. The invariant is `Head`: the forest is that of the words from i on. The measure is i.
--- Assumes nothing.
+-- `valid::walk` meets its contract. The invariant is `Head`: the forest is that of the words from i on. The measure
+-- is i. Assumes nothing.
 use native.Mathlib.Omega.{arith}
 use Rattle.table.specs.Index.{tableIn}
 use Rattle.monitor.proofs.valid.WalkTurn.{Head, reach-few, head-first, head-few, head-next, head-done}
@@ -14,7 +14,9 @@ abbrev μ-loop : tie.MeasureT-loop
 μ-loop list work slot n forest₀ i₀ forest i = i
 
 loop-holds : tie.Need-loop-holds Inv-loop μ-loop
-loop-holds c = head-first _ _ _ (c .before .before .before .pre .1 .0) (c .before .before .before .pre .1 .1)
+loop-holds c =
+    let at-start = c .before .before .before in
+    head-first _ _ _ (at-start .pre .1 .0) (at-start .pre .1 .1)
 
 mul-plant : tie.Need-mul-plant Inv-loop μ-loop
 mul-plant c = omega (arith, c .before .loop .inv .at-most)
@@ -23,7 +25,11 @@ shared-slice-read-plant : tie.Need-shared-slice-read-plant Inv-loop μ-loop
 shared-slice-read-plant c = omega (arith, c .before .before .loop .inv .at-most)
 
 plant-requires : tie.Need-plant-requires Inv-loop μ-loop
-plant-requires c κs = (c .before .before .before .before .before .before .pre .0, head-few _ _ _ (c .before .before .before .before .before .before .pre .1 .0) (c .before .before .before .before .before .before .pre .1 .1) _ _ (c .before .loop-test .taken) (c .before .before .loop .inv))
+plant-requires c κs =
+    let loop-test = c .before .loop-test in
+    let turn = c .before .before .loop in
+    let at-start = c .before .before .before .before .before .before in
+    (at-start .pre .0, head-few _ _ _ (at-start .pre .1 .0) (at-start .pre .1 .1) _ _ (loop-test .taken) (turn .inv))
 
 sub-i : tie.Need-sub-i Inv-loop μ-loop
 sub-i c = search needs
@@ -33,11 +39,18 @@ loop-less c = search needs
 
 loop-again : tie.Need-loop-again Inv-loop μ-loop
 loop-again c =
-    head-next _ _ _ (c .before .before .before .before .before .before .before .pre .1 .0) (c .before .before .before .before .before .before .before .pre .1 .1) (reach-few (c .before .before .before .before .before .before .before .pre .0)) _ _ _
-    (c .before .before .loop-test .taken) (c .before .before .before .loop .inv) (c .plant .ensures)
+    let plant = c .plant in
+    let loop-test = c .before .before .loop-test in
+    let turn = c .before .before .before .loop in
+    let at-start = c .before .before .before .before .before .before .before in
+    head-next _ _ _ (at-start .pre .1 .0) (at-start .pre .1 .1) (reach-few (at-start .pre .0)) _ _ _
+    (loop-test .taken) (turn .inv) (plant .ensures)
 
 returns : tie.Need-returns Inv-loop μ-loop
-returns c = head-done _ _ _ (c .before .before .before .before .before .pre .1 .0) (c .before .before .before .before .before .pre .1 .1) _ _ (omega arith) (c .before .loop .inv)
+returns c =
+    let turn = c .before .loop in
+    let at-start = c .before .before .before .before .before in
+    head-done _ _ _ (at-start .pre .1 .0) (at-start .pre .1 .1) _ _ (omega arith) (turn .inv)
 
 pub walk-spec : {M : Type 1} → statement M
 walk-spec =

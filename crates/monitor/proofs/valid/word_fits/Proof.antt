@@ -29,10 +29,15 @@ memory-fits-requires c κs = search needs
 
 returns-2 : tie.Need-returns-2
 returns-2 c =
-    let w = c .before .before .before .before .before .before .before .before .args .w in
-    known-term _ _ _ _ (c .before .before .before .before .before .term-of .ensures) (omega arith)
-    (c .memory-fits .ensures
-    ∙ ap₂ (λ (a c : ℕ). memoryFits a c (memoryOf w)) (c .before .before .alphabet .ensures .0) (c .before .enclosing .ensures .0))
+    let memory-fits = c .memory-fits in
+    let enclosing = c .before .enclosing in
+    let alphabet = c .before .before .alphabet in
+    let term-of = c .before .before .before .before .before .term-of in
+    let at-start = c .before .before .before .before .before .before .before .before in
+    let w = at-start .args .w in
+    known-term _ _ _ _ (term-of .ensures) (omega arith)
+    (memory-fits .ensures
+    ∙ ap₂ (λ (a c : ℕ). memoryFits a c (memoryOf w)) (alphabet .ensures .0) (enclosing .ensures .0))
 
 pub word-fits-spec : {M : Type 1} → statement M
 word-fits-spec =

@@ -65,16 +65,32 @@ part-result-end-5 : tie.Need-part-result-end-5
 part-result-end-5 c = search needs
 
 returns-2 : tie.Need-returns-2
-returns-2 c = view-even _ _ _ (c .before .before .before .before .enum-told2 .given .1) (c .before .before .if1 .taken) (c .before .if2 .taken)
+returns-2 c =
+    let if2 = c .before .if2 in
+    let if1 = c .before .before .if1 in
+    let enum-told2 = c .before .before .before .before .enum-told2 in
+    view-even _ _ _ (enum-told2 .given .1) (if1 .taken) (if2 .taken)
 
 returns-3 : tie.Need-returns-3
-returns-3 c = view-even-over _ _ _ (c .before .before .before .before .enum-told2 .given .1) (c .before .before .if1 .taken) (c .before .if2 .left)
+returns-3 c =
+    let if2 = c .before .if2 in
+    let if1 = c .before .before .if1 in
+    let enum-told2 = c .before .before .before .before .enum-told2 in
+    view-even-over _ _ _ (enum-told2 .given .1) (if1 .taken) (if2 .left)
 
 returns-4 : tie.Need-returns-4
-returns-4 c = view-odd _ _ _ (c .before .before .before .before .enum-told2 .given .1) (c .before .before .if1 .left) (c .before .if3 .taken)
+returns-4 c =
+    let if3 = c .before .if3 in
+    let if1 = c .before .before .if1 in
+    let enum-told2 = c .before .before .before .before .enum-told2 in
+    view-odd _ _ _ (enum-told2 .given .1) (if1 .left) (if3 .taken)
 
 returns-5 : tie.Need-returns-5
-returns-5 c = view-odd-over _ _ _ (c .before .before .before .before .enum-told2 .given .1) (c .before .before .if1 .left) (c .before .if3 .left)
+returns-5 c =
+    let if3 = c .before .if3 in
+    let if1 = c .before .before .if1 in
+    let enum-told2 = c .before .before .before .before .enum-told2 in
+    view-odd-over _ _ _ (enum-told2 .given .1) (if1 .left) (if3 .left)
 
 pub view-spec : {M : Type 1} → statement M
 view-spec =

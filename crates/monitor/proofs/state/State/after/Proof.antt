@@ -14,7 +14,11 @@ fail-requires : tie.Need-fail-requires
 fail-requires c κs = search needs
 
 returns : tie.Need-returns
-returns c = after-none _ _ _ (c .before .before .if1 .taken) (c .fail .ensures ∙ ap failing (c .before .take .ensures))
+returns c =
+    let fail = c .fail in
+    let take = c .before .take in
+    let if1 = c .before .before .if1 in
+    after-none _ _ _ (if1 .taken) (fail .ensures ∙ ap failing (take .ensures))
 
 take-requires-2 : tie.Need-take-requires-2
 take-requires-2 c κs = search needs
@@ -23,7 +27,13 @@ hold-requires : tie.Need-hold-requires
 hold-requires c κs = search needs
 
 returns-2 : tie.Need-returns-2
-returns-2 c = after-some _ _ _ (c .before .before .if1 .left) (c .hold .ensures ∙ ap (λ (s : State). holding s (c .before .before .before .args .count)) (c .before .take2 .ensures))
+returns-2 c =
+    let hold = c .hold in
+    let take2 = c .before .take2 in
+    let if1 = c .before .before .if1 in
+    let at-start = c .before .before .before in
+    after-some _ _ _ (if1 .left)
+    (hold .ensures ∙ ap (λ (s : State). holding s (at-start .args .count)) (take2 .ensures))
 
 pub after-spec : {M : Type 1} → statement M
 after-spec =

@@ -15,12 +15,16 @@ enum-known-self c = search needs
 
 add-t6 : tie.Need-add-t6
 add-t6 c =
-    let b = subst (λ (f : Forest). Few f 14) (c .before .self .given .1) (c .before .before .before .pre .0) in
+    let trees = c .before .self in
+    let at-start = c .before .before .before in
+    let b = subst (λ (f : Forest). Few f 14) (trees .given .1) (at-start .pre .0) in
     omega (arith, b .0, b .1)
 
 add-t7 : tie.Need-add-t7
 add-t7 c =
-    let b = subst (λ (f : Forest). Few f 14) (c .before .self .given .1) (c .before .before .before .pre .0) in
+    let trees = c .before .self in
+    let at-start = c .before .before .before in
+    let b = subst (λ (f : Forest). Few f 14) (trees .given .1) (at-start .pre .0) in
     omega (arith, b .0, b .1)
 
 returns : tie.Need-returns
