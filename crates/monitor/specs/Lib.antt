@@ -1,28 +1,5 @@
--- The monitor's specification, in reading order: residuals and their words, the state, the operations, lists of
--- calls; the worked examples; what is claimed. Last, what only the laws and proofs use. Assumes nothing.
-pub mod Residual
-pub mod Slots
-pub mod Valid
-pub mod State
-pub mod Consistent
-pub mod Fold
-pub mod Feed
-pub mod Start
-pub mod Offer
-pub mod View
-pub mod Joined
-pub mod Meaning
-pub mod Proper
-pub mod Sensible
-pub mod History
-pub mod Stops
-pub mod Offers
-pub mod Examples
-pub mod Cases
-pub mod Buffers
+-- What the monitor's code promises in terms of its specification (crate monitor_spec), in reading order. Assumes
+-- nothing.
 pub mod Record
+pub mod Answers
 pub mod Walk
-pub mod Claims
-pub mod Part
-pub mod Regular
-pub mod Expected

@@ -4,7 +4,7 @@
 --     counted, failing, holding        one event more; failed; so many residuals held
 --     Successor                        the record after an event
 --     lengthsFit                       lent lengths, as numbers
--- The laws are in `Record/Laws.antt`. Assumes nothing.
+-- The laws are in `Record/`: `Laws`; `View`, of what View hands back. Assumes nothing.
 use Prim.Native.Nat.{ℕ, suc, _%_}
 use mathlib.Core.Path.{_≡_}
 use mathlib.Core.Bool.{Bool, _&&_}
@@ -14,9 +14,10 @@ use lib.Dec.{eqb, leb}
 use Rattle.monitor.specs.declared.state.Verdict.{Verdict as VerdictCode}
 use Rattle.monitor.specs.declared.state.Verdict.the-variants.{Running, Failed}
 use Rattle.monitor.specs.declared.state.State.{State as StateCode}
-use Rattle.monitor.specs.State.{Verdict, running, failedAt, State, Monitor}
-use Rattle.monitor.specs.Feed.{taking}
+use Rattle.monitor_spec.specs.State.{Verdict, running, failedAt, State, Monitor}
+use Rattle.monitor_spec.specs.Feed.{taking}
 pub mod Laws
+pub mod View
 
 -- "running or failed at a place"
 abbrev pub verdictOf : VerdictCode → Verdict

@@ -16,8 +16,8 @@ use Rattle.table.specs.Node.{termOf as nodeTerm}
 use Rattle.table.specs.Width.{reach}
 use Rattle.monitor.specs.declared.valid.Forest.{Forest}
 use Rattle.monitor.specs.declared.valid.Forest.the-variants.{Broken, Trees}
-use Rattle.monitor.specs.Slots.{termOf, memoryOf}
-use Rattle.monitor.specs.Valid.{memoryFits}
+use Rattle.monitor_spec.specs.Slots.{termOf, memoryOf}
+use Rattle.monitor_spec.specs.Valid.{memoryFits}
 pub mod Laws
 pub mod Words
 pub mod Spelling

@@ -1,5 +1,8 @@
 // The monitor of CSP_E tables: residuals, Start, Feed, Offer, View (document 01, "Residuals",
-// "Operations"). The definitions are in `specs/`; `specs/Lib.antt` lists them in reading order.
+// "Operations"). What each operation comes to is defined in crate monitor_spec; `specs/Lib.antt`
+// lists what the code says in those terms.
+mod answer;
+mod clear;
 mod consistent;
 mod lengths;
 mod state;
@@ -7,6 +10,8 @@ mod valid;
 mod viewer;
 mod words;
 
+pub use answer::Answer;
+pub use answer::Offered;
 pub use state::State;
 pub use state::Verdict;
 pub use viewer::view;

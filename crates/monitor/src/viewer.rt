@@ -1,7 +1,7 @@
 // View: the part of an area that holds the residuals (document 01, "Operations").
 ghost use mathlib.Core.Path.{_≡_};
 ghost use Rattle.monitor.specs.Record.{monitorOf};
-ghost use Rattle.monitor.specs.View.{viewOf};
+ghost use Rattle.monitor_spec.specs.View.{viewOf};
 use crate::state::State;
 use crate::state::Verdict;
 

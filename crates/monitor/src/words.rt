@@ -3,7 +3,7 @@
 ghost use mathlib.Core.Path.{_≡_};
 ghost use Prim.Native.Nat.{_<_};
 ghost use Rattle.table.specs.Memory.{digit as digitOf};
-ghost use Rattle.monitor.specs.Slots.{termOf, memoryOf};
+ghost use Rattle.monitor_spec.specs.Slots.{termOf, memoryOf};
 
 // The term of a node word.
 pub fn term_of(w: u64) -> usize

@@ -11,11 +11,11 @@ use borrow.Author.Tests.{lt-ltb, le-ltb, le-leb, lt-leb}
 use Rattle.table.specs.Table.{Table}
 use Rattle.monitor.specs.declared.state.State.{State}
 use Rattle.monitor.specs.declared.state.Verdict.the-variants.{Running, Failed}
-use Rattle.monitor.specs.State.{Verdict, slotCount, even, choose, chunks}
-use Rattle.monitor.specs.Valid.{validSlot}
-use Rattle.monitor.specs.Consistent.{every, ascends, allZero, verdictFits, recordFits, areaFits, consistent}
-use Rattle.monitor.specs.Consistent.Reading.{verdict-room}
-use Rattle.monitor.specs.View.Cases.{present-even, present-odd}
+use Rattle.monitor_spec.specs.State.{Verdict, slotCount, even, choose, chunks}
+use Rattle.monitor_spec.specs.Valid.{validSlot}
+use Rattle.monitor_spec.specs.Consistent.{every, ascends, allZero, verdictFits, recordFits, areaFits, consistent}
+use Rattle.monitor_spec.specs.Consistent.Reading.{verdict-room}
+use Rattle.monitor.specs.Record.View.{present-even, present-odd}
 use Rattle.monitor.specs.Record.{verdictOf, stateOf, monitorOf}
 
 not-above : (c n : ℕ) → leb c n ≡ not (ltb n c)

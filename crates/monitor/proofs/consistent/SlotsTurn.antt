@@ -6,10 +6,10 @@ use mathlib.Core.Bool.{Bool, true, false, _&&_}
 use mathlib.Core.List.{List, [], _∷_}
 use lib.ListN.{length, take, drop, length-take, length-drop}
 use lib.Seq.{drop-drop}
-use Rattle.monitor.specs.Slots.{compareWords}
-use Rattle.monitor.specs.Valid.{isBelow}
-use Rattle.monitor.specs.State.{chunks}
-use Rattle.monitor.specs.Consistent.{every, ascendsFrom, ascends}
+use Rattle.monitor_spec.specs.Slots.{compareWords}
+use Rattle.monitor_spec.specs.Valid.{isBelow}
+use Rattle.monitor_spec.specs.State.{chunks}
+use Rattle.monitor_spec.specs.Consistent.{every, ascendsFrom, ascends}
 
 -- a part of an area, from p up to q
 abbrev pub part : ℕ → ℕ → List ℕ → List ℕ

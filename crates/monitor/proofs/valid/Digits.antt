@@ -4,8 +4,8 @@ use native.Mathlib.Omega.{arith}
 use mathlib.Core.Path.{_≡_, refl, ap, sym, _∙_}
 use mathlib.Core.Bool.{Bool, true, false}
 use Rattle.table.specs.Memory.{Memory, digit}
-use Rattle.monitor.specs.Slots.{memoryOf}
-use Rattle.monitor.specs.Valid.{digitFits, memoryFits}
+use Rattle.monitor_spec.specs.Slots.{memoryOf}
+use Rattle.monitor_spec.specs.Valid.{digitFits, memoryFits}
 
 -- ---- of a word
 

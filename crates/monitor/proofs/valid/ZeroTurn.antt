@@ -8,7 +8,7 @@ use lib.ListN.{length, getD, drop, drop-of-length-le}
 use lib.Seq.{drop-cons}
 use lib.Dec.{eqb}
 use borrow.Author.Tests.{eq-eqb, ne-eqb}
-use Rattle.monitor.specs.Consistent.{every, allZero}
+use Rattle.monitor_spec.specs.Consistent.{every, allZero}
 
 zero-cons : (x : ℕ) (l : List ℕ) → allZero (x ∷ l) ≡ (eqb x 0 && allZero l)
 unfolding allZero every

@@ -5,8 +5,8 @@ use mathlib.Core.Path.{_≡_, refl, ap, sym, _∙_}
 use mathlib.Core.Bool.{_&&_}
 use mathlib.Core.List.{List, [], _∷_}
 use lib.ListN.{length}
-use Rattle.monitor.specs.State.{Verdict, running, failedAt, State, Monitor, areasMeasured, workMeasured}
-use Rattle.monitor.specs.Feed.{nextVerdict, taking}
+use Rattle.monitor_spec.specs.State.{Verdict, running, failedAt, State, Monitor, areasMeasured, workMeasured}
+use Rattle.monitor_spec.specs.Feed.{nextVerdict, taking}
 use Rattle.monitor.specs.Record.{counted, failedBy, failing, holding, Successor, lengthsFit}
 
 -- ---- the record after an event

@@ -11,9 +11,9 @@ use Rattle.table.specs.Node.{termOf as nodeTerm, kindOf}
 use Rattle.table.specs.Width.{reach}
 use Rattle.monitor.specs.declared.valid.Forest.{Forest}
 use Rattle.monitor.specs.declared.valid.Forest.the-variants.{Broken, Trees}
-use Rattle.monitor.specs.Slots.{termOf, memoryOf}
-use Rattle.monitor.specs.Valid.{memoryFits}
-use Rattle.monitor.specs.Valid.Laws.{and-split}
+use Rattle.monitor_spec.specs.Slots.{termOf, memoryOf}
+use Rattle.monitor_spec.specs.Valid.{memoryFits}
+use Rattle.monitor_spec.specs.Valid.Laws.{and-split}
 use Rattle.monitor.specs.Walk.{Few, withLeaf, joined, wordFits, plantedBy, planted}
 
 -- ---- few trees

@@ -18,13 +18,13 @@ use Rattle.table.specs.Memory.{Memory}
 use Rattle.table.specs.Width.{reach}
 use Rattle.monitor.specs.declared.valid.Forest.{Forest}
 use Rattle.monitor.specs.declared.valid.Forest.the-variants.{Broken, Trees}
-use Rattle.monitor.specs.Part.Numbers.{number-at, number-below}
-use Rattle.monitor.specs.Proper.Laws.{reachAt-at}
-use Rattle.monitor.specs.Residual.{Residual, leaf, pair}
-use Rattle.monitor.specs.Slots.{termOf, memoryOf}
-use Rattle.monitor.specs.Valid.{joinTrees, plant, plantWord, forest, memoryFits, memoriesFit, reachSum}
-use Rattle.monitor.specs.Valid.Laws.{plant-none, plant-some, forest-none, forest-some}
-use Rattle.monitor.specs.Consistent.{every}
+use Rattle.monitor_spec.specs.Part.Numbers.{number-at, number-below}
+use Rattle.monitor_spec.specs.Proper.Laws.{reachAt-at}
+use Rattle.monitor_spec.specs.Residual.{Residual, leaf, pair}
+use Rattle.monitor_spec.specs.Slots.{termOf, memoryOf}
+use Rattle.monitor_spec.specs.Valid.{joinTrees, plant, plantWord, forest, memoryFits, memoriesFit, reachSum}
+use Rattle.monitor_spec.specs.Valid.Laws.{plant-none, plant-some, forest-none, forest-some}
+use Rattle.monitor_spec.specs.Consistent.{every}
 use Rattle.monitor.specs.Walk.{withLeaf, joined, wordFits, plantedBy, planted, walked}
 use Rattle.monitor.specs.Walk.Laws.{joined-few, joined-two, planted-unfit, planted-fit, unknown-term, known-term}
 

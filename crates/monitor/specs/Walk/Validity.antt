@@ -14,15 +14,15 @@ use lib.Dec.{leb}
 use borrow.Author.Tests.{ne-eqb}
 use Rattle.table.specs.Table.{Table}
 use Rattle.monitor.specs.declared.valid.Forest.{Forest}
-use Rattle.monitor.specs.Residual.{Residual}
-use Rattle.monitor.specs.Slots.{Order, below, same, above, nodes, slotOf, compareWords}
-use Rattle.monitor.specs.Slots.Comparison.{cmp-refl, same-eq}
-use Rattle.monitor.specs.Valid.{forest, oneTree, memoriesFit, reachSum}
-use Rattle.monitor.specs.Valid.{isSame, validSlot}
-use Rattle.monitor.specs.Valid.Laws.{slot-none, slot-some, valid-none, valid-at}
-use Rattle.monitor.specs.State.Areas.{zero-zeros}
-use Rattle.monitor.specs.Consistent.{every, allZero}
-use Rattle.monitor.specs.Consistent.Reading.{zero-split}
+use Rattle.monitor_spec.specs.Residual.{Residual}
+use Rattle.monitor_spec.specs.Slots.{Order, below, same, above, nodes, slotOf, compareWords}
+use Rattle.monitor_spec.specs.Slots.Comparison.{cmp-refl, same-eq}
+use Rattle.monitor_spec.specs.Valid.{forest, oneTree, memoriesFit, reachSum}
+use Rattle.monitor_spec.specs.Valid.{isSame, validSlot}
+use Rattle.monitor_spec.specs.Valid.Laws.{slot-none, slot-some, valid-none, valid-at}
+use Rattle.monitor_spec.specs.State.Areas.{zero-zeros}
+use Rattle.monitor_spec.specs.Consistent.{every, allZero}
+use Rattle.monitor_spec.specs.Consistent.Reading.{zero-split}
 use Rattle.monitor.specs.Walk.{walked, isWhole}
 use Rattle.monitor.specs.Walk.Words.{one-words}
 use Rattle.monitor.specs.Walk.Spelling.{reachAll, countedIf, kept, walked-forest}

@@ -10,10 +10,10 @@ use mathlib.Core.List.{List, [], _∷_, _++_, append-assoc, append-nil}
 use mathlib.Core.Option.{Option, none, some}
 use Rattle.table.specs.Table.{Table, Term, stop, fail, prefix, choice, par, call, termAt}
 use Rattle.table.specs.Memory.{Memory}
-use Rattle.monitor.specs.Residual.{Residual, leaf, pair}
-use Rattle.monitor.specs.Slots.{pack, termOf, memoryOf, nodes}
-use Rattle.monitor.specs.Valid.{joinTrees, plant, plantWord, forest}
-use Rattle.monitor.specs.Valid.Laws.{some-same, none-some, plant-none, plant-some, forest-none, forest-some}
+use Rattle.monitor_spec.specs.Residual.{Residual, leaf, pair}
+use Rattle.monitor_spec.specs.Slots.{pack, termOf, memoryOf, nodes}
+use Rattle.monitor_spec.specs.Valid.{joinTrees, plant, plantWord, forest}
+use Rattle.monitor_spec.specs.Valid.Laws.{some-same, none-some, plant-none, plant-some, forest-none, forest-some}
 
 pub pack-word : (w : ℕ) → pack (termOf w) (memoryOf w) ≡ w
 unfolding pack termOf memoryOf

@@ -4,8 +4,8 @@ use native.Mathlib.Omega.{arith}
 use Prim.Native.Nat.{_+_, _-_, _*_, _≤_}
 use mathlib.Core.Path.{_≡_, refl, ap, sym, _∙_}
 use borrow.Author.Tests.{not-true, not-false}
-use Rattle.monitor.specs.State.{chunks}
-use Rattle.monitor.specs.Consistent.{ascends}
+use Rattle.monitor_spec.specs.State.{chunks}
+use Rattle.monitor_spec.specs.Consistent.{ascends}
 use Rattle.monitor.proofs.consistent.SlotsTurn.{part-length, slotsFrom, slots-first}
 use Rattle.monitor.proofs.consistent.SlotsTurn.{ascends-next, ascends-not, ascends-done}
 use borrow.Author.Needs.{needs}

@@ -5,9 +5,9 @@ use Prim.Native.Nat.{_+_, _-_, _*_, _≤_}
 use mathlib.Core.Path.{_≡_, refl, ap, sym, _∙_}
 use borrow.Author.Tests.{not-true, not-false}
 use Rattle.table.specs.Index.{tableIn}
-use Rattle.monitor.specs.State.{chunks}
-use Rattle.monitor.specs.Valid.{validSlot}
-use Rattle.monitor.specs.Consistent.{every}
+use Rattle.monitor_spec.specs.State.{chunks}
+use Rattle.monitor_spec.specs.Valid.{validSlot}
+use Rattle.monitor_spec.specs.Consistent.{every}
 use Rattle.monitor.proofs.consistent.SlotsTurn.{part-length, slotsFrom, slots-first}
 use Rattle.monitor.proofs.consistent.SlotsTurn.{every-next, every-not, every-done}
 use borrow.Author.Needs.{needs}

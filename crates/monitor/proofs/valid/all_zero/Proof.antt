@@ -3,7 +3,7 @@
 use Prim.Native.Nat.{_-_}
 use mathlib.Core.Path.{_≡_, refl, _∙_}
 use lib.ListN.{length, drop}
-use Rattle.monitor.specs.Consistent.{allZero}
+use Rattle.monitor_spec.specs.Consistent.{allZero}
 use Rattle.monitor.proofs.valid.ZeroTurn.{zero-next, zero-not, zero-done}
 use borrow.Author.Needs.{needs}
 use Rattle.monitor.proofs.valid.all_zero.Statement.{statement}

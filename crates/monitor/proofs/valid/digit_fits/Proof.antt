@@ -1,7 +1,7 @@
 -- `valid::digit_fits` meets its contract: the tests of each return say which part of `digitFits` decides. Assumes
 -- nothing.
 use borrow.Author.Tests.{lt-ltb, le-ltb}
-use Rattle.monitor.specs.Valid.{digitFits}
+use Rattle.monitor_spec.specs.Valid.{digitFits}
 use Rattle.monitor.proofs.valid.digit_fits.Statement.{statement}
 use Rattle.monitor.proofs.valid.digit_fits.Tie as tie
 

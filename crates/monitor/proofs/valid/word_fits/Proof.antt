@@ -2,8 +2,8 @@
 use native.Mathlib.Omega.{arith}
 use Prim.Native.Nat.{ℕ}
 use mathlib.Core.Path.{ap₂, _∙_}
-use Rattle.monitor.specs.Slots.{memoryOf}
-use Rattle.monitor.specs.Valid.{memoryFits}
+use Rattle.monitor_spec.specs.Slots.{memoryOf}
+use Rattle.monitor_spec.specs.Valid.{memoryFits}
 use Rattle.monitor.specs.Walk.Laws.{unknown-term, known-term}
 use borrow.Author.Needs.{needs}
 use Rattle.monitor.proofs.valid.word_fits.Statement.{statement}

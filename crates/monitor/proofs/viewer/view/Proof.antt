@@ -1,5 +1,5 @@
 -- `viewer::view` meets its contract: verdict, parity and count say which case of `viewOf` holds. Assumes nothing.
-use Rattle.monitor.specs.View.Cases.{view-failed, view-even, view-even-over, view-odd, view-odd-over}
+use Rattle.monitor.specs.Record.View.{view-failed, view-even, view-even-over, view-odd, view-odd-over}
 use borrow.Author.Needs.{needs}
 use Rattle.monitor.proofs.viewer.view.Statement.{statement}
 use Rattle.monitor.proofs.viewer.view.Tie as tie

@@ -1,6 +1,6 @@
 -- `words::term_of` meets its contract, which is its code. Assumes nothing.
 use mathlib.Core.Path.{refl}
-use Rattle.monitor.specs.Slots.{termOf}
+use Rattle.monitor_spec.specs.Slots.{termOf}
 use Rattle.monitor.proofs.words.term_of.Statement.{statement}
 use Rattle.monitor.proofs.words.term_of.Tie as tie
 

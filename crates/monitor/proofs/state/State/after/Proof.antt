@@ -1,6 +1,6 @@
 -- `State::after` meets its contract: with no residual left it fails, else it holds them. Assumes nothing.
 use mathlib.Core.Path.{ap, _∙_}
-use Rattle.monitor.specs.State.{State}
+use Rattle.monitor_spec.specs.State.{State}
 use Rattle.monitor.specs.Record.{failing, holding}
 use Rattle.monitor.specs.Record.Laws.{after-none, after-some}
 use borrow.Author.Needs.{needs}

@@ -1,0 +1,139 @@
+-- A fresh monitor is the one that the empty list calls for: what Start gives, case by case. Assumes nothing.
+--     start-measured, start-unmeasured, start-room, start-exceeded   Start's outcome, by its tests
+--     fresh-began                                                    the record and areas that a Start gave
+use Prim.Native.Nat.{ℕ, _%_, _≤_}
+use native.Mathlib.Omega.{arith}
+use mathlib.Core.Path.{_≡_, refl, ap, sym, _∙_}
+use mathlib.Core.Bool.{Bool, true, false, _&&_}
+use mathlib.Core.List.{List, []}
+use lib.ListN.{length}
+use lib.Dec.{eqb, ltb, leb}
+use borrow.Author.Tests.{leb-true, ltb-false}
+use Rattle.table.specs.Table.{Table}
+use Rattle.table.specs.Judge.{accepted, judgeList}
+use Rattle.table.specs.Operations.{zeros}
+use Rattle.meaning.specs.Figure1.{count, last}
+use Rattle.monitor_spec.specs.Residual.{resolveDef, run, fromDefinition, residualsOf}
+use Rattle.monitor_spec.specs.Slots.{slotsOf}
+use Rattle.monitor_spec.specs.Valid.Laws.{and-split}
+use Rattle.monitor_spec.specs.State.{running, State, Monitor, Answer, given, refused, Outcome}
+use Rattle.monitor_spec.specs.State.{areasMeasured, workMeasured, slotCount, even, choose, fill, laid}
+use Rattle.monitor_spec.specs.Feed.{nextVerdict}
+use Rattle.monitor_spec.specs.Start.{startAccepted, startJudged, startOf}
+use Rattle.monitor_spec.specs.Expected.{verdictOf, monitorAfter}
+use Rattle.monitor_spec.specs.Expected.Verdicts.{verdict-now}
+use Rattle.monitor_spec.specs.Expected.Steps.{Fed}
+use Rattle.monitor_spec.specs.History.{Fresh}
+
+pub start-measured : (l ns : List ℕ) (t : Table) → judgeList l ≡ accepted ns t → (a b work : List ℕ)
+    → (areasMeasured a b && workMeasured work) ≡ true → startOf l a b work ≡ startAccepted t a b work
+unfolding startOf startJudged
+start-measured l ns t says a b work e = rw (e, says, startOf)
+
+pub start-unmeasured : (l a b work : List ℕ) → (areasMeasured a b && workMeasured work) ≡ false
+    → startOf l a b work .answer ≡ refused 1 0
+unfolding startOf
+start-unmeasured l a b work e = rw (e, startOf)
+
+-- what Start gives where the slots suffice
+unfoldable pub begun : Table → ℕ → ℕ → Outcome
+begun t n k =
+    record {
+      answer = given (record {
+        taken = 0;
+        count = length (slotsOf (residualsOf t []));
+        verdict = nextVerdict running 0 (slotsOf (residualsOf t []));
+      });
+      area0 = fill n (slotsOf (residualsOf t []));
+      area1 = fill n [];
+      work = zeros k;
+    }
+
+pub start-room : (t : Table) (a b work : List ℕ) → ltb (slotCount a) (length (slotsOf (residualsOf t []))) ≡ false
+    → startAccepted t a b work ≡ begun t (slotCount a) (length work)
+unfolding startAccepted begun
+start-room t a b work e = rw (e, startAccepted)
+
+pub start-exceeded : (t : Table) (a b work : List ℕ) → ltb (slotCount a) (length (slotsOf (residualsOf t []))) ≡ true
+    → startAccepted t a b work .answer ≡ refused 13 0
+unfolding startAccepted
+start-exceeded t a b work e = rw (e, startAccepted)
+
+pub not-given : {X : Type 0} {x : Answer} {s : State} (n p : ℕ) → x ≡ refused n p → x ≡ given s → X
+not-given n p e f = absurd (let z : _≡_ {A = ℕ} 0 1 = cc in omega arith)
+
+given-same : (x y : State) → given x ≡ given y → x ≡ y
+given-same x y e = cc
+
+now-verdict : (t : Table) → nextVerdict running 0 (slotsOf (residualsOf t [])) ≡ verdictOf t []
+unfolding verdictOf residualsOf fromDefinition run
+now-verdict t = sym (verdict-now t (resolveDef t (count t) (last t)) 0)
+
+begun-after : (t : Table) (n : ℕ)
+    → record {
+      state = record {
+        taken = 0;
+        count = length (slotsOf (residualsOf t []));
+        verdict = nextVerdict running 0 (slotsOf (residualsOf t []));
+      };
+      area0 = fill n (slotsOf (residualsOf t []));
+      area1 = fill n [];
+    } ≡ monitorAfter t n []
+unfolding monitorAfter laid even choose
+begun-after t n i = record {
+  state = record { taken = 0; count = length (slotsOf (residualsOf t [])); verdict = now-verdict t i };
+  area0 = fill n (slotsOf (residualsOf t []));
+  area1 = fill n [];
+}
+
+pub record Began (t : Table) (n : ℕ) (fresh : Monitor) : Type 0 where
+  pub low : 1 ≤ n
+  pub high : n ≤ 256
+  pub fed : Fed t n []
+  pub same : fresh ≡ monitorAfter t n []
+
+slots-range : (a b : List ℕ) → areasMeasured a b ≡ true → (1 ≤ slotCount a) × (slotCount a ≤ 256)
+unfolding areasMeasured slotCount
+slots-range a b e =
+    let (x, y) = and-split (eqb (length a) (length b)) _ e in
+    let (z, w) = and-split (eqb (length a % 16) 0) _ y in
+    let (u, v) = and-split (leb 16 (length a)) (leb (length a) 4096) w in
+    let g = leb-true 16 (length a) u in
+    let h = leb-true (length a) 4096 v in
+    (omega arith, omega arith)
+
+began-same : (l : List ℕ) (t : Table) (a b work : List ℕ) (fresh : Monitor) → Fresh l a b work fresh
+    → startOf l a b work ≡ begun t (slotCount a) (length work) → fresh ≡ monitorAfter t (slotCount a) []
+unfolding begun
+began-same l t a b work fresh f o =
+    let s0 : State = record {
+      taken = 0;
+      count = length (slotsOf (residualsOf t []));
+      verdict = nextVerdict running 0 (slotsOf (residualsOf t []));
+    } in
+    let s : fresh .state ≡ s0 = given-same (fresh .state) s0 (sym (f .gave) ∙ ap (λ (z : Outcome). z .answer) o) in
+    let x : fresh .area0 ≡ fill (slotCount a) (slotsOf (residualsOf t [])) =
+    sym (f .gave0) ∙ ap (λ (z : Outcome). z .area0) o in
+    let y : fresh .area1 ≡ fill (slotCount a) [] = sym (f .gave1) ∙ ap (λ (z : Outcome). z .area1) o in
+    (λ i. record { state = s i; area0 = x i; area1 = y i }) ∙ begun-after t (slotCount a)
+
+pub fresh-began : (l ns : List ℕ) (t : Table) → judgeList l ≡ accepted ns t → (a b work : List ℕ) (fresh : Monitor)
+    → Fresh l a b work fresh
+    → Began t (slotCount a) fresh
+fresh-began l ns t says a b work fresh f =
+    by (areasMeasured a b && workMeasured work) refl (ltb (slotCount a) (length (slotsOf (residualsOf t [])))) refl
+  where
+    by : (x : Bool) → (areasMeasured a b && workMeasured work) ≡ x → (y : Bool)
+        → ltb (slotCount a) (length (slotsOf (residualsOf t []))) ≡ y → Began t (slotCount a) fresh
+    by false e y g = not-given 1 0 (start-unmeasured l a b work e) (f .gave)
+    by true e true g = not-given 13 0 (ap (λ (o : Outcome). o .answer) (start-measured l ns t says a b work e)
+        ∙ start-exceeded t a b work g) (f .gave)
+    by true e false g =
+        let (m, w) = and-split (areasMeasured a b) (workMeasured work) e in
+        let (i, j) = slots-range a b m in
+        record {
+          low = i;
+          high = j;
+          fed = record { known = tt; room = ltb-false (slotCount a) _ g };
+          same = began-same l t a b work fresh f (start-measured l ns t says a b work e ∙ start-room t a b work g);
+        }

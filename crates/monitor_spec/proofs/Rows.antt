@@ -1,0 +1,100 @@
+-- The worked examples hold, by computing. Assumes nothing.
+use mathlib.Core.Path.{refl}
+use mathlib.Core.List.{flatMap}
+use Rattle.table.specs.Table.{size, sizes, bodyOf, bodyNumber, termIn, termOfDefs, termAt}
+use Rattle.table.specs.Table.{prefixesIn, enclosingIn, enclosing}
+use Rattle.numbers.specs.Number.{listBytes, bytesOf, groups}
+use Rattle.table.specs.Tokens.{listTokens, trailing, placeOf}
+use Rattle.table.specs.Parser.{number, pure, next, andThen, times}
+use Rattle.table.specs.Grammar.{events, row, setOfKind, set, refOfKind, setRef, termOfKind, termWith, definition}
+use Rattle.table.specs.Grammar.{definitionsOf, table}
+use Rattle.table.specs.Writing.{rowNumbers, setNumbers, refNumbers, termNumbers, definitionNumbers, numbersOf}
+use Rattle.table.specs.First.{orElse, unless}
+use Rattle.table.specs.References.{levelIn, paramFits, callFits, wrongRef, wrongIn, wrongFrom, firstWrong}
+use Rattle.table.specs.Grow.{grow}
+use Rattle.table.specs.Width.{widthWith, widest, callWidth, nextWidth, allWidths, levelWidth, reach, firstAbove}
+use Rattle.table.specs.Width.{tooWide}
+use Rattle.table.specs.Branches.{branchesWith, lookup, bodyIn, nextBranches, allBranches, followerAbove, bodyAbove}
+use Rattle.table.specs.Branches.{tooManyBranches}
+use Rattle.table.specs.Judge.{unlessMet, placed, judgeRead, judge, sized, judgeList}
+use Rattle.table.specs.Memory.{digit, remember}
+use Rattle.table.specs.Member.{elem, rowIn, rowOf, inRow, recalled, member}
+use Rattle.meaning.specs.Figure1.{count}
+use Rattle.monitor_spec.specs.Residual.{pairs, resolveIn, resolveDef, resolve, afterLeaf, afterPair, after, afterAll}
+use Rattle.monitor_spec.specs.Residual.{run}
+use Rattle.monitor_spec.specs.Residual.{fromDefinition, residualsOf}
+use Rattle.monitor_spec.specs.Slots.{pack, termOf, memoryOf, nodes, slotOf, compareWords, insert, canon, slotsOf}
+use Rattle.monitor_spec.specs.Valid.{joinTrees, plant, plantWord, forest, oneTree, slotResidual, held, digitFits}
+use Rattle.monitor_spec.specs.Valid.{memoryFits, memoriesFit, reachAt, reachSum, validSlot}
+use Rattle.monitor_spec.specs.State.{areasMeasured, workMeasured, slotCount, even, choose, chunks, concat, fill}
+use Rattle.monitor_spec.specs.Consistent.{every, allZero, ascendsFrom, ascends, verdictFits, recordFits, areaFits}
+use Rattle.monitor_spec.specs.Consistent.{consistent}
+use Rattle.monitor_spec.specs.Fold.{through}
+use Rattle.monitor_spec.specs.Feed.{presentSlots, nextSlots, nextVerdict, taking, takeEvent, endingOf, refusing}
+use Rattle.monitor_spec.specs.Feed.{feedAccepted, feedJudged, feedOf}
+use Rattle.monitor_spec.specs.Start.{startAccepted, startJudged, startOf}
+use Rattle.monitor_spec.specs.Offer.{bitOf, bitsBelow, offerBits, offering, offerJudged, offerOf}
+use Rattle.monitor_spec.specs.View.{viewBy, viewOf}
+use Rattle.monitor_spec.specs.History.{standing, callOn, history}
+use Rattle.monitor_spec.specs.Examples.{drawn, feedAfter, startAndFeed, rows, saysAll}
+use Rattle.monitor_spec.specs.Cases.{fed, afterCalls, afterStart, cases, casesHold}
+use Rattle.monitor_spec.specs.Buffers.{BuffersStand}
+
+pub marked : saysAll rows
+unfolding flatMap size sizes bodyOf bodyNumber termIn termOfDefs termAt prefixesIn enclosingIn enclosing
+    listBytes bytesOf groups listTokens trailing placeOf number pure next andThen times
+    events row setOfKind set refOfKind setRef termOfKind termWith definition definitionsOf table
+    rowNumbers setNumbers refNumbers termNumbers definitionNumbers numbersOf orElse unless
+    levelIn paramFits callFits wrongRef wrongIn wrongFrom firstWrong grow
+    widthWith widest callWidth nextWidth allWidths levelWidth reach firstAbove tooWide
+    branchesWith lookup bodyIn nextBranches allBranches followerAbove bodyAbove tooManyBranches
+    unlessMet placed judgeRead judge sized judgeList digit remember elem rowIn rowOf inRow recalled member count
+    pairs resolveIn resolveDef resolve afterLeaf afterPair after afterAll run fromDefinition residualsOf
+    pack termOf memoryOf nodes slotOf compareWords insert canon slotsOf
+    joinTrees plant plantWord forest oneTree slotResidual held digitFits memoryFits memoriesFit reachAt reachSum
+    validSlot
+    areasMeasured workMeasured slotCount even choose chunks concat fill
+    every allZero ascendsFrom ascends verdictFits recordFits areaFits consistent through
+    presentSlots nextSlots nextVerdict taking takeEvent endingOf refusing feedAccepted feedJudged feedOf
+    startAccepted startJudged startOf drawn feedAfter startAndFeed
+marked = refl
+
+pub further : casesHold cases
+unfolding flatMap size sizes bodyOf bodyNumber termIn termOfDefs termAt prefixesIn enclosingIn enclosing
+    listBytes bytesOf groups listTokens trailing placeOf number pure next andThen times
+    events row setOfKind set refOfKind setRef termOfKind termWith definition definitionsOf table
+    rowNumbers setNumbers refNumbers termNumbers definitionNumbers numbersOf orElse unless
+    levelIn paramFits callFits wrongRef wrongIn wrongFrom firstWrong grow
+    widthWith widest callWidth nextWidth allWidths levelWidth reach firstAbove tooWide
+    branchesWith lookup bodyIn nextBranches allBranches followerAbove bodyAbove tooManyBranches
+    unlessMet placed judgeRead judge sized judgeList digit remember elem rowIn rowOf inRow recalled member count
+    pairs resolveIn resolveDef resolve afterLeaf afterPair after afterAll run fromDefinition residualsOf
+    pack termOf memoryOf nodes slotOf compareWords insert canon slotsOf
+    joinTrees plant plantWord forest oneTree slotResidual held digitFits memoryFits memoriesFit reachAt reachSum
+    validSlot
+    areasMeasured workMeasured slotCount even choose chunks concat fill
+    every allZero ascendsFrom ascends verdictFits recordFits areaFits consistent through
+    presentSlots nextSlots nextVerdict taking takeEvent endingOf refusing feedAccepted feedJudged feedOf
+    startAccepted startJudged startOf drawn feedAfter startAndFeed
+    standing callOn history fed afterCalls afterStart
+further = refl
+
+pub outcomes-stand : BuffersStand
+unfolding flatMap size sizes bodyOf bodyNumber termIn termOfDefs termAt prefixesIn enclosingIn enclosing
+    listBytes bytesOf groups listTokens trailing placeOf number pure next andThen times
+    events row setOfKind set refOfKind setRef termOfKind termWith definition definitionsOf table
+    rowNumbers setNumbers refNumbers termNumbers definitionNumbers numbersOf orElse unless
+    levelIn paramFits callFits wrongRef wrongIn wrongFrom firstWrong grow
+    widthWith widest callWidth nextWidth allWidths levelWidth reach firstAbove tooWide
+    branchesWith lookup bodyIn nextBranches allBranches followerAbove bodyAbove tooManyBranches
+    unlessMet placed judgeRead judge sized judgeList digit remember elem rowIn rowOf inRow recalled member count
+    pairs resolveIn resolveDef resolve afterLeaf afterPair after afterAll run fromDefinition residualsOf
+    pack termOf memoryOf nodes slotOf compareWords insert canon slotsOf
+    joinTrees plant plantWord forest oneTree slotResidual held digitFits memoryFits memoriesFit reachAt reachSum
+    validSlot
+    areasMeasured workMeasured slotCount even choose chunks concat fill
+    every allZero ascendsFrom ascends verdictFits recordFits areaFits consistent through
+    presentSlots nextSlots nextVerdict taking takeEvent endingOf refusing feedAccepted feedJudged feedOf
+    startAccepted startJudged startOf drawn feedAfter startAndFeed
+    bitOf bitsBelow offerBits offering offerJudged offerOf viewBy viewOf
+outcomes-stand = (refl, refl, refl)

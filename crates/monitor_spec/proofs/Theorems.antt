@@ -1,0 +1,153 @@
+-- A proof of each claim of `specs/Claims.antt`. Assumes nothing.
+use Prim.Native.Nat.{ℕ}
+use mathlib.Core.Path.{_≡_, ap, sym, subst, _∙_}
+use mathlib.Core.List.{List, []}
+use mathlib.Core.Bool.{true}
+use mathlib.Core.Option.{some}
+use Rattle.table.specs.Table.{Table}
+use Rattle.table.specs.Judge.{accepted, judgeList}
+use Rattle.table.specs.Judge.Laws.{list-out}
+use Rattle.monitor_spec.specs.Part.Numbers.{number-at}
+use Rattle.monitor_spec.specs.Regular.{Regular}
+use Rattle.monitor_spec.specs.Regular.Laws.{regular}
+use Rattle.monitor_spec.specs.Residual.Traces.{traces-run, traces-definition}
+use Rattle.monitor_spec.specs.Residual.{Residual}
+use Rattle.monitor_spec.specs.Residual.Calls.{resolveDef-body}
+use Rattle.monitor_spec.specs.Residual.Counts.{resolve-length}
+use Rattle.monitor_spec.specs.Valid.{slotResidual, validSlot}
+use Rattle.monitor_spec.specs.Valid.Laws.{valid-proper, proper-valid}
+use Rattle.monitor_spec.specs.Valid.Residuals.{read-back}
+use Rattle.monitor_spec.specs.State.{Monitor, areasMeasured, workMeasured, slotCount}
+use Rattle.monitor_spec.specs.Consistent.{consistent}
+use Rattle.monitor_spec.specs.Consistent.Reading.{consistent-laid}
+use Rattle.monitor_spec.specs.Consistent.Laws.{laid-still}
+use Rattle.monitor_spec.specs.Joined.{joined}
+use Rattle.monitor_spec.specs.Expected.{monitorAfter}
+use Rattle.monitor_spec.specs.Stops.{JudgesOne}
+use Rattle.monitor_spec.specs.Expected.Steps.{Fed}
+use Rattle.monitor_spec.specs.History.Laws.{fed-joined}
+use Rattle.monitor_spec.specs.Claims.{ResidualsAreTraces, DefinitionsAreTraces, LastIsTraces, ResolvesBranches}
+use Rattle.monitor_spec.specs.Claims.{StartExceeds}
+use Rattle.monitor_spec.specs.Claims.{CallsResolve, SlotsTell, ValidExactly, ConsistentExactly}
+use Rattle.monitor_spec.specs.Claims.{Judges, Answers, Histories, OffersTraces, ViewsResiduals, FeedKeeps}
+use Rattle.monitor_spec.specs.Claims.{Examples, Cases, Buffers}
+use Rattle.monitor_spec.proofs.Endings.{T-true, true-T}
+use Rattle.monitor_spec.proofs.Exceeds.{start-exceeds-exactly}
+use Rattle.monitor_spec.proofs.Histories.{reached, history-holds}
+use Rattle.monitor_spec.proofs.Verdicts.{held-some}
+use Rattle.monitor_spec.proofs.Answers.{answers-one, judges-one}
+use Rattle.monitor_spec.proofs.Offers.{offers-after, views-after}
+use Rattle.monitor_spec.proofs.Keeps.{call-keeps}
+use Rattle.monitor_spec.proofs.Rows.{marked, further, outcomes-stand}
+
+-- an accepted list is a table that keeps the rules
+accepts : (l ns : List ℕ) (t : Table) → judgeList l ≡ accepted ns t → Regular t
+accepts l ns t says = regular t (list-out l ns t says .rules)
+
+pub residuals-are-traces : ResidualsAreTraces
+unfolding ResidualsAreTraces
+residuals-are-traces t rules H model rs h s = traces-run t (regular t rules) H model rs h s
+
+pub definitions-are-traces : DefinitionsAreTraces
+unfolding DefinitionsAreTraces
+definitions-are-traces t rules H model d h s = traces-definition t (regular t rules) H model d h s
+
+pub last-is-traces : LastIsTraces
+unfolding LastIsTraces
+last-is-traces t rules H model s = held-some t (regular t rules) H model s
+
+pub calls-resolve : CallsResolve
+unfolding CallsResolve
+calls-resolve t rules d h = resolveDef-body t (regular t rules) d h
+
+pub slots-tell : SlotsTell
+unfolding SlotsTell
+slots-tell t rules r q x y e =
+    let reg = regular t rules in
+    some-same r q (sym (read-back t reg r x) ∙ ap (slotResidual t) e ∙ read-back t reg q y)
+  where
+    some-same : (u v : Residual) → some u ≡ some v → u ≡ v
+    some-same u v p = cc
+
+pub valid-exactly : ValidExactly
+unfolding ValidExactly
+valid-exactly t rules w = (
+  λ h. let s = valid-proper t w (T-true (validSlot t w) h) in (s .residual, s .words, s .proper),
+  λ h. true-T (validSlot t w)
+      (subst (λ (z : List ℕ). validSlot t z ≡ true) (h .1) (proper-valid t (regular t rules) (h .0) (h .2))),
+)
+
+pub consistent-exactly : ConsistentExactly
+unfolding ConsistentExactly
+consistent-exactly t rules m a =
+    let reg = regular t rules in (
+      λ h. consistent-laid t reg m (T-true (areasMeasured (m .area0) (m .area1)) a) (T-true (consistent t m) h),
+      λ l. true-T (consistent t m) (laid-still t reg (slotCount (m .area0)) m l),
+    )
+
+pub resolves-branches : ResolvesBranches
+unfolding ResolvesBranches
+resolves-branches t rules n m p e = resolve-length t rules m (number-at t n p e .stands)
+
+pub start-exceeds : StartExceeds
+unfolding StartExceeds
+start-exceeds l ns t says a b work = start-exceeds-exactly l ns t says a b work
+
+pub judges : Judges
+unfolding Judges
+judges l ns t says a b work fresh f H model s work′ =
+    let reg = accepts l ns t says in
+    let g = reached l ns t says reg a b work fresh f [] in
+    let n : ℕ = slotCount a in
+    let c : slotCount (monitorAfter t n [] .area0) ≡ n =
+    ap (λ (m : Monitor). slotCount (m .area0)) (sym (g .same)) ∙ g .slots in
+    subst (λ (m : Monitor). JudgesOne l t H m s work′) (sym (g .same))
+    (judges-one l ns t says reg n (g .low) (g .high) (g .fed) c H model s work′)
+
+pub answers : Answers
+unfolding Answers joined
+answers l ns t says a b work fresh f calls es w =
+    let reg = accepts l ns t says in
+    let g = reached l ns t says reg a b work fresh f calls in
+    let n : ℕ = slotCount a in
+    rw (g .slots, g .after)
+    (answers-one t reg n (joined t n calls) (fed-joined t reg n calls [] (g .fed)) l ns says (g .low) (g .high) es w)
+
+pub histories : Histories
+unfolding Histories
+histories l ns t says a b work fresh f calls H model =
+    history-holds l ns t says (accepts l ns t says) a b work fresh f calls H model
+
+pub offers-traces : OffersTraces
+unfolding OffersTraces joined
+offers-traces l ns t says a b work fresh f calls H model w h =
+    let reg = accepts l ns t says in
+    let g = reached l ns t says reg a b work fresh f calls in
+    let n : ℕ = slotCount a in
+    let d : Fed t n (joined t n calls) = fed-joined t reg n calls [] (g .fed) in
+    rw (g .slots, g .after)
+    (offers-after l ns t says reg n (g .low) (g .high) (joined t n calls) d H model w (T-true (workMeasured w) h))
+
+pub views-residuals : ViewsResiduals
+unfolding ViewsResiduals joined
+views-residuals l ns t says a b work fresh f calls =
+    let reg = accepts l ns t says in
+    let g = reached l ns t says reg a b work fresh f calls in
+    let n : ℕ = slotCount a in
+    rw (g .slots, g .after) (views-after l ns t says reg n (joined t n calls) (fed-joined t reg n calls [] (g .fed)))
+
+pub feed-keeps : FeedKeeps
+unfolding FeedKeeps
+feed-keeps l ns t says m c h = true-T _ (call-keeps l ns t says (accepts l ns t says) m c (T-true (consistent t m) h))
+
+pub examples : Examples
+unfolding Examples
+examples = marked
+
+pub cases : Cases
+unfolding Cases
+cases = further
+
+pub buffers : Buffers
+unfolding Buffers
+buffers = outcomes-stand

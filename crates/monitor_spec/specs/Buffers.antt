@@ -1,0 +1,139 @@
+-- What stands in each lent buffer after a call (01, "Operations", "When the monitor declines"): whole outcomes of
+-- Start, Feed, Offer and View. No other claim sees the work words, the length 8,192 or the areas of a refused Start;
+-- these rows do.
+--     Left, outcomes      what Start and Feed leave, beside what is expected
+--     Shown, offered      what Offer leaves;  Part, views: what View hands back
+-- Assumes nothing.
+use Prim.Native.Nat.{ℕ}
+use mathlib.Core.Path.{_≡_}
+use mathlib.Core.List.{List, [], _∷_, _++_, map}
+use lib.ListN.{replicate}
+use Rattle.table.specs.Table.{fixed, stop, choice, par}
+use Rattle.table.specs.Operations.{zeros}
+use Rattle.monitor_spec.specs.State.{Verdict, running, failedAt, Monitor, Answer, given, refused, stopped, Outcome}
+use Rattle.monitor_spec.specs.Feed.{feedOf}
+use Rattle.monitor_spec.specs.Start.{startOf}
+use Rattle.monitor_spec.specs.Offer as Offer
+use Rattle.monitor_spec.specs.Offer.{OfferOutcome, offerOf}
+use Rattle.monitor_spec.specs.View.{viewOf}
+use Rattle.monitor_spec.specs.Examples.{tableB, drawn, a, b}
+use Rattle.monitor_spec.specs.Cases.{st, oneNode, threeNodes, word}
+
+-- words that nobody wrote
+abbrev sevens : ℕ → List ℕ
+sevens n = replicate n 7
+
+abbrev mon : ℕ → ℕ → Verdict → List ℕ → List ℕ → Monitor
+mon k c v x y = record { state = st k c v; area0 = x; area1 = y }
+
+pub record Left : Type 0 where
+  pub got : Outcome
+  pub expected : Outcome
+
+abbrev leaves : Outcome → Answer → List ℕ → List ℕ → List ℕ → Left
+leaves o r x y w = record { got = o; expected = record { answer = r; area0 = x; area1 = y; work = w } }
+
+-- K7 and K8; B with a number left over
+abbrev seven : List ℕ
+seven = drawn (choice (a stop) (a (b stop)))
+
+abbrev eight : List ℕ
+eight = drawn (par (fixed 2) (a stop) (a stop))
+
+abbrev trailing : List ℕ
+trailing = tableB ++ 0 ∷ []
+
+-- the slots of K7 at Start
+abbrev both : List ℕ
+both = oneNode (word 1 0) ++ oneNode (word 3 0)
+
+abbrev pub outcomes : List Left
+outcomes =
+    -- Feed, refusal 1: everything is kept, the work area too; its length is 8,192 exactly
+    leaves (feedOf tableB (mon 0 1 running (oneNode 0) (zeros 16)) (0 ∷ []) (sevens 8191))
+    (refused 1 0) (oneNode 0) (zeros 16) (sevens 8191)
+    ∷ leaves (feedOf tableB (mon 0 1 running (oneNode 0) (zeros 16)) (0 ∷ []) (sevens 8193))
+    (refused 1 0) (oneNode 0) (zeros 16) (sevens 8193)
+    ∷ leaves (feedOf trailing (mon 0 1 running (sevens 24) (sevens 24)) [] (sevens 8192))
+    (refused 1 0) (sevens 24) (sevens 24) (sevens 8192)
+    -- 2 to 9, then 10: the areas are kept, the work area is zero
+    ∷ leaves (feedOf trailing (mon 0 1 running (sevens 16) (sevens 16)) (9 ∷ []) (sevens 8192))
+    (refused 6 16) (sevens 16) (sevens 16) (zeros 8192)
+    ∷ leaves (feedOf tableB (mon 0 1 running (sevens 16) (sevens 16)) (9 ∷ []) (sevens 8192))
+    (refused 10 0) (sevens 16) (sevens 16) (zeros 8192)
+    -- 11 at place 1: the areas after the event taken; a result after two, the memory of the called body all 0
+    ∷ leaves (feedOf tableB (mon 0 1 running (oneNode 0) (zeros 16)) (0 ∷ 9 ∷ []) (sevens 8192))
+    (stopped 11 1 (st 1 1 running)) (zeros 16) (oneNode (word 1 0)) (zeros 8192)
+    ∷ leaves (feedOf tableB (mon 0 1 running (oneNode 0) (zeros 16)) (0 ∷ 1 ∷ []) (sevens 8192))
+    (given (st 2 1 running)) (oneNode 0) (zeros 16) (zeros 8192)
+    -- 13 at place 0: two residuals after the event, one slot; the residual before it still stands
+    ∷ leaves (feedOf eight (mon 0 1 running (threeNodes (word 0 0) (word 1 0) (word 3 0)) (zeros 16)) (0 ∷ [])
+    (sevens 8192))
+    (stopped 13 0 (st 0 1 running)) (threeNodes (word 0 0) (word 1 0) (word 3 0)) (zeros 16) (zeros 8192)
+    -- failed: both areas zero
+    ∷ leaves (feedOf tableB (mon 4 1 running (oneNode 0) (zeros 16)) (2 ∷ []) (sevens 8192))
+    (given (st 5 0 (failedAt 5))) (zeros 16) (zeros 16) (zeros 8192)
+    -- two slots ascending, and the same descending
+    ∷ leaves (feedOf seven (mon 0 2 running both (zeros 32)) [] (sevens 8192))
+    (given (st 0 2 running)) both (zeros 32) (zeros 8192)
+    ∷ leaves (feedOf seven (mon 0 2 running (oneNode (word 3 0) ++ oneNode (word 1 0)) (zeros 32)) [] (sevens 8192))
+    (refused 10 0) (oneNode (word 3 0) ++ oneNode (word 1 0)) (zeros 32) (zeros 8192)
+    -- Start: a result; capacity exceeded; 2 to 9; 1
+    ∷ leaves (startOf seven (sevens 32) (sevens 32) (sevens 8192))
+    (given (st 0 2 running)) both (zeros 32) (zeros 8192)
+    ∷ leaves (startOf seven (sevens 16) (sevens 16) (sevens 8192))
+    (refused 13 0) (zeros 16) (zeros 16) (zeros 8192)
+    ∷ leaves (startOf trailing (sevens 16) (sevens 16) (sevens 8192))
+    (refused 6 16) (sevens 16) (sevens 16) (zeros 8192)
+    ∷ leaves (startOf seven (sevens 16) (sevens 32) (sevens 8192))
+    (refused 1 0) (sevens 16) (sevens 32) (sevens 8192)
+    ∷ []
+
+pub record Shown : Type 0 where
+  pub got : OfferOutcome
+  pub expected : OfferOutcome
+
+abbrev shows : OfferOutcome → Offer.Offered → List ℕ → List ℕ → List ℕ → Shown
+shows o r x y w = record { got = o; expected = record { answer = r; area0 = x; area1 = y; work = w } }
+
+-- "areas kept"; "0 after failure"; "crowded or not": with one slot too
+abbrev pub offered : List Shown
+offered =
+    shows (offerOf seven (mon 0 2 running both (zeros 32)) (sevens 8192)) (Offer.offers 1) both (zeros 32)
+    (zeros 8192)
+    ∷ shows (offerOf tableB (mon 1 1 running (zeros 16) (oneNode (word 1 0))) (sevens 8192))
+    (Offer.offers 2) (zeros 16) (oneNode (word 1 0)) (zeros 8192)
+    ∷ shows (offerOf eight (mon 0 1 running (threeNodes (word 0 0) (word 1 0) (word 3 0)) (zeros 16)) (sevens 8192))
+    (Offer.offers 1) (threeNodes (word 0 0) (word 1 0) (word 3 0)) (zeros 16) (zeros 8192)
+    ∷ shows (offerOf tableB (mon 3 0 (failedAt 2) (zeros 16) (zeros 16)) (sevens 8192)) (Offer.offers 0) (zeros 16)
+    (zeros 16) (zeros 8192)
+    ∷ shows (offerOf tableB (mon 3 0 (failedAt 4) (zeros 16) (zeros 16)) (sevens 8192)) (Offer.refused 10 0)
+    (zeros 16) (zeros 16) (zeros 8192)
+    ∷ shows (offerOf trailing (mon 3 0 (failedAt 4) (sevens 16) (zeros 16)) (sevens 8192)) (Offer.refused 6 16)
+    (sevens 16) (zeros 16) (zeros 8192)
+    ∷ shows (offerOf trailing (mon 3 0 (failedAt 4) (sevens 16) (zeros 16)) (sevens 1)) (Offer.refused 1 0)
+    (sevens 16) (zeros 16) (sevens 1)
+    ∷ []
+
+pub record Part : Type 0 where
+  pub got : List ℕ
+  pub expected : List ℕ
+
+abbrev viewed : Monitor → List ℕ → Part
+viewed m x = record { got = viewOf m; expected = x }
+
+-- any lengths, any record
+abbrev pub views : List Part
+views =
+    viewed (mon 0 1 running (oneNode 0 ++ sevens 3) []) (oneNode 0)
+    ∷ viewed (mon 1 1 running (sevens 16) (oneNode 0)) (oneNode 0)
+    ∷ viewed (mon 1 2 running (sevens 64) (oneNode 0)) []
+    ∷ viewed (mon 0 1 (failedAt 0) (sevens 64) []) []
+    ∷ viewed (mon 0 0 running (sevens 64) []) []
+    ∷ []
+
+abbrev pub BuffersStand : Type 0
+BuffersStand =
+    (map (λ (x : Left). x .got) outcomes ≡ map (λ (x : Left). x .expected) outcomes)
+    × (map (λ (x : Shown). x .got) offered ≡ map (λ (x : Shown). x .expected) offered)
+    × (map (λ (x : Part). x .got) views ≡ map (λ (x : Part). x .expected) views)

@@ -1,0 +1,183 @@
+-- Further worked cases (ours, from 01's sentences): memories, calls, one residual from two sides, the counter, lists
+-- of calls, inconsistent states; refusals 1 and 10 to 13 with their places.
+--     Case, is         what was got beside what is expected
+--     started, fed     Start and one Feed; Feed on a record and two areas as they are;  after: a list of calls
+-- Assumes nothing.
+use Prim.Native.Nat.{ℕ, _+_, _*_}
+use mathlib.Core.Path.{_≡_}
+use mathlib.Core.List.{List, [], _∷_, _++_, map}
+use lib.ListN.{replicate}
+use Rattle.table.specs.Table.{fixed, family, Term, stop, prefix, par, call, one, each, Definition}
+use Rattle.table.specs.Table.{SetDef}
+use Rattle.table.specs.Writing.{numbersOf}
+use Rattle.table.specs.Operations.{zeros}
+use Rattle.monitor_spec.specs.State.{Verdict, running, failedAt, State, Answer, given, refused, stopped}
+use Rattle.monitor_spec.specs.State.{Outcome}
+use Rattle.monitor_spec.specs.Feed.{counterMost, feedOf}
+use Rattle.monitor_spec.specs.Start.{startOf}
+use Rattle.monitor_spec.specs.Joined.{Call}
+use Rattle.monitor_spec.specs.History.{history}
+use Rattle.monitor_spec.specs.Examples.{tableB, drawn, a, b, startAndFeed}
+
+pub record Case : Type 0 where
+  pub got : Answer
+  pub expected : Answer
+
+abbrev pub is : Answer → Answer → Case
+is x y = record { got = x; expected = y }
+
+abbrev pub st : ℕ → ℕ → Verdict → State
+st k c v = record { taken = k; count = c; verdict = v }
+
+abbrev pub said : ℕ → ℕ → Verdict → Answer
+said k c v = given (st k c v)
+
+-- Feed on a record and two areas, as they are
+unfoldable pub fed : List ℕ → State → List ℕ → List ℕ → List ℕ → Answer
+fed l s x y es = feedOf l (record { state = s; area0 = x; area1 = y }) es (zeros 8192) .answer
+
+-- the record after Start with so many slots and then these calls
+unfoldable pub afterCalls : List ℕ → Outcome → Answer → List Call → Answer
+afterCalls l o (given s) cs = given (history l (record { state = s; area0 = o .area0; area1 = o .area1 }) cs .state)
+afterCalls l o (refused n p) cs = refused n p
+afterCalls l o (stopped n p s) cs = stopped n p s
+
+unfoldable pub afterStart : ℕ → List ℕ → List Call → Answer
+afterStart n l cs =
+    let o = startOf l (zeros (n * 16)) (zeros (n * 16)) (zeros 8192) in
+    afterCalls l o (o .answer) cs
+
+-- a call with a work area of the right length, of any words; one with a wrong length
+abbrev pub feeds : List ℕ → Call
+feeds es = record { events = es; work = replicate 8192 7 }
+
+abbrev pub short : List ℕ → Call
+short es = record { events = es; work = replicate 8191 7 }
+
+abbrev pub def : ℕ → Term → Definition
+def l p = record { level = l; body = p }
+
+-- A = 3
+abbrev pub table3 : List SetDef → List Definition → List ℕ
+table3 ss ds = numbersOf (record { alphabet = 3; sets = ss; definitions = ds })
+
+-- x in {0,1} to STOP, twice, over {}
+abbrev twice : List ℕ
+twice = table3 (one (0 ∷ 1 ∷ []) ∷ one [] ∷ [])
+    (def 0 (par (fixed 1) (prefix (fixed 0) stop) (prefix (fixed 0) stop)) ∷ [])
+
+-- x in {0,1}, then (1 to 1 to STOP) parallel over row x of ({1},{0},{}) (1 to STOP)
+abbrev rowed : List ℕ
+rowed =
+    table3 (one (0 ∷ 1 ∷ []) ∷ each ((1 ∷ []) ∷ (0 ∷ []) ∷ [] ∷ []) ∷ one (1 ∷ []) ∷ [])
+    (def 0 (prefix (fixed 0) (par (family 1 0) (prefix (fixed 2) (prefix (fixed 2) stop)) (prefix (fixed 2) stop)))
+    ∷ [])
+
+-- P = 0 to P; P parallel over {} P
+abbrev loops : List ℕ
+loops =
+    table3 (one (0 ∷ []) ∷ one [] ∷ [])
+    (def 0 (prefix (fixed 0) (call 0)) ∷ def 1 (par (fixed 1) (call 0) (call 0)) ∷ [])
+
+-- a guarded call of a higher definition number
+abbrev higher : List ℕ
+higher = table3 (one (0 ∷ []) ∷ []) (def 0 (prefix (fixed 0) (call 1)) ∷ def 0 stop ∷ def 1 (call 0) ∷ [])
+
+-- eight STOPs in parallel; 0 to those
+abbrev wide : List ℕ
+wide =
+    let two = par (fixed 0) stop stop in
+    let four = par (fixed 0) two two in
+    table3 (one (0 ∷ []) ∷ []) (def 0 (par (fixed 0) four four) ∷ def 0 (prefix (fixed 0) (call 0)) ∷ [])
+
+-- one slot with one node, and one with three
+abbrev pub oneNode : ℕ → List ℕ
+oneNode w = 1 ∷ w ∷ zeros 14
+
+abbrev pub threeNodes : ℕ → ℕ → ℕ → List ℕ
+threeNodes u v w = 3 ∷ u ∷ v ∷ w ∷ zeros 12
+
+-- the node word of a term and the nearest event
+abbrev pub word : ℕ → ℕ → ℕ
+word n d = n * 16777216 + d * 262144
+
+-- x in {0,1}
+abbrev any : Term → Term
+any p = prefix (fixed 3) p
+
+-- an event set of a parameter k, behind four prefixes
+abbrev behind : ℕ → List ℕ
+behind k = drawn (any (any (any (any (prefix (family 4 k) stop)))))
+
+abbrev pub cases : List Case
+cases =
+    -- "STOP and a prefix give themselves with their memory": STOP after 0 and after 1 are two residuals
+    is (startAndFeed 4 twice (0 ∷ 1 ∷ [])) (said 2 2 running)
+    -- a pair's memory is "kept through later events"
+    ∷ is (startAndFeed 4 rowed (0 ∷ 1 ∷ [])) (said 2 1 running)
+    ∷ is (startAndFeed 4 rowed (0 ∷ 1 ∷ 1 ∷ [])) (said 3 0 (failedAt 3))
+    ∷ is (startAndFeed 4 rowed (1 ∷ 1 ∷ [])) (said 2 2 running)
+    ∷ is (startAndFeed 4 rowed (1 ∷ 1 ∷ 1 ∷ 1 ∷ [])) (said 4 1 running)
+    -- "A residual already held is not held twice": the same from both sides
+    ∷ is (startAndFeed 1 loops (0 ∷ [])) (said 1 1 running)
+    -- a follower may call a higher definition number
+    ∷ is (startAndFeed 1 higher (0 ∷ [])) (said 1 1 running)
+    ∷ is (startAndFeed 1 higher (0 ∷ 0 ∷ [])) (said 2 0 (failedAt 2))
+    -- "memory (e, m0, m1, m2)": parameters 0 and 3
+    ∷ is (startAndFeed 1 (behind 0) (1 ∷ 1 ∷ 1 ∷ 0 ∷ 1 ∷ [])) (said 5 1 running)
+    ∷ is (startAndFeed 1 (behind 3) (0 ∷ 1 ∷ 1 ∷ 1 ∷ 1 ∷ [])) (said 5 1 running)
+    ∷ is (startAndFeed 1 (behind 3) (0 ∷ 1 ∷ 1 ∷ 1 ∷ 0 ∷ [])) (said 5 0 (failedAt 5))
+    -- "Later events are taken; the place stays."
+    ∷ is (startAndFeed 1 tableB (0 ∷ 0 ∷ 1 ∷ [])) (said 3 0 (failedAt 2))
+    -- 11: place "events taken by this call", also after failure
+    ∷ is (startAndFeed 1 tableB (0 ∷ 9 ∷ 1 ∷ [])) (stopped 11 1 (st 1 1 running))
+    ∷ is (startAndFeed 1 tableB (1 ∷ 3 ∷ [])) (stopped 11 1 (st 1 0 (failedAt 1)))
+    -- 13 at place 0 and at place 1: K8, and 1 to K8
+    ∷ is (startAndFeed 1 (drawn (par (fixed 2) (a stop) (a stop))) (0 ∷ [])) (stopped 13 0 (st 0 1 running))
+    ∷ is (startAndFeed 1 (drawn (b (par (fixed 2) (a stop) (a stop)))) (1 ∷ 0 ∷ [])) (stopped 13 1 (st 1 1 running))
+    -- lists of calls: one event at a time; a refused event is left out; a wrong work length adds none
+    ∷ is (afterStart 1 tableB []) (said 0 1 running)
+    ∷ is (afterStart 1 tableB (feeds (0 ∷ []) ∷ feeds (0 ∷ []) ∷ [])) (said 2 0 (failedAt 2))
+    ∷ is (afterStart 1 tableB (feeds (0 ∷ 9 ∷ []) ∷ feeds [] ∷ feeds (1 ∷ 0 ∷ []) ∷ [])) (said 3 1 running)
+    ∷ is (afterStart 1 tableB (feeds (0 ∷ []) ∷ short (0 ∷ []) ∷ feeds (1 ∷ []) ∷ [])) (said 2 1 running)
+    ∷ is (afterStart 1 (drawn (b (par (fixed 2) (a stop) (a stop)))) (feeds (1 ∷ 0 ∷ []) ∷ feeds (2 ∷ []) ∷ []))
+    (said 2 0 (failedAt 2))
+    -- the counter: 11 before 12, 12 only with an event
+    ∷ is (fed tableB (st counterMost 1 running) (zeros 16) (oneNode 0) []) (said counterMost 1 running)
+    ∷ is (fed tableB (st counterMost 1 running) (zeros 16) (oneNode 0) (3 ∷ []))
+    (stopped 11 0 (st counterMost 1 running))
+    ∷ is (fed tableB (st counterMost 1 running) (zeros 16) (oneNode 0) (0 ∷ []))
+    (stopped 12 0 (st counterMost 1 running))
+    ∷ is (fed tableB (st 18446744073709551614 1 running) (oneNode 0) (zeros 16) (0 ∷ 1 ∷ []))
+    (stopped 12 1 (st counterMost 1 running))
+    -- 10: the wrong parity; failed above taken; residuals after failure; running with none, or more than fit
+    ∷ is (fed tableB (st 1 1 running) (oneNode 0) (zeros 16) []) (refused 10 0)
+    ∷ is (fed tableB (st 1 0 (failedAt 2)) (zeros 16) (zeros 16) []) (refused 10 0)
+    ∷ is (fed tableB (st 5 0 (failedAt 0)) (zeros 16) (zeros 16) (0 ∷ [])) (said 6 0 (failedAt 0))
+    ∷ is (fed tableB (st 1 1 (failedAt 1)) (zeros 16) (oneNode 0) []) (refused 10 0)
+    ∷ is (fed tableB (st 0 0 running) (zeros 16) (zeros 16) []) (refused 10 0)
+    ∷ is (fed tableB (st 0 2 running) (oneNode 0) (zeros 16) []) (refused 10 0)
+    -- valid: the second prefix with its event; not: an event of 3, one beyond the enclosing prefixes, a call, no such
+    -- term
+    ∷ is (fed tableB (st 0 1 running) (oneNode (word 1 2)) (zeros 16) (1 ∷ [])) (said 1 1 running)
+    ∷ is (fed tableB (st 0 1 running) (oneNode (word 1 3)) (zeros 16) []) (refused 10 0)
+    ∷ is (fed tableB (st 0 1 running) (oneNode (word 0 1)) (zeros 16) []) (refused 10 0)
+    ∷ is (fed tableB (st 0 1 running) (oneNode (word 2 0)) (zeros 16) []) (refused 10 0)
+    ∷ is (fed tableB (st 0 1 running) (oneNode (word 3 0)) (zeros 16) []) (refused 10 0)
+    -- equal slots twice; fewer counted than there are; the node count wrong; the other area not zero
+    ∷ is (fed tableB (st 0 2 running) (oneNode 0 ++ oneNode 0) (zeros 32) []) (refused 10 0)
+    ∷ is (fed tableB (st 0 1 running) (oneNode 0 ++ oneNode (word 1 0)) (zeros 32) []) (refused 10 0)
+    ∷ is (fed tableB (st 0 1 running) (2 ∷ 0 ∷ zeros 14) (zeros 16) []) (refused 10 0)
+    ∷ is (fed tableB (st 0 1 running) (oneNode 0) (zeros 15 ++ 1 ∷ []) []) (refused 10 0)
+    -- "the leaves' reach sums to at most 8": the prefix beside a STOP has 8 + 1; a pair of two STOPs stands
+    ∷ is (fed wide (st 0 1 running) (threeNodes (word 0 0) (word 3 0) (word 15 0)) (zeros 16) []) (refused 10 0)
+    ∷ is (fed wide (st 0 1 running) (threeNodes (word 0 0) (word 3 0) (word 4 0)) (zeros 16) []) (said 0 1 running)
+    -- 1: lent lengths, before everything else; then 2 to 9, before 10
+    ∷ is (fed tableB (st 0 1 running) (zeros 8) (zeros 8) []) (refused 1 0)
+    ∷ is (fed tableB (st 0 1 running) (oneNode 0) (zeros 32) []) (refused 1 0)
+    ∷ is (fed (tableB ++ 0 ∷ []) (st 0 0 running) (zeros 8) (zeros 8) []) (refused 1 0)
+    ∷ is (fed (tableB ++ 0 ∷ []) (st 0 0 running) (zeros 16) (zeros 16) []) (refused 6 16)
+    ∷ []
+
+abbrev pub casesHold : List Case → Type 0
+casesHold cs = map (λ (c : Case). c .got) cs ≡ map (λ (c : Case). c .expected) cs

@@ -1,0 +1,165 @@
+-- What is proved of the monitor's definitions: statements only. The proofs are in `proofs/Theorems.antt`, under the
+-- same names.
+--     ResidualsAreTraces      of every list of residual trees
+--     DefinitionsAreTraces    from every definition;  LastIsTraces: from the last
+--     CallsResolve            a call resolves to what the body does
+--     ResolvesBranches        resolving lists as many residuals as the term has branches
+--     SlotsTell               a slot tells its residual;  ValidExactly: the valid slots are those of proper residuals
+--     ConsistentExactly       the consistent monitors are those laid out of proper residuals
+--     StartExceeds            capacity exceeded at Start, exactly
+--     Judges                  demand 2: one list fed to a fresh monitor
+--     Answers                 what a call along a history answers, exactly: 1, 11, 12, 13 with places, or a record
+--     Histories               demand 3: one claim over the whole list of calls
+--     OffersTraces            Offer's bits along a history;  ViewsResiduals: what View hands back there
+--     FeedKeeps               no call makes a consistent monitor inconsistent
+--     Examples                K1 to K12;  Cases: further cases;  Buffers: whole outcomes with every lent word
+-- Every claim on calls is about a number list l that the table layer accepts as the table t. Assumes nothing.
+use Prim.Native.Nat.{ℕ, _<_}
+use mathlib.Core.Path.{_≡_}
+use mathlib.Core.List.{List, []}
+use mathlib.Core.Option.{some}
+use mathlib.Core.Logic.{_↔_}
+use lib.ListN.{length}
+use lib.Dec.{T}
+use Rattle.table.specs.Table
+use Rattle.table.specs.Table.{Table, termAt, bodyNumber}
+use Rattle.table.specs.Memory.{Memory, noMemory}
+use Rattle.table.specs.Branches.{branches}
+use Rattle.table.specs.Rules.{Rules}
+use Rattle.table.specs.Judge.{accepted, judgeList}
+use Rattle.numbers.specs.Every.{All}
+use Rattle.meaning.specs.Some.{Any}
+use Rattle.meaning.specs.Figure1.{Term, call, count}
+use Rattle.meaning.specs.Figure2.{TraceSet, Model}
+use Rattle.monitor_spec.specs.Residual.{Residual, resolveDef, resolve, run, fromDefinition, residualsOf}
+use Rattle.monitor_spec.specs.Slots.{slotOf, slotsOf}
+use Rattle.monitor_spec.specs.Valid.{validSlot}
+use Rattle.monitor_spec.specs.State.{Monitor, refused, areasMeasured, workMeasured, slotCount, concat}
+use Rattle.monitor_spec.specs.Consistent.{consistent}
+use Rattle.monitor_spec.specs.Start.{startOf}
+use Rattle.monitor_spec.specs.Offer.{offerOf}
+use Rattle.monitor_spec.specs.View.{viewOf}
+use Rattle.monitor_spec.specs.Joined.{Call, residualCount, joined}
+use Rattle.monitor_spec.specs.Meaning.{denote, Sound, Some}
+use Rattle.monitor_spec.specs.Proper.{Proper}
+use Rattle.monitor_spec.specs.Sensible.{Laid}
+use Rattle.monitor_spec.specs.History.{callOn, history, Fresh, slotsLent, start, Along, AfterCalls}
+use Rattle.monitor_spec.specs.Stops.{AnswersOne, JudgesOne}
+use Rattle.monitor_spec.specs.Offers.{OffersJust}
+use Rattle.monitor_spec.specs.Examples.{rows, saysAll}
+use Rattle.monitor_spec.specs.Cases.{cases, casesHold}
+use Rattle.monitor_spec.specs.Buffers.{BuffersStand}
+
+-- The trace set of some residual holds the list exactly when the residuals after it are not empty.
+unfoldable pub ResidualsAreTraces : Type 1
+ResidualsAreTraces =
+    (t : Table) → Rules t → (H : Term → TraceSet) → Model t H
+    → (rs : List Residual) → All (Sound t) rs → (s : List ℕ)
+    → Any (λ r. H (denote t r) s) rs ↔ Some (run t rs s)
+
+unfoldable pub DefinitionsAreTraces : Type 1
+DefinitionsAreTraces =
+    (t : Table) → Rules t → (H : Term → TraceSet) → Model t H
+    → (d : ℕ) → d < count t → (s : List ℕ)
+    → H (call d) s ↔ Some (fromDefinition t d s)
+
+unfoldable pub LastIsTraces : Type 1
+LastIsTraces =
+    (t : Table) → Rules t → (H : Term → TraceSet) → Model t H → (s : List ℕ)
+    → H (start t) s ↔ Some (residualsOf t s)
+
+-- 01, "Residuals": "call the settled body", "Memory is .. all 0 at a body's start"
+unfoldable pub CallsResolve : Type 0
+CallsResolve =
+    (t : Table) → Rules t → (d : ℕ) → d < count t
+    → resolveDef t (count t) d ≡ resolve t (bodyNumber t d) noMemory
+
+-- ours; 01, "Openings": resolving lists as many residuals as the term has branches
+unfoldable pub ResolvesBranches : Type 0
+ResolvesBranches =
+    (t : Table) → Rules t → (n : ℕ) (m : Memory) (p : Table.Term) → termAt t n ≡ some p
+    → length (resolve t n m) ≡ branches t p
+
+-- 01, "Residuals": "Two residuals are equal when their words are."
+unfoldable pub SlotsTell : Type 0
+SlotsTell = (t : Table) → Rules t → (r q : Residual) → Proper t r → Proper t q → slotOf r ≡ slotOf q → r ≡ q
+
+-- 01, "Disturbed": "A valid slot is one whole residual tree .."
+unfoldable pub ValidExactly : Type 0
+ValidExactly =
+    (t : Table) → Rules t → (w : List ℕ)
+    → T (validSlot t w) ↔ ((r : Residual) × (slotOf r ≡ w) × Proper t r)
+
+-- 01, "Disturbed", on areas of the right lengths
+unfoldable pub ConsistentExactly : Type 0
+ConsistentExactly =
+    (t : Table) → Rules t → (m : Monitor) → T (areasMeasured (m .area0) (m .area1))
+    → T (consistent t m) ↔ Laid t (slotCount (m .area0)) m
+
+-- 01: "crowded: residuals .. at Start, exceed the slots", place 0, when refusal 1 is not met
+unfoldable pub StartExceeds : Type 0
+StartExceeds =
+    (l ns : List ℕ) (t : Table) → judgeList l ≡ accepted ns t
+    → (a b work : List ℕ)
+    → (startOf l a b work .answer ≡ refused 13 0)
+    ↔ (T (areasMeasured a b) × T (workMeasured work) × (slotCount a < residualCount t []))
+
+unfoldable pub Judges : Type 1
+Judges =
+    (l ns : List ℕ) (t : Table) → judgeList l ≡ accepted ns t
+    → (a b work : List ℕ) (fresh : Monitor) → Fresh l a b work fresh
+    → (H : Term → TraceSet) → Model t H
+    → (s work′ : List ℕ) → JudgesOne l t H fresh s work′
+
+unfoldable pub Answers : Type 0
+Answers =
+    (l ns : List ℕ) (t : Table) → judgeList l ≡ accepted ns t
+    → (a b work : List ℕ) (fresh : Monitor) → Fresh l a b work fresh
+    → (calls : List Call) (es w : List ℕ)
+    → AnswersOne l t (slotsLent fresh) (joined t (slotsLent fresh) calls) (history l fresh calls) es w
+
+-- 00, demand 3: "For every list of feeding calls from a fresh monitor, refused ones included, each lent that table
+-- and the record and areas just as the call before left them, after it .."; and no call is refused with 2 to 10
+unfoldable pub Histories : Type 1
+Histories =
+    (l ns : List ℕ) (t : Table) → judgeList l ≡ accepted ns t
+    → (a b work : List ℕ) (fresh : Monitor) → Fresh l a b work fresh
+    → (calls : List Call)
+    → (H : Term → TraceSet) → Model t H
+    → Along l fresh calls
+    × AfterCalls l t H (slotsLent fresh) fresh (joined t (slotsLent fresh) calls) (history l fresh calls)
+
+-- 00: "the events permitted next": bit e is set exactly when the joined events with e more are a trace
+unfoldable pub OffersTraces : Type 1
+OffersTraces =
+    (l ns : List ℕ) (t : Table) → judgeList l ≡ accepted ns t
+    → (a b work : List ℕ) (fresh : Monitor) → Fresh l a b work fresh
+    → (calls : List Call)
+    → (H : Term → TraceSet) → Model t H
+    → (w : List ℕ) → T (workMeasured w)
+    → OffersJust (t .alphabet) (H (start t)) (joined t (slotsLent fresh) calls)
+    (offerOf l (history l fresh calls) w .answer)
+
+-- 01: "View hands back the part of whichever of the two areas holds the residuals"
+unfoldable pub ViewsResiduals : Type 0
+ViewsResiduals =
+    (l ns : List ℕ) (t : Table) → judgeList l ≡ accepted ns t
+    → (a b work : List ℕ) (fresh : Monitor) → Fresh l a b work fresh
+    → (calls : List Call)
+    → viewOf (history l fresh calls) ≡ concat (slotsOf (residualsOf t (joined t (slotsLent fresh) calls)))
+
+-- 01, "Disturbed": whatever the monitor, the events and the work area
+unfoldable pub FeedKeeps : Type 0
+FeedKeeps =
+    (l ns : List ℕ) (t : Table) → judgeList l ≡ accepted ns t
+    → (m : Monitor) (c : Call) → T (consistent t m) → T (consistent t (callOn l m c))
+
+-- 01, "Strength of the statements": "K1 to K12 are proved together, as rows under one theorem on the definitions"
+unfoldable pub Examples : Type 0
+Examples = saysAll rows
+
+unfoldable pub Cases : Type 0
+Cases = casesHold cases
+
+unfoldable pub Buffers : Type 0
+Buffers = BuffersStand

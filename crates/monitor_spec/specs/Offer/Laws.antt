@@ -1,0 +1,103 @@
+-- Offer's bit e is set exactly when the residuals after e are not empty (01, "Operations"). Assumes nothing.
+use Prim.Native.Nat.{ℕ, zero, suc, _+_, _-_, _*_, _/_, _%_, _^_, _≤_, _<_}
+use native.Mathlib.Omega.{arith}
+use native.Mathlib.Decide.{decLt}
+use native.Mathlib.Nat.{pow-suc, mul-assoc, one-mul, div-eq-of-lt, add-mul-div-right, add-mul-mod-self-right}
+use mathlib.Core.Path.{_≡_, refl, ap, ap₂, sym, subst, _∙_}
+use mathlib.Core.List.{List, [], _∷_}
+use mathlib.Core.Logic.{_↔_}
+use lib.Pow.{pow-pos, pow-mono, pow-add}
+use Rattle.table.specs.Table.{Table}
+use Rattle.monitor_spec.specs.Residual.{Residual, afterAll}
+use Rattle.monitor_spec.specs.Meaning.{Some}
+use Rattle.monitor_spec.specs.Offer.{bitOf, bitsBelow}
+
+-- a multiple of a higher power does not change a bit
+lower-bit : (x c k e : ℕ) → e < k → (x + c * 2 ^ k) / 2 ^ e % 2 ≡ x / 2 ^ e % 2
+lower-bit x c k e h =
+    let d : ℕ = k - suc e in
+    let i : k ≡ suc d + e = omega arith in
+    let p : 2 ^ k ≡ 2 ^ suc d * 2 ^ e = ap (λ (j : ℕ). 2 ^ j) i ∙ pow-add 2 (suc d) e in
+    let q : c * 2 ^ k ≡ c * 2 ^ suc d * 2 ^ e = ap (c *_) p ∙ sym (mul-assoc c (2 ^ suc d) (2 ^ e)) in
+    let r : c * 2 ^ suc d ≡ c * 2 ^ d * 2 = ap (c *_) (pow-suc 2 d) ∙ sym (mul-assoc c (2 ^ d) 2) in
+    ap (λ (j : ℕ). (x + j) / 2 ^ e % 2) q
+    ∙ ap (λ (j : ℕ). j % 2) (add-mul-div-right x (c * 2 ^ suc d) (pow-pos e))
+    ∙ ap (λ (j : ℕ). (x / 2 ^ e + j) % 2) r
+    ∙ add-mul-mod-self-right (x / 2 ^ e) (c * 2 ^ d) 2
+
+top-bit : (x k : ℕ) → x < 2 ^ k → (x + 1 * 2 ^ k) / 2 ^ k % 2 ≡ 1
+top-bit x k h =
+    let e : x / 2 ^ k ≡ 0 = div-eq-of-lt h in
+    ap (λ (j : ℕ). j % 2) (add-mul-div-right x 1 (pow-pos k)) ∙ ap (λ (j : ℕ). (j + 1) % 2) e
+
+no-bit : (x k : ℕ) → x < 2 ^ k → x / 2 ^ k % 2 ≡ 0
+no-bit x k h = ap (λ (j : ℕ). j % 2) (div-eq-of-lt h)
+
+module _ (t : Table) (rs : List Residual) where
+  -- the next bit is set or not
+  bits-none : (k : ℕ) → afterAll t k rs ≡ [] → bitsBelow t rs (suc k) ≡ bitsBelow t rs k
+  unfolding bitsBelow bitOf
+  bits-none k e = rw e (omega arith)
+
+  bits-some : (k : ℕ) (q : Residual) (qs : List Residual) → afterAll t k rs ≡ q ∷ qs
+      → bitsBelow t rs (suc k) ≡ bitsBelow t rs k + 1 * 2 ^ k
+  unfolding bitsBelow bitOf
+  bits-some k q qs e = rw (e, one-mul)
+
+  pub bits-small : (k : ℕ) → bitsBelow t rs k < 2 ^ k
+  unfolding bitsBelow
+  bits-small zero = omega arith
+  bits-small (suc k) = by (afterAll t k rs) refl (bits-small k)
+    where
+      by : (l : List Residual) → afterAll t k rs ≡ l → bitsBelow t rs k < 2 ^ k → bitsBelow t rs (suc k) < 2 ^ suc k
+      by [] e h = let a = bits-none k e in let p = pow-suc 2 k in omega arith
+      by (q ∷ qs) e h = let a = bits-some k q qs e in let p = pow-suc 2 k in omega arith
+
+  abbrev Set : ℕ → ℕ → Type 0
+  Set k e = bitsBelow t rs k / 2 ^ e % 2 ≡ 1
+
+  not-set : {X : Type 0} (j : ℕ) → j ≡ 0 → j ≡ 1 → X
+  not-set j e f = absurd (omega arith)
+
+  -- "bit e is set exactly when the residuals after e .. are not empty"
+  pub offer-bit : (k e : ℕ) → (bitsBelow t rs k / 2 ^ e % 2 ≡ 1) ↔ ((e < k) × Some (afterAll t e rs))
+  offer-bit zero e = (
+    λ h. not-set (bitsBelow t rs 0 / 2 ^ e % 2)
+        (no-bit (bitsBelow t rs 0) e (let a = bits-small 0 in let p = pow-pos e in omega arith)) h,
+    λ h. absurd
+        (let l = h .0 in omega arith),
+  )
+  offer-bit (suc k) e = by (decLt e k) (decLt k e) (afterAll t k rs) refl (offer-bit k e)
+    where
+      bit : ℕ → ℕ
+      bit j = bitsBelow t rs j / 2 ^ e % 2
+
+      lower : (l : List Residual) → afterAll t k rs ≡ l → e < k → bit (suc k) ≡ bit k
+      lower [] p h = ap (λ (x : ℕ). x / 2 ^ e % 2) (bits-none k p)
+      lower (q ∷ qs) p h = ap (λ (x : ℕ). x / 2 ^ e % 2) (bits-some k q qs p) ∙ lower-bit (bitsBelow t rs k) 1 k e h
+
+      by : Dec (e < k) → Dec (k < e) → (l : List Residual) → afterAll t k rs ≡ l
+          → ((bit k ≡ 1) ↔ ((e < k) × Some (afterAll t e rs))) → (bit (suc k) ≡ 1)
+          ↔ ((e < suc k) × Some (afterAll t e rs))
+      by (yes h) d l p ih =
+          let v = lower l p h in
+          (λ x. (omega arith, ih .0 (sym v ∙ x) .1), λ x. v ∙ ih .1 (h, x .1))
+      by (no h) (yes g) l p ih =
+          let a = bits-small (suc k) in
+          let b : 2 ^ suc k ≤ 2 ^ e = pow-mono g in (
+            λ x. not-set (bit (suc k)) (no-bit (bitsBelow t rs (suc k)) e (omega arith)) x,
+            λ x. absurd
+                (let y = x .0 in omega arith),
+          )
+      by (no h) (no g) [] p ih =
+          let i : e ≡ k = omega arith in
+          let a = bits-none k p in
+          let b = bits-small k in
+          let z : bit (suc k) ≡ 0 = ap₂ (λ (x y : ℕ). x / 2 ^ y % 2) a i ∙ no-bit (bitsBelow t rs k) k b in
+          (λ x. not-set (bit (suc k)) z x, λ x. absurd (subst Some (ap (λ (y : ℕ). afterAll t y rs) i ∙ p) (x .1)))
+      by (no h) (no g) (q ∷ qs) p ih =
+          let i : e ≡ k = omega arith in
+          let a = bits-some k q qs p in
+          let b = bits-small k in
+          let z : bit (suc k) ≡ 1 = ap₂ (λ (x y : ℕ). x / 2 ^ y % 2) a i ∙ top-bit (bitsBelow t rs k) k b in
+          (λ x. (omega arith, subst Some (sym (ap (λ (y : ℕ). afterAll t y rs) i ∙ p)) tt), λ x. z)

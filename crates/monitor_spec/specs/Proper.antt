@@ -1,0 +1,29 @@
+-- The residuals whose slots are valid (01, "Disturbed": "A valid slot is one whole residual tree ..").
+--     Remembers    of a memory: its events are below A, and zero from the count of enclosing prefixes on
+--     Fits, Kept   so at each node; and the leaves' reach sums to at most k
+--     Proper       a sound residual that fits, its reach at most 8
+-- The laws are in `Proper/`: `Laws` (resolving and stepping keep it), `Nodes` (its slot has room). Assumes nothing.
+use Prim.Native.Nat.{ℕ, _≤_, _<_}
+use mathlib.Core.Path.{_≡_}
+use Rattle.table.specs.Table.{Table, enclosing}
+use Rattle.table.specs.Memory.{Memory, digit}
+use Rattle.monitor_spec.specs.Residual.{Residual, leaf, pair}
+use Rattle.monitor_spec.specs.Meaning.{Sound}
+use Rattle.monitor_spec.specs.Valid.{reachSum}
+pub mod Laws
+pub mod Nodes
+
+-- "memory is below A, zero beyond the term's enclosing prefixes": A is a, and c prefixes enclose
+abbrev pub Remembers : ℕ → ℕ → Memory → Type 0
+Remembers a c m = (i : ℕ) → i ≤ 3 → (digit m i < a) × (c ≤ i → digit m i ≡ 0)
+
+abbrev pub Fits : Table → Residual → Type 0
+Fits t (leaf n m) = Remembers (t .alphabet) (enclosing t n) m
+Fits t (pair n m l r) = Remembers (t .alphabet) (enclosing t n) m × Fits t l × Fits t r
+
+-- "the leaves' reach sums to at most"
+abbrev pub Kept : Table → ℕ → Residual → Type 0
+Kept t k r = Fits t r × (reachSum t r ≤ k)
+
+abbrev pub Proper : Table → Residual → Type 0
+Proper t r = Sound t r × Kept t 8 r

@@ -1,0 +1,70 @@
+-- A proper residual has at most 15 nodes, each a word of its own. Assumes nothing.
+use Prim.Native.Nat.{ℕ, suc, _*_, _≤_, _<_}
+use native.Mathlib.Omega.{arith}
+use mathlib.Core.Path.{_≡_}
+use mathlib.Core.Option.{some}
+use lib.ListN.{length, length-append}
+use Rattle.table.specs.Table.{Table, Term, stop, fail, prefix, choice, par, call, termAt}
+use Rattle.table.specs.Table.{enclosing}
+use Rattle.meaning.specs.Figure1.{count, plain, Guarded}
+use Rattle.numbers.specs.Every.{All, all-append}
+use Rattle.monitor_spec.specs.Part.Numbers.{number-at, number-below}
+use Rattle.table.specs.Memory.{Memory, digit}
+use Rattle.table.specs.Width.{widthWith, reach}
+use Rattle.monitor_spec.specs.Regular.{Regular}
+use Rattle.monitor_spec.specs.Residual.{Residual, leaf, pair}
+use Rattle.monitor_spec.specs.Meaning.{Sound}
+use Rattle.monitor_spec.specs.Residual.Resolve.{number-guarded}
+use Rattle.monitor_spec.specs.Slots.{pack, nodes}
+use Rattle.monitor_spec.specs.Valid.{reachSum}
+use Rattle.monitor_spec.specs.Proper.{Remembers, Fits, Proper}
+use Rattle.monitor_spec.specs.Proper.Laws.{reachAt-at}
+
+module _ (t : Table) (regular : Regular t) where
+  -- ---- a slot has room for the nodes
+  reach-some : (p : Term) → Guarded (count t) (count t) (plain p) → 1 ≤ reach t p
+  unfolding plain reach widthWith
+  reach-some stop g = omega arith
+  reach-some fail g = omega arith
+  reach-some (prefix r p) g = reach-some p g
+  reach-some (choice p q) g = let a = reach-some p (g .0) in omega arith
+  reach-some (par r p q) g = let a = reach-some p (g .0) in omega arith
+  reach-some (call d) g = regular .width-some d g
+
+  nodes-reach : (r : Residual) → Sound t r → suc (length (nodes r)) ≤ 2 * reachSum t r
+  unfolding nodes reachSum
+  nodes-reach (leaf n m) (x, h, i) =
+      let a = reach-some x (number-guarded t regular (number-at t n x h .stands)) in
+      let b = reachAt-at t n x h in
+      omega arith
+  nodes-reach (pair n m l r) (x, h, i, a, b) =
+      let c = nodes-reach l a in
+      let d = nodes-reach r b in
+      omega (arith, length-append (nodes l) (nodes r))
+
+  pub nodes-most : (r : Residual) → Proper t r → length (nodes r) ≤ 15
+  nodes-most r (s, (f, k)) = let a = nodes-reach r s in omega arith
+
+  -- ---- a node word has its 64 bits
+  pack-small : (n c : ℕ) (m : Memory) (x : Term) → termAt t n ≡ some x → Remembers (t .alphabet) c m
+      → pack n m < 17179869184
+  unfolding pack digit
+  pack-small n c m x e f =
+      let a = regular .alphabet-most in
+      let b = regular .terms-most in
+      let d = number-below t (number-at t n x e .stands) in
+      let i = f 0 (omega arith) .0 in
+      let j = f 1 (omega arith) .0 in
+      let k = f 2 (omega arith) .0 in
+      let l = f 3 (omega arith) .0 in
+      omega arith
+
+  -- 2^34, which 64 bits hold
+  pub nodes-small : (r : Residual) → Sound t r → Fits t r → All (λ w. w < 17179869184) (nodes r)
+  unfolding nodes
+  nodes-small (leaf n m) (x, e, i) f = (pack-small n (enclosing t n) m x e f, tt)
+  nodes-small (pair n m l r) (x, e, i, a, b) (f, g, h) = (
+    pack-small n (enclosing t n) m x e f,
+    all-append (λ w. w < 17179869184) (nodes l) (nodes r)
+        (nodes-small l a g) (nodes-small r b h),
+  )

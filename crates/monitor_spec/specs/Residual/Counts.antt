@@ -1,0 +1,85 @@
+-- Resolving lists as many residuals as the term has branches (01, "Openings").
+--     resolveDef-length    of a definition's body;  resolve-length: of the term of a number, with whatever memory
+-- That there are none exactly for a doomed term is the table layer's `Doom/Branches.antt`. Assumes nothing.
+use Prim.Native.Nat.{ℕ, zero, suc, _+_, _*_, _≤_, _<_}
+use native.Mathlib.Omega.{arith}
+use native.Mathlib.Nat.{suc-mul, zero-mul}
+use mathlib.Core.Path.{_≡_, refl, ap, ap₂, sym, _∙_}
+use mathlib.Core.List.{List, [], _∷_, map, flatMap}
+use lib.ListN.{length, length-append, length-map}
+use Rattle.table.specs.Table.{Table, Term, stop, fail, prefix, choice, par, call, size, bodyOf, bodyNumber}
+use Rattle.table.specs.Memory.{Memory, noMemory}
+use Rattle.table.specs.Branches.{branchesWith, bodyIn, branches}
+use Rattle.table.specs.Rules.Laws.{no-wrong}
+use Rattle.table.specs.Equations.{branches-call}
+use Rattle.table.specs.Rules.{Rules}
+use Rattle.meaning.specs.Figure1.{count, body, plain, Guarded}
+use Rattle.monitor_spec.specs.Part.{Stands}
+use Rattle.monitor_spec.specs.Part.Numbers.{at-number}
+use Rattle.monitor_spec.specs.Residual.{Residual, pair, pairs, resolveIn, resolveDef, resolve}
+use Rattle.monitor_spec.specs.Residual.Resolve.{resolve-at, number-guarded}
+use Rattle.monitor_spec.specs.Regular.Laws.{regular}
+
+length-pairs : (n : ℕ) (m : Memory) (ls rs : List Residual) → length (pairs n m ls rs) ≡ length ls * length rs
+unfolding pairs flatMap
+length-pairs n m [] rs = sym (zero-mul (length rs))
+length-pairs n m (l ∷ ls) rs =
+    let a = length-map rs (pair n m l) in
+    let b = length-pairs n m ls rs in
+    let c = suc-mul (length ls) (length rs) in
+    omega (arith, length-append (map (pair n m l) rs) (pairs n m ls rs))
+
+-- where the calls with no prefix around them, which are below k, list as many as g says
+resolveIn-length : (f : ℕ → List Residual) (g : ℕ → ℕ) (n k : ℕ) → ((d : ℕ) → d < k → length (f d) ≡ g d)
+    → (p : Term) → Guarded n k (plain p) → (i : ℕ) (m : Memory) → length (resolveIn f p i m) ≡ branchesWith g p
+unfolding resolveIn branchesWith plain
+resolveIn-length f g n k h stop b i m = refl
+resolveIn-length f g n k h fail b i m = refl
+resolveIn-length f g n k h (prefix r p) b i m = refl
+resolveIn-length f g n k h (choice p q) b i m =
+    length-append (resolveIn f p (suc i) m) (resolveIn f q (suc (size p + i)) m)
+    ∙ ap₂ _+_ (resolveIn-length f g n k h p (b .0) (suc i) m)
+    (resolveIn-length f g n k h q (b .1) (suc (size p + i)) m)
+resolveIn-length f g n k h (par r p q) b i m =
+    length-pairs i m (resolveIn f p (suc i) m) (resolveIn f q (suc (size p + i)) m)
+    ∙ ap₂ _*_ (resolveIn-length f g n k h p (b .0) (suc i) m)
+    (resolveIn-length f g n k h q (b .1) (suc (size p + i)) m)
+resolveIn-length f g n k h (call d) b i m = h d b
+
+module _ (t : Table) (rules : Rules t) where
+  -- what a call counts
+  abbrev B : ℕ → ℕ
+  B d = branches t (call d)
+
+  branches-with : (p : Term) → branchesWith B p ≡ branches t p
+  unfolding branches branchesWith
+  branches-with stop = refl
+  branches-with fail = refl
+  branches-with (prefix r p) = refl
+  branches-with (choice p q) = ap₂ _+_ (branches-with p) (branches-with q)
+  branches-with (par r p q) = ap₂ _*_ (branches-with p) (branches-with q)
+  branches-with (call d) = refl
+
+  body-branches : (d : ℕ) → d < count t → branches t (bodyOf t d) ≡ B d
+  unfolding count bodyOf
+  body-branches d h = unfold bodyIn in sym (branches-call t (no-wrong t rules) d h)
+
+  -- a bound above d, at most the count
+  pub resolveDef-length : (b d : ℕ) → d < b → b ≤ count t → length (resolveDef t b d) ≡ B d
+  unfolding resolveDef body
+  resolveDef-length zero d h k = absurd (omega arith)
+  resolveDef-length (suc b) d h k =
+      resolveIn-length (resolveDef t b) B (count t) d (λ c i. resolveDef-length b c (omega arith) (omega arith))
+      (bodyOf t d)
+      (regular t rules .guarded .bodies d (omega arith)) (bodyNumber t d) noMemory
+      ∙ branches-with (bodyOf t d)
+      ∙ body-branches d (omega arith)
+
+  pub resolve-length : {h c n : ℕ} {p : Term} (m : Memory) → Stands (t .definitions) h c n p
+      → length (resolve t n m) ≡ branches t p
+  resolve-length {n = n} {p = p} m s =
+      ap length (resolve-at t n m p (at-number t s))
+      ∙ resolveIn-length (resolveDef t (count t)) B (count t) (count t)
+      (λ d h. resolveDef-length (count t) d h (omega arith)) p
+      (number-guarded t (regular t rules) s) n m
+      ∙ branches-with p

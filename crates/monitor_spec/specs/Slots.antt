@@ -1,0 +1,61 @@
+-- Residuals as words (01, "Residuals").
+--     pack, termOf, memoryOf    a node word, and what it holds
+--     nodes, slotOf             a residual's node words; its slot
+--     Order, compareWords       the order "by first differing word"
+--     insert, canon             one slot put in its place; a list of slots ascending, each once
+--     slotsOf                   the slots of a list of residuals
+-- The laws are in `Slots/`: `Packing`, `Comparison`, `Canonical`. Assumes nothing.
+use Prim.Native.Nat.{ℕ, _+_, _-_, _*_, _/_, _%_}
+use mathlib.Core.Bool.{true, false}
+use mathlib.Core.List.{List, [], _∷_, _++_, map}
+use lib.ListN.{length, replicate}
+use lib.Dec.{ltb}
+use Rattle.table.specs.Memory.{Memory}
+use Rattle.monitor_spec.specs.Residual.{Residual, leaf, pair}
+pub mod Packing
+pub mod Comparison
+pub mod Canonical
+
+-- "A node word is term × 2^24 + m0 × 2^18 + m1 × 2^12 + m2 × 2^6 + m3."
+unfoldable pub pack : ℕ → Memory → ℕ
+pack n m = n * 16777216 + m .m0 * 262144 + m .m1 * 4096 + m .m2 * 64 + m .m3
+
+unfoldable pub termOf : ℕ → ℕ
+termOf w = w / 16777216
+
+unfoldable pub memoryOf : ℕ → Memory
+memoryOf w = record { m0 = w / 262144 % 64; m1 = w / 4096 % 64; m2 = w / 64 % 64; m3 = w % 64 }
+
+-- "nodes with each parallel before its sides"; ours: the left side first
+unfoldable pub nodes : Residual → List ℕ
+nodes (leaf n m) = pack n m ∷ []
+nodes (pair n m l r) = pack n m ∷ nodes l ++ nodes r
+
+-- "A slot is 16 words: node count, nodes .., zeros."
+unfoldable pub slotOf : Residual → List ℕ
+slotOf r = length (nodes r) ∷ nodes r ++ replicate (15 - length (nodes r)) 0
+
+pub data Order : Type 0 where
+  below same above : Order
+
+-- "ascending by first differing word"
+unfoldable pub compareWords : List ℕ → List ℕ → Order
+compareWords [] [] = same
+compareWords [] (y ∷ ys) = below
+compareWords (x ∷ xs) [] = above
+compareWords (x ∷ xs) (y ∷ ys) =
+    elim (ltb x y) [ true ↦ below | false ↦ elim (ltb y x) [ true ↦ above | false ↦ compareWords xs ys ] ]
+
+-- "A residual already held is not held twice."
+unfoldable pub insert : List ℕ → List (List ℕ) → List (List ℕ)
+insert s [] = s ∷ []
+insert s (x ∷ xs) = elim (compareWords s x) [ below ↦ s ∷ x ∷ xs | same ↦ x ∷ xs | above ↦ x ∷ insert s xs ]
+
+-- "An area holds slots ascending"
+unfoldable pub canon : List (List ℕ) → List (List ℕ)
+canon [] = []
+canon (s ∷ ss) = insert s (canon ss)
+
+-- "Two residuals are equal when their words are."
+unfoldable pub slotsOf : List Residual → List (List ℕ)
+slotsOf rs = canon (map slotOf rs)

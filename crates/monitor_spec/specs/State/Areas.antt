@@ -1,0 +1,106 @@
+-- Slots laid into an area are the slots read from it, and zeros follow. Assumes nothing.
+use Prim.Native.Nat.{ℕ, zero, suc, _-_, _*_, _%_, _≤_}
+use native.Mathlib.Omega.{arith}
+use mathlib.Core.Path.{_≡_, refl, ap, ap₂, _∙_}
+use mathlib.Core.Bool.{Bool, true, false, not, _&&_}
+use mathlib.Core.List.{List, [], _∷_, _++_, append-assoc}
+use lib.ListN.{length, take, drop, replicate, length-append, length-replicate}
+use lib.Seq.{take-at, drop-at}
+use lib.Dec.{eqb}
+use borrow.Author.Tests.{eq-eqb, ne-eqb}
+use Rattle.numbers.specs.Every.{All}
+use Rattle.monitor_spec.specs.State.{slotCount, even, choose, chunks, concat, fill}
+use Rattle.table.specs.Operations.{zeros}
+use Rattle.monitor_spec.specs.Consistent.{every, allZero}
+
+abbrev pub Sixteen : List ℕ → Type 0
+Sixteen s = length s ≡ 16
+
+pub and-true : {a b : Bool} → a ≡ true → b ≡ true → (a && b) ≡ true
+and-true {a} {b} e f = rw (e, f)
+
+-- ---- parity and choice
+
+pub choose-flip : {A : Type 0} (b : Bool) (x y : A) → choose (not b) x y ≡ choose b y x
+unfolding choose
+choose-flip true x y = refl
+choose-flip false x y = refl
+
+pub choose-twice : {A : Type 0} (b : Bool) (x y : A) → choose b (choose b x y) (choose b y x) ≡ x
+unfolding choose
+choose-twice true x y = refl
+choose-twice false x y = refl
+
+pub choose-same : {A : Type 0} (b : Bool) (x : A) → choose b x x ≡ x
+unfolding choose
+choose-same true x = refl
+choose-same false x = refl
+
+pub choose-ap : {A B : Type 0} (f : A → B) (b : Bool) (x y : A) → f (choose b x y) ≡ choose b (f x) (f y)
+unfolding choose
+choose-ap f true x y = refl
+choose-ap f false x y = refl
+
+pub even-suc : (n : ℕ) → even (suc n) ≡ not (even n)
+unfolding even
+even-suc n = by (native.Mathlib.Decide.ℕ-discrete (n % 2) 0)
+  where
+    by : Dec (n % 2 ≡ 0) → eqb (suc n % 2) 0 ≡ not (eqb (n % 2) 0)
+    by (yes h) = rw (eq-eqb (n % 2) 0 h) (ne-eqb (suc n % 2) 0 (λ k. omega arith))
+    by (no h) = rw (ne-eqb (n % 2) 0 h) (eq-eqb (suc n % 2) 0 (omega arith))
+
+pub even-zero : even 0 ≡ true
+unfolding even
+even-zero = refl
+
+-- ---- lengths
+
+pub length-concat : (ss : List (List ℕ)) → All Sixteen ss → length (concat ss) ≡ length ss * 16
+unfolding concat
+length-concat [] h = refl
+length-concat (s ∷ ss) h =
+    let a = length-concat ss (h .1) in
+    let b = h .0 in
+    omega (arith, length-append s (concat ss))
+
+pub length-fill : (n : ℕ) (ss : List (List ℕ)) → All Sixteen ss → length ss ≤ n → length (fill n ss) ≡ n * 16
+unfolding fill
+length-fill n ss h l =
+    let a = length-concat ss h in
+    let b = length-replicate {A = ℕ} ((n - length ss) * 16) 0 in
+    omega (arith, length-append (concat ss) (replicate ((n - length ss) * 16) 0))
+
+pub slotCount-fill : (n : ℕ) (ss : List (List ℕ)) → All Sixteen ss → length ss ≤ n → slotCount (fill n ss) ≡ n
+unfolding slotCount
+slotCount-fill n ss h l = let a = length-fill n ss h l in omega arith
+
+-- ---- reading back
+
+chunks-concat : (ss : List (List ℕ)) (rest : List ℕ) → All Sixteen ss → chunks (length ss) (concat ss ++ rest) ≡ ss
+unfolding chunks concat
+chunks-concat [] rest h = refl
+chunks-concat (s ∷ ss) rest h =
+    let e : (s ++ concat ss) ++ rest ≡ s ++ (concat ss ++ rest) = append-assoc s (concat ss) rest in
+    let a : take 16 ((s ++ concat ss) ++ rest) ≡ s = ap (take 16) e ∙ take-at s (concat ss ++ rest) 16 (h .0) in
+    let b : drop 16 ((s ++ concat ss) ++ rest) ≡ concat ss ++ rest =
+    ap (drop 16) e ∙ drop-at s (concat ss ++ rest) 16 (h .0) in
+    ap₂ _∷_ a (ap (chunks (length ss)) b ∙ chunks-concat ss rest (h .1))
+
+pub chunks-fill : (n : ℕ) (ss : List (List ℕ)) → All Sixteen ss → chunks (length ss) (fill n ss) ≡ ss
+unfolding fill
+chunks-fill n ss h = chunks-concat ss (zeros ((n - length ss) * 16)) h
+
+pub zero-zeros : (n : ℕ) → allZero (zeros n) ≡ true
+unfolding allZero every
+zero-zeros zero = refl
+zero-zeros (suc n) = zero-zeros n
+
+pub zero-after : (n : ℕ) (ss : List (List ℕ)) → All Sixteen ss → allZero (drop (length ss * 16) (fill n ss)) ≡ true
+unfolding fill
+zero-after n ss h =
+    ap allZero (drop-at (concat ss) (zeros ((n - length ss) * 16)) (length ss * 16) (length-concat ss h))
+    ∙ zero-zeros ((n - length ss) * 16)
+
+pub zero-fill : (n : ℕ) → allZero (fill n []) ≡ true
+unfolding fill concat
+zero-fill n = zero-zeros ((n - 0) * 16)
