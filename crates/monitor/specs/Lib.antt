@@ -3,3 +3,4 @@
 pub mod Record
 pub mod Answers
 pub mod Walk
+pub mod Stepping

@@ -17,8 +17,8 @@ use Rattle.monitor_spec.specs.State.{running, State, given, refused, Out
 use Rattle.monitor_spec.specs.Start.{startOf}
 use Rattle.monitor_spec.specs.Feed.{nextVerdict}
 use Rattle.monitor_spec.specs.Joined.{residualCount}
-use Rattle.monitor_spec.proofs.Fresh.{start-measured, start-unmeasured, begun, start-room}
-use Rattle.monitor_spec.proofs.Fresh.{start-exceeded, not-given}
+use Rattle.monitor_spec.specs.History.Begun.{start-measured, start-unmeasured, begun, start-room}
+use Rattle.monitor_spec.specs.History.Begun.{start-exceeded, not-given}
 use Rattle.monitor_spec.proofs.Endings.{T-true, true-T}
 
 stateBegun : Table → State

@@ -27,7 +27,7 @@ use Rattle.monitor_spec.specs.Expected.Steps.{Fed, fed-sensible}
 use Rattle.monitor_spec.specs.History.{history, Fresh, start, HoldsJust, Leaves, Eventful, Along, AfterCalls}
 use Rattle.monitor_spec.specs.History.Laws.{extends, measured, feed-refused, feed-goes, fed-join, call-join}
 use Rattle.monitor_spec.specs.History.Laws.{history-joined, one-goes}
-use Rattle.monitor_spec.proofs.Fresh.{fresh-began}
+use Rattle.monitor_spec.specs.History.Begun.{fresh-began}
 use Rattle.monitor_spec.proofs.Verdicts.{start-formed, judged-running, judged-failed}
 use Rattle.monitor_spec.proofs.Endings.{T-true, true-T, false-T, none-answer, some-answer, stops-out, stops-range}
 

@@ -6,7 +6,7 @@
 --                          outcome's
 --     Eventful, Along      no call of a list is refused with 2 to 10
 --     AfterCalls           all that demand 3 says of the monitor after the calls
--- The laws are in `History/Laws.antt`. Assumes nothing.
+-- The laws are in `History/`: `Laws`; `Begun`, of what Start gives. Assumes nothing.
 use Prim.Native.Nat.{ℕ, _≤_, _<_}
 use mathlib.Core.Path.{_≡_}
 use mathlib.Core.List.{List, [], _∷_}
@@ -25,6 +25,7 @@ use Rattle.monitor_spec.specs.Start.{startOf}
 use Rattle.monitor_spec.specs.Feed.{feedOf}
 use Rattle.monitor_spec.specs.Joined.{Call}
 pub mod Laws
+pub mod Begun
 
 -- "After a refusal without a record, the record that went in stands."
 unfoldable pub standing : State → Answer → State

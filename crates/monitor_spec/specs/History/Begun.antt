@@ -1,5 +1,5 @@
 -- A fresh monitor is the one that the empty list calls for: what Start gives, case by case. Assumes nothing.
---     start-measured, start-unmeasured, start-room, start-exceeded   Start's outcome, by its tests
+--     start-measured, start-unmeasured, start-declined, start-room, start-exceeded   Start's outcome, by its tests
 --     fresh-began                                                    the record and areas that a Start gave
 use Prim.Native.Nat.{ℕ, _%_, _≤_}
 use native.Mathlib.Omega.{arith}
@@ -10,7 +10,7 @@ use lib.ListN.{length}
 use lib.Dec.{eqb, ltb, leb}
 use borrow.Author.Tests.{leb-true, ltb-false}
 use Rattle.table.specs.Table.{Table}
-use Rattle.table.specs.Judge.{accepted, judgeList}
+use Rattle.table.specs.Judge.{accepted, declined, judgeList}
 use Rattle.table.specs.Operations.{zeros}
 use Rattle.meaning.specs.Figure1.{count, last}
 use Rattle.monitor_spec.specs.Residual.{resolveDef, run, fromDefinition, residualsOf}
@@ -34,6 +34,11 @@ pub start-unmeasured : (l a b work : List ℕ) → (areasMeasured a b && workMea
     → startOf l a b work .answer ≡ refused 1 0
 unfolding startOf
 start-unmeasured l a b work e = rw (e, startOf)
+
+pub start-declined : (l a b work : List ℕ) (n p : ℕ) → judgeList l ≡ declined n p
+    → (areasMeasured a b && workMeasured work) ≡ true → startOf l a b work .answer ≡ refused n p
+unfolding startOf startJudged
+start-declined l a b work n p says e = rw (e, says, startOf)
 
 -- what Start gives where the slots suffice
 unfoldable pub begun : Table → ℕ → ℕ → Outcome

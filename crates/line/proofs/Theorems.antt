@@ -1,0 +1,11 @@
+-- What `specs/Claims.antt` says, proved. Assumes nothing.
+use Rattle.line.specs.Pieces.Joined.{pieces-whole}
+use Rattle.line.proofs.Rows as computed
+use Rattle.line.specs.Claims.{PiecesAreWhole, Rows}
+
+pub pieces-are-whole : PiecesAreWhole
+unfolding PiecesAreWhole
+pieces-are-whole = pieces-whole
+
+pub rows : Rows
+rows = computed.rows

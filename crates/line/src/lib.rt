@@ -1,0 +1,1 @@
+// What the program says of an input (document 01, "The program and its lines").
