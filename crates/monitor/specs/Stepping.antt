@@ -6,7 +6,7 @@
 -- The laws are in `Stepping/`. Assumes nothing.
 use Prim.Native.Nat.{ℕ, _+_, _*_, _<_, _≤_}
 use mathlib.Core.Path.{_≡_}
-use mathlib.Core.List.{List, []}
+use mathlib.Core.List.{List, [], map}
 use lib.ListN.{length, getD}
 use lib.Dec.{ltb}
 use Rattle.numbers.specs.Every.{All}
@@ -27,21 +27,31 @@ use Rattle.monitor_spec.specs.Slots.{slotsOf}
 use Rattle.monitor_spec.specs.Valid.{held}
 use Rattle.monitor_spec.specs.State.{fill}
 use Rattle.monitor_spec.specs.Proper.{Proper}
+use Rattle.monitor.specs.Stepping.Low.{low}
+use Rattle.monitor.specs.Stepping.Outcomes.{after-holds, after-exceeds, first-holds, first-exceeds}
 pub mod Low
+pub mod Words
+pub mod Resolving
+pub mod After
+pub mod Canon
+pub mod Outcomes
 
 module _ (t : Table) (rules : Rules t) where
   module _ (rs : List Residual) (proper : All (Proper t) rs) (n : ℕ) (room : length (slotsOf rs) ≤ n) where
     pub step-source : (e : ℕ) → e < t .alphabet → Source t e (fill n (slotsOf rs)) (length (slotsOf rs))
     step-source e h = ?
 
+    holds-low : words.Holds t (fill n (slotsOf rs)) 0 (map low (held t (slotsOf rs)))
+    holds-low = ?
+
     pub step-holds : (e : ℕ) → e < t .alphabet → length (slotsOf (afterAll t e rs)) ≤ n
         → putAll (fill n []) 0 (gathered t e (fill n (slotsOf rs)) (length (slotsOf rs)) 0)
         ≡ said (Count (length (slotsOf (afterAll t e rs)))) (fill n (slotsOf (afterAll t e rs)))
-    step-holds e h k = ?
+    step-holds e h k = after-holds t rules rs proper n e h holds-low (step-source e h) k
 
     pub step-exceeds : (e : ℕ) → e < t .alphabet → n < length (slotsOf (afterAll t e rs))
         → (putAll (fill n []) 0 (gathered t e (fill n (slotsOf rs)) (length (slotsOf rs)) 0)) .held ≡ Exceeded
-    step-exceeds e h k = ?
+    step-exceeds e h k = after-exceeds t rules rs proper n e h holds-low (step-source e h) k
 
     pub tree-at : (i : ℕ) → i < length (slotsOf rs) → TreeAt t (fill n (slotsOf rs)) (i * 16 + 1)
     tree-at i h = ?
@@ -59,8 +69,8 @@ module _ (t : Table) (rules : Rules t) where
   pub start-holds : (n : ℕ) → length (slotsOf (residualsOf t [])) ≤ n
       → putAll (fill n []) 0 (words.slotsOf (resolvedBelow t (count t) (last t)))
       ≡ said (Count (length (slotsOf (residualsOf t [])))) (fill n (slotsOf (residualsOf t [])))
-  start-holds n h = ?
+  start-holds n h = first-holds t rules n h
 
   pub start-exceeds : (n : ℕ) → n < length (slotsOf (residualsOf t []))
       → (putAll (fill n []) 0 (words.slotsOf (resolvedBelow t (count t) (last t)))) .held ≡ Exceeded
-  start-exceeds n h = ?
+  start-exceeds n h = first-exceeds t rules n h

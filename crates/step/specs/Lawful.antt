@@ -1,6 +1,6 @@
 -- What the step leans on, of the table of an index (01, "References", "Openings").
 --     Below             the calls of a term with no prefix around them name definitions below a number
---     Lawful, lawful    calls, nesting and branches of an accepted table, by number
+--     Lawful, lawful    calls, nesting and branches of an accepted table, by number; `lawful-rules`: of its rules
 --     follower-in       the number after a prefix's is a term's
 -- Assumes nothing.
 use Prim.Native.Nat.{ℕ, zero, suc, _+_, _<_, _≤_}
@@ -147,7 +147,7 @@ follower-in t n h k = follower-of t n (λ q. Unit) (termOf t n) h refl (any-foll
 
 -- ---- all of it
 
-lawful-rules : (t : Table) → Rules t → Lawful t
+pub lawful-rules : (t : Table) → Rules t → Lawful t
 lawful-rules t r =
     let ds = t .definitions in
     let few : Term → Type 0 = λ p. branches t p ≤ 256 in

@@ -83,7 +83,7 @@ module _ (t : Table) where
           same x y p = cc
 
   module _ (regular : Regular t) where
-    six : (c : ℕ) (m : Memory) → Remembers (t .alphabet) c m → Six m
+    pub six : (c : ℕ) (m : Memory) → Remembers (t .alphabet) c m → Six m
     unfolding digit
     six c m f =
         let a = regular .alphabet-most in

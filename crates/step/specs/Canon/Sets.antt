@@ -1,4 +1,5 @@
 -- Slots put in one after the other: what comes out depends on the members only.
+--     order-tail             the order of two slots past their first words
 --     Mem, canon-members     a member of a list; equal members, equal slots
 -- Assumes nothing.
 use Prim.Native.Nat.{ℕ, zero, suc, _+_, _<_, _≤_}
@@ -21,7 +22,7 @@ cmp [] b = same
 cmp (x ∷ a) [] = same
 cmp (x ∷ a) (y ∷ b) = stepOrder y x (cmp a b)
 
-order-tail : (n x y : ℕ) (a b : List ℕ) (p q : ℕ) → order n (x ∷ a) (p + 1) (y ∷ b) (q + 1) ≡ order n a p b q
+pub order-tail : (n x y : ℕ) (a b : List ℕ) (p q : ℕ) → order n (x ∷ a) (p + 1) (y ∷ b) (q + 1) ≡ order n a p b q
 unfolding order
 order-tail zero x y a b p q = refl
 order-tail (suc n) x y a b p q =

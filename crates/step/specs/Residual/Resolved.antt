@@ -1,5 +1,6 @@
 -- Resolving a term by number, as lists.
 --     length-resolved                       as many residuals as branches
+--     below-here, below-there               a definition below the bound after it, and below any other
 --     resolved-definition                   a call's residuals are those of the body called
 --     resolved-leaf, -none, -choice, -par, -call     by the kind of the term
 --     nth-left, nth-right, nth-pairs        the i-th of a union and of pairs
@@ -56,12 +57,12 @@ count-ext f g h (choice p q) = rw (count-ext f g h p, count-ext f g h q)
 count-ext f g h (par r p q) = rw (count-ext f g h p, count-ext f g h q)
 count-ext f g h (call d) = h d
 
-below-here : (t : Table) (b : ℕ) → resolvedBelow t (suc b) b
+pub below-here : (t : Table) (b : ℕ) → resolvedBelow t (suc b) b
     ≡ resolve (resolvedBelow t b) (bodyNumber t b) 0 (bodyIn (t .definitions) b)
 unfolding resolvedBelow
 below-here t b = rw (eq-eqb b b refl, resolvedBelow)
 
-below-there : (t : Table) (b d : ℕ) → (d ≡ b → ⊥) → resolvedBelow t (suc b) d ≡ resolvedBelow t b d
+pub below-there : (t : Table) (b d : ℕ) → (d ≡ b → ⊥) → resolvedBelow t (suc b) d ≡ resolvedBelow t b d
 unfolding resolvedBelow
 below-there t b d h = rw (ne-eqb _ _ h, resolvedBelow)
 

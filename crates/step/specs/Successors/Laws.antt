@@ -1,5 +1,6 @@
 -- What the value that `step_set` promises comes to, from a zeroed area.
 --     results-of, gathered-of      the results of a walk are those of `afterKept`
+--     slots-of-slots               the slots of residuals have sixteen words
 --     stepped                      the slots of the residuals after the event
 --     exceeded                     no room, where these are more than fit
 -- Assumes nothing.
@@ -51,7 +52,7 @@ unfolding onto
 all-slots [] = tt
 all-slots (w ∷ ws) = (length-pushAll empty w ∙ length-replicate {A = ℕ} 16 0, all-slots ws)
 
-slots-of-slots : (rs : List Residual) → Slots (slotsOf rs)
+pub slots-of-slots : (rs : List Residual) → Slots (slotsOf rs)
 unfolding slotsOf
 slots-of-slots rs = all-slots (map words rs)
 

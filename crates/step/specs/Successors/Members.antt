@@ -1,5 +1,5 @@
 -- The residuals after an event, with and without a leaf's repeats, have the same words.
---     slot-words                 a slot's words are known from the slot
+--     slot-form, slot-words      a slot by its words, which are known from it
 --     covers                     every index is covered by a kept one
 --     Both, same-after           the same members; those of `afterKept` are those of `after`
 --     Short, short-of            a residual whose leaves have short results; it is where they have room
@@ -49,7 +49,7 @@ push-form (w ∷ ws) pre z =
     ∙ push-form ws (pre ++ (w ∷ [])) z
     ∙ ap (λ (s : List ℕ). length s ∷ (s ++ replicate z 0)) (append-snoc pre w ws)
 
-slot-form : (ws : List ℕ) → length ws ≤ 15 → pushAll empty ws ≡ length ws ∷ (ws ++ replicate (15 - length ws) 0)
+pub slot-form : (ws : List ℕ) → length ws ≤ 15 → pushAll empty ws ≡ length ws ∷ (ws ++ replicate (15 - length ws) 0)
 slot-form ws h =
     let e : 15 ≡ length ws + (15 - length ws) = omega arith in
     ap (λ (k : ℕ). pushAll (0 ∷ replicate k 0) ws) e ∙ push-form ws [] (15 - length ws)

@@ -1,0 +1,125 @@
+-- Holding the slots of residuals in a zeroed area, in the specification's terms: of the residuals after an event, of
+-- those of the last definition.
+--     held-proper, held-length      what is read from the slots of proper residuals
+--     after-holds, after-exceeds    one event, from an area that holds residuals
+--     first-holds, first-exceeds    the residuals of the last definition
+-- Assumes nothing.
+use Prim.Native.Nat.{ℕ, _-_, _*_, _≤_, _<_}
+use native.Mathlib.Omega.{arith}
+use mathlib.Core.Path.{_≡_, refl, ap, _∙_}
+use mathlib.Core.List.{List, [], _∷_, map}
+use mathlib.Core.Option.{some}
+use lib.ListN.{length, replicate, length-map}
+use Rattle.numbers.specs.Every.{All}
+use Rattle.table.specs.Table.{Table}
+use Rattle.table.specs.Rules.{Rules}
+use Rattle.meaning.specs.Figure1.{count, last}
+use Rattle.step.specs.declared.slots.Held.the-variants.{Count, Exceeded}
+use Rattle.step.specs.Holding.{said, putAll}
+use Rattle.step.specs.Residual.{resolvedBelow}
+use Rattle.step.specs.Stepped.{gathered, Source}
+use Rattle.step.specs.Canon.Laws.{put-canon, put-exceeded-canon}
+use Rattle.step.specs.Successors.{Holds, allAfter}
+use Rattle.step.specs.Successors as words
+use Rattle.step.specs.Successors.Laws.{stepped, exceeded, slots-of-slots}
+use Rattle.monitor_spec.specs.Regular.Laws.{regular}
+use Rattle.monitor_spec.specs.Residual.{Residual, afterAll, run, fromDefinition, residualsOf}
+use Rattle.monitor_spec.specs.Slots.{slotsOf}
+use Rattle.monitor_spec.specs.State.{concat, fill}
+use Rattle.monitor_spec.specs.Proper.{Proper}
+use Rattle.monitor_spec.specs.Proper.Laws.{afterAll-proper, definition-proper}
+use Rattle.monitor_spec.specs.Valid.{slotResidual, held}
+use Rattle.monitor_spec.specs.Valid.Residuals.{held-some, read-back, slots-all, slots-after}
+use Rattle.monitor.specs.Stepping.Low.{low}
+use Rattle.monitor.specs.Stepping.Resolving.{below-low}
+use Rattle.monitor.specs.Stepping.After.{allAfter-low}
+use Rattle.monitor.specs.Stepping.Canon.{canon-low, area-low}
+
+zeroed : (n : ℕ) → fill n [] ≡ replicate (n * 16) 0
+unfolding fill concat
+zeroed n = let z : (n - 0) * 16 ≡ n * 16 = omega arith in rw z
+
+-- ---- what is read from slots
+
+module _ (t : Table) where
+  -- the slot is read as a proper residual
+  abbrev pub Reads : List ℕ → Type 0
+  Reads w = (r : Residual) × (slotResidual t w ≡ some r) × Proper t r
+
+  reads-held : (ss : List (List ℕ)) → All Reads ss → All (Proper t) (held t ss) × (length (held t ss) ≡ length ss)
+  unfolding held
+  reads-held [] h = (tt, refl)
+  reads-held (w ∷ ws) h =
+      let k = reads-held ws (h .1) in
+      rw (held-some t w ws (h .0 .0) (h .0 .1)) ((h .0 .2, k .0), omega (arith, k .1))
+
+module _ (t : Table) (rules : Rules t) (rs : List Residual) (proper : All (Proper t) rs) where
+  slots-read : All (Reads t) (slotsOf rs)
+  slots-read = slots-all t (regular t rules) (Reads t) (λ r p. (r, read-back t (regular t rules) r p, p)) rs proper
+
+  pub held-proper : All (Proper t) (held t (slotsOf rs))
+  held-proper = reads-held t (slotsOf rs) slots-read .0
+
+  pub held-length : length (held t (slotsOf rs)) ≡ length (slotsOf rs)
+  held-length = reads-held t (slotsOf rs) slots-read .1
+
+  -- ---- one event
+  module _ (n e : ℕ) (small : e < t .alphabet)
+      (holds : Holds t (fill n (slotsOf rs)) 0 (map low (held t (slotsOf rs))))
+      (source : Source t e (fill n (slotsOf rs)) (length (slotsOf rs))) where
+    abbrev hs : List Residual
+    hs = held t (slotsOf rs)
+
+    same-slots : words.canon (allAfter t e (map low hs)) ≡ slotsOf (afterAll t e rs)
+    same-slots =
+        ap words.canon (allAfter-low t rules hs held-proper e small)
+        ∙ canon-low t rules (afterAll t e hs) (afterAll-proper t (regular t rules) e small hs held-proper)
+        ∙ slots-after t (regular t rules) e rs proper
+
+    same-length : length (map low hs) ≡ length (slotsOf rs)
+    same-length = simp length-map held-length
+
+    pub after-holds : length (slotsOf (afterAll t e rs)) ≤ n
+        → putAll (fill n []) 0 (gathered t e (fill n (slotsOf rs)) (length (slotsOf rs)) 0)
+        ≡ said (Count (length (slotsOf (afterAll t e rs)))) (fill n (slotsOf (afterAll t e rs)))
+    after-holds k =
+        rw (zeroed n, ← same-length, ← same-slots, ← area-low n (words.canon (allAfter t e (map low hs))))
+        (stepped t e (fill n (slotsOf rs)) (map low hs) holds (rw same-length source) n (rw same-slots k))
+
+    pub after-exceeds : n < length (slotsOf (afterAll t e rs))
+        → (putAll (fill n []) 0 (gathered t e (fill n (slotsOf rs)) (length (slotsOf rs)) 0)) .held ≡ Exceeded
+    after-exceeds k =
+        rw (zeroed n, ← same-length)
+        (exceeded t e (fill n (slotsOf rs)) (map low hs) holds (rw same-length source) n (rw same-slots k))
+
+-- ---- the last definition
+
+module _ (t : Table) (rules : Rules t) where
+  first-is : resolvedBelow t (count t) (last t) ≡ map low (residualsOf t [])
+  unfolding residualsOf fromDefinition run
+  first-is = let l = regular t rules .some-definition in below-low t rules (last t) (omega arith)
+
+  first-proper : All (Proper t) (residualsOf t [])
+  unfolding residualsOf fromDefinition run
+  first-proper =
+      let l = regular t rules .some-definition in definition-proper t (regular t rules) (last t) (omega arith)
+
+  first-slots : words.canon (resolvedBelow t (count t) (last t)) ≡ slotsOf (residualsOf t [])
+  first-slots = ap words.canon first-is ∙ canon-low t rules (residualsOf t []) first-proper
+
+  pub first-holds : (n : ℕ) → length (slotsOf (residualsOf t [])) ≤ n
+      → putAll (fill n []) 0 (words.slotsOf (resolvedBelow t (count t) (last t)))
+      ≡ said (Count (length (slotsOf (residualsOf t [])))) (fill n (slotsOf (residualsOf t [])))
+  unfolding words.canon
+  first-holds n h =
+      rw (← area-low n [], ← first-slots, ← area-low n (words.canon (resolvedBelow t (count t) (last t))))
+      (put-canon n [] (words.slotsOf (resolvedBelow t (count t) (last t))) tt
+      (slots-of-slots (resolvedBelow t (count t) (last t))) (omega arith) (rw first-slots h))
+
+  pub first-exceeds : (n : ℕ) → n < length (slotsOf (residualsOf t []))
+      → (putAll (fill n []) 0 (words.slotsOf (resolvedBelow t (count t) (last t)))) .held ≡ Exceeded
+  unfolding words.canon
+  first-exceeds n h =
+      rw (← area-low n [])
+      (put-exceeded-canon n [] (words.slotsOf (resolvedBelow t (count t) (last t))) tt
+      (slots-of-slots (resolvedBelow t (count t) (last t))) (omega arith) (rw first-slots h))
