@@ -63,7 +63,7 @@ module _ (ds : List Definition) (level own : ℕ) where
 
 -- ---- of a table
 
-all-at : {A : Type 0} (X : A → Type 0) (z : A) (l : List A) (i : ℕ) → All X l → i < length l → X (getD l i z)
+pub all-at : {A : Type 0} (X : A → Type 0) (z : A) (l : List A) (i : ℕ) → All X l → i < length l → X (getD l i z)
 all-at X z [] i h b = absurd (omega arith)
 all-at X z (x ∷ xs) zero h b = h .0
 all-at X z (x ∷ xs) (suc i) h b = all-at X z xs i (h .1) (omega arith)

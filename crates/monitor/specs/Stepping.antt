@@ -6,7 +6,7 @@
 -- The laws are in `Stepping/`. Assumes nothing.
 use Prim.Native.Nat.{ℕ, _+_, _*_, _<_, _≤_}
 use mathlib.Core.Path.{_≡_}
-use mathlib.Core.List.{List, [], map}
+use mathlib.Core.List.{List, []}
 use lib.ListN.{length, getD}
 use lib.Dec.{ltb}
 use Rattle.numbers.specs.Every.{All}
@@ -27,44 +27,46 @@ use Rattle.monitor_spec.specs.Slots.{slotsOf}
 use Rattle.monitor_spec.specs.Valid.{held}
 use Rattle.monitor_spec.specs.State.{fill}
 use Rattle.monitor_spec.specs.Proper.{Proper}
-use Rattle.monitor.specs.Stepping.Low.{low}
+use Rattle.monitor.specs.Stepping.Areas.{holds-low}
+use Rattle.monitor.specs.Stepping.Trees.{source-low, tree-low, takes-low, resolves-low}
 use Rattle.monitor.specs.Stepping.Outcomes.{after-holds, after-exceeds, first-holds, first-exceeds}
 pub mod Low
 pub mod Words
 pub mod Resolving
 pub mod After
 pub mod Canon
+pub mod Valid
+pub mod Areas
+pub mod Room
+pub mod Trees
 pub mod Outcomes
 
 module _ (t : Table) (rules : Rules t) where
   module _ (rs : List Residual) (proper : All (Proper t) rs) (n : ℕ) (room : length (slotsOf rs) ≤ n) where
     pub step-source : (e : ℕ) → e < t .alphabet → Source t e (fill n (slotsOf rs)) (length (slotsOf rs))
-    step-source e h = ?
-
-    holds-low : words.Holds t (fill n (slotsOf rs)) 0 (map low (held t (slotsOf rs)))
-    holds-low = ?
+    step-source e h = source-low t rules rs proper n room e h
 
     pub step-holds : (e : ℕ) → e < t .alphabet → length (slotsOf (afterAll t e rs)) ≤ n
         → putAll (fill n []) 0 (gathered t e (fill n (slotsOf rs)) (length (slotsOf rs)) 0)
         ≡ said (Count (length (slotsOf (afterAll t e rs)))) (fill n (slotsOf (afterAll t e rs)))
-    step-holds e h k = after-holds t rules rs proper n e h holds-low (step-source e h) k
+    step-holds e h k = after-holds t rules rs proper n e h (holds-low t rules rs proper n) (step-source e h) k
 
     pub step-exceeds : (e : ℕ) → e < t .alphabet → n < length (slotsOf (afterAll t e rs))
         → (putAll (fill n []) 0 (gathered t e (fill n (slotsOf rs)) (length (slotsOf rs)) 0)) .held ≡ Exceeded
-    step-exceeds e h k = after-exceeds t rules rs proper n e h holds-low (step-source e h) k
+    step-exceeds e h k = after-exceeds t rules rs proper n e h (holds-low t rules rs proper n) (step-source e h) k
 
     pub tree-at : (i : ℕ) → i < length (slotsOf rs) → TreeAt t (fill n (slotsOf rs)) (i * 16 + 1)
-    tree-at i h = ?
+    tree-at i h = tree-low t rules rs proper n room i h
 
     pub takes-some : (e i : ℕ) → e < t .alphabet → i < length (slotsOf rs) → (c : Tree)
         → Takes t e (fill n (slotsOf rs)) (i * 16 + 1) c
         → c .moves ≡ ltb 0 (length (after t e (getD (held t (slotsOf rs)) i (leaf 0 noMemory))))
-    takes-some e i h k c s = ?
+    takes-some e i h k c s = takes-low t rules rs proper n room e i h k c s
 
   -- the slots of the last definition's residuals, repeats included
   pub start-resolves : (i : ℕ) → i < length (resolvedBelow t (count t) (last t))
       → ResolvesDefinition t (last t) i empty
-  start-resolves i h = ?
+  start-resolves i h = resolves-low t rules i h
 
   pub start-holds : (n : ℕ) → length (slotsOf (residualsOf t [])) ≤ n
       → putAll (fill n []) 0 (words.slotsOf (resolvedBelow t (count t) (last t)))

@@ -130,8 +130,7 @@ good-fresh l s e = by (judgeList l) refl
     by (accepted ns t) h =
         let f : Fresh l (zeros 4096) (zeros 4096) (zeros 8192) m = record { gave = e; gave0 = refl; gave1 = refl } in
         let b = subst (λ (n : ℕ). Began t n m) slots-256
-        (fresh-began l ns t h (zeros 4096) (zeros 4096) (zeros 8192) m f) in
-        (
+        (fresh-began l ns t h (zeros 4096) (zeros 4096) (zeros 8192) m f) in (
           record {
             table = t;
             numbers = ns;
@@ -141,7 +140,7 @@ good-fresh l s e = by (judgeList l) refl
             fed = b .fed;
             same = b .same;
           },
-          ap (λ (x : Monitor). x .state .taken) (b .same)
+          ap (λ (x : Monitor). x .state .taken) (b .same),
         )
 
 -- what Start leaves, and the line of its first piece

@@ -1,14 +1,12 @@
 -- Holding the slots of residuals in a zeroed area, in the specification's terms: of the residuals after an event, of
 -- those of the last definition.
---     held-proper, held-length      what is read from the slots of proper residuals
 --     after-holds, after-exceeds    one event, from an area that holds residuals
 --     first-holds, first-exceeds    the residuals of the last definition
 -- Assumes nothing.
 use Prim.Native.Nat.{ℕ, _-_, _*_, _≤_, _<_}
 use native.Mathlib.Omega.{arith}
-use mathlib.Core.Path.{_≡_, refl, ap, _∙_}
-use mathlib.Core.List.{List, [], _∷_, map}
-use mathlib.Core.Option.{some}
+use mathlib.Core.Path.{_≡_, ap, _∙_}
+use mathlib.Core.List.{List, [], map}
 use lib.ListN.{length, replicate, length-map}
 use Rattle.numbers.specs.Every.{All}
 use Rattle.table.specs.Table.{Table}
@@ -28,41 +26,19 @@ use Rattle.monitor_spec.specs.Slots.{slotsOf}
 use Rattle.monitor_spec.specs.State.{concat, fill}
 use Rattle.monitor_spec.specs.Proper.{Proper}
 use Rattle.monitor_spec.specs.Proper.Laws.{afterAll-proper, definition-proper}
-use Rattle.monitor_spec.specs.Valid.{slotResidual, held}
-use Rattle.monitor_spec.specs.Valid.Residuals.{held-some, read-back, slots-all, slots-after}
+use Rattle.monitor_spec.specs.Valid.{held}
+use Rattle.monitor_spec.specs.Valid.Residuals.{slots-after}
 use Rattle.monitor.specs.Stepping.Low.{low}
 use Rattle.monitor.specs.Stepping.Resolving.{below-low}
 use Rattle.monitor.specs.Stepping.After.{allAfter-low}
 use Rattle.monitor.specs.Stepping.Canon.{canon-low, area-low}
+use Rattle.monitor.specs.Stepping.Areas.{held-all, held-length}
 
 zeroed : (n : ℕ) → fill n [] ≡ replicate (n * 16) 0
 unfolding fill concat
 zeroed n = let z : (n - 0) * 16 ≡ n * 16 = omega arith in rw z
 
--- ---- what is read from slots
-
-module _ (t : Table) where
-  -- the slot is read as a proper residual
-  abbrev pub Reads : List ℕ → Type 0
-  Reads w = (r : Residual) × (slotResidual t w ≡ some r) × Proper t r
-
-  reads-held : (ss : List (List ℕ)) → All Reads ss → All (Proper t) (held t ss) × (length (held t ss) ≡ length ss)
-  unfolding held
-  reads-held [] h = (tt, refl)
-  reads-held (w ∷ ws) h =
-      let k = reads-held ws (h .1) in
-      rw (held-some t w ws (h .0 .0) (h .0 .1)) ((h .0 .2, k .0), omega (arith, k .1))
-
 module _ (t : Table) (rules : Rules t) (rs : List Residual) (proper : All (Proper t) rs) where
-  slots-read : All (Reads t) (slotsOf rs)
-  slots-read = slots-all t (regular t rules) (Reads t) (λ r p. (r, read-back t (regular t rules) r p, p)) rs proper
-
-  pub held-proper : All (Proper t) (held t (slotsOf rs))
-  held-proper = reads-held t (slotsOf rs) slots-read .0
-
-  pub held-length : length (held t (slotsOf rs)) ≡ length (slotsOf rs)
-  held-length = reads-held t (slotsOf rs) slots-read .1
-
   -- ---- one event
   module _ (n e : ℕ) (small : e < t .alphabet)
       (holds : Holds t (fill n (slotsOf rs)) 0 (map low (held t (slotsOf rs))))
@@ -72,12 +48,12 @@ module _ (t : Table) (rules : Rules t) (rs : List Residual) (proper : All (Prope
 
     same-slots : words.canon (allAfter t e (map low hs)) ≡ slotsOf (afterAll t e rs)
     same-slots =
-        ap words.canon (allAfter-low t rules hs held-proper e small)
-        ∙ canon-low t rules (afterAll t e hs) (afterAll-proper t (regular t rules) e small hs held-proper)
+        ap words.canon (allAfter-low t rules hs (held-all t rules rs proper) e small)
+        ∙ canon-low t rules (afterAll t e hs) (afterAll-proper t (regular t rules) e small hs (held-all t rules rs proper))
         ∙ slots-after t (regular t rules) e rs proper
 
     same-length : length (map low hs) ≡ length (slotsOf rs)
-    same-length = simp length-map held-length
+    same-length = simp length-map (held-length t rules rs proper)
 
     pub after-holds : length (slotsOf (afterAll t e rs)) ≤ n
         → putAll (fill n []) 0 (gathered t e (fill n (slotsOf rs)) (length (slotsOf rs)) 0)

@@ -69,13 +69,13 @@ canon-same : (l : List (List ℕ)) → Ascending l → canon l ≡ l
 canon-same l h = ascending-unique (canon l) l (canon-ascending l) h (λ a i. in-canon a l .0 i)
     (λ a i. in-canon a l .1 i)
 
-held-words : (t : Table) (l : List (List ℕ)) → All (SlotOf t) l → map slotOf (held t l) ≡ l
+pub held-words : (t : Table) (l : List (List ℕ)) → All (SlotOf t) l → map slotOf (held t l) ≡ l
 unfolding held
 held-words t [] h = refl
 held-words t (w ∷ l) h =
     ap (map slotOf) (held-some t w l (h .0 .residual) (h .0 .reads)) ∙ ap₂ _∷_ (h .0 .words) (held-words t l (h .1))
 
-held-proper : (t : Table) (l : List (List ℕ)) → All (SlotOf t) l → All (Proper t) (held t l)
+pub held-proper : (t : Table) (l : List (List ℕ)) → All (SlotOf t) l → All (Proper t) (held t l)
 unfolding held
 held-proper t [] h = tt
 held-proper t (w ∷ l) h = rw (held-some t w l (h .0 .residual) (h .0 .reads)) (h .0 .proper, held-proper t l (h .1))

@@ -183,7 +183,7 @@ module _ (t : Table) where
           (all-pairs n m (Kept t x) (Kept t y) (Kept t (x + y)) f (l ∷ []) rs ((i, omega arith), tt) b))
       pair-after n m l r (call d) h g i j a b = tt
 
-      after-kept : (R : Residual) → Sound t R → Fits t R → All (Kept t (reachSum t R)) (after t e R)
+      pub after-kept : (R : Residual) → Sound t R → Fits t R → All (Kept t (reachSum t R)) (after t e R)
       unfolding reachSum
       after-kept (leaf n m) (x, h, i) g =
           rw (after-leaf-at t regular e n m x h, reachAt-at n x h) (leaf-after n m x h g)

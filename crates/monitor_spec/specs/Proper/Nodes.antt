@@ -31,7 +31,7 @@ module _ (t : Table) (regular : Regular t) where
   reach-some (par r p q) g = let a = reach-some p (g .0) in omega arith
   reach-some (call d) g = regular .width-some d g
 
-  nodes-reach : (r : Residual) → Sound t r → suc (length (nodes r)) ≤ 2 * reachSum t r
+  pub nodes-reach : (r : Residual) → Sound t r → suc (length (nodes r)) ≤ 2 * reachSum t r
   unfolding nodes reachSum
   nodes-reach (leaf n m) (x, h, i) =
       let a = reach-some x (number-guarded t regular (number-at t n x h .stands)) in

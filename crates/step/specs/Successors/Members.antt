@@ -311,7 +311,7 @@ pair-by t e n m l r false h f g =
     (pairs-both n m (afterKept t e l) (after t e l) (r ∷ []) (r ∷ []) f (refl-both (map words (r ∷ []))))
     (pairs-both n m (l ∷ []) (l ∷ []) (afterKept t e r) (after t e r) (refl-both (map words (l ∷ []))) g))
 
-node-results : (t : Table) (e n m : ℕ) → m < 16777216 → leafResults t e (nodeWord n m) ≡ leafAfter t e n m
+pub node-results : (t : Table) (e n m : ℕ) → m < 16777216 → leafResults t e (nodeWord n m) ≡ leafAfter t e n m
 unfolding leafResults
 node-results t e n m h = rw (term-of-node n m h, memory-of-node n m h)
 
@@ -336,7 +336,7 @@ same-after t e (pair n m l r) v s =
 
 -- ---- a residual whose results have room is short
 
-room-append : (t : Table) (e : ℕ) (a b : List ℕ) → room t e (a ++ b) ≡ room t e a + room t e b
+pub room-append : (t : Table) (e : ℕ) (a b : List ℕ) → room t e (a ++ b) ≡ room t e a + room t e b
 unfolding room
 room-append t e [] b = omega arith
 room-append t e (w ∷ a) b = omega (arith, room-append t e a b)
