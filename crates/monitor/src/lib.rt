@@ -4,7 +4,11 @@
 mod answer;
 mod clear;
 mod consistent;
+mod event;
+mod feeder;
 mod lengths;
+mod offerer;
+mod starter;
 mod state;
 mod valid;
 mod viewer;
@@ -12,6 +16,9 @@ mod words;
 
 pub use answer::Answer;
 pub use answer::Offered;
+pub use feeder::feed;
+pub use offerer::offer;
+pub use starter::start;
 pub use state::State;
 pub use state::Verdict;
 pub use viewer::view;

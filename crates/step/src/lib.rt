@@ -4,6 +4,7 @@
 mod leaves;
 mod resolve;
 mod slots;
+mod starts;
 mod steps;
 mod takes;
 mod walk;
@@ -15,6 +16,7 @@ pub use slots::Held;
 pub use slots::Inserted;
 pub use slots::insert;
 pub use slots::put;
+pub use starts::resolve_set;
 pub use steps::step_set;
 pub use takes::takes_at;
 pub use walk::Tree;

@@ -1,0 +1,124 @@
+-- What a step between two areas leaves in them: `advance`, by what crate step answers.
+--     holding-source                    what the step asks for
+--     advanced-count, advanced-exceeded      the next residuals have room; they have none
+-- Assumes nothing.
+use Prim.Native.Nat.{ℕ, _+_, _-_, _*_, _≤_, _<_}
+use native.Mathlib.Omega.{arith}
+use native.Mathlib.Decide.{decLt}
+use mathlib.Core.Path.{_≡_, refl, ap, ap₂, sym, _∙_}
+use mathlib.Core.List.{List, [], _++_}
+use lib.ListN.{length, drop, replicate-append-replicate}
+use lib.Seq.{drop-at}
+use Rattle.numbers.specs.Every.{All}
+use Rattle.table.specs.Table.{Table}
+use Rattle.table.specs.Operations.{zeros}
+use Rattle.table.specs.Rules.{Rules}
+use Rattle.step.specs.declared.slots.Held.{Held}
+use Rattle.step.specs.declared.slots.Held.the-variants.{Count, Exceeded}
+use Rattle.step.specs.Holding.{Outcome, said, putAll, Gave}
+use Rattle.step.specs.Stepped.{gathered, Source}
+use Rattle.monitor_spec.specs.Regular.{Regular}
+use Rattle.monitor_spec.specs.Regular.Laws.{regular}
+use Rattle.monitor_spec.specs.Residual.{Residual, afterAll}
+use Rattle.monitor_spec.specs.Slots.{slotsOf}
+use Rattle.monitor_spec.specs.Valid.{held}
+use Rattle.monitor_spec.specs.Valid.Residuals.{slot-sixteen, slots-all, slots-after}
+use Rattle.monitor_spec.specs.State.{slotCount, chunks, concat, fill}
+use Rattle.monitor_spec.specs.State.Areas.{Sixteen, length-concat, length-fill, slotCount-fill, chunks-fill}
+use Rattle.monitor.specs.Stepping.{step-source, step-holds, step-exceeds}
+use Rattle.monitor.specs.Feeding.{Holding, nextOf, Stepped}
+
+fill-none : (n : ℕ) → fill n [] ≡ zeros (n * 16)
+unfolding fill concat
+fill-none n = let i : (n - 0) * 16 ≡ n * 16 = omega arith in ap zeros i
+
+-- the words in use are zeroed, and the others were zero
+cleared-fill : (n : ℕ) (ss : List (List ℕ)) → All Sixteen ss → length ss ≤ n
+    → zeros (length ss * 16) ++ drop (length ss * 16) (fill n ss) ≡ fill n []
+unfolding fill
+cleared-fill n ss h room =
+    let k : ℕ = length ss in
+    let rest : ℕ = (n - k) * 16 in
+    let i : k * 16 + rest ≡ n * 16 = omega arith in
+    ap (zeros (k * 16) ++_) (drop-at (concat ss) (zeros rest) (k * 16) (length-concat ss h))
+    ∙ replicate-append-replicate (k * 16) rest 0 ∙ ap zeros i ∙ sym (fill-none n)
+
+same-count : (i j : ℕ) → Count i ≡ Count j → i ≡ j
+same-count i j e = cc
+
+module _ (t : Table) (rules : Rules t) (e : ℕ) (known : e < t .alphabet) (p o : List ℕ) (c : ℕ)
+    (h : Holding t p o c) where
+  abbrev n : ℕ
+  n = h .slots
+
+  abbrev rs : List Residual
+  rs = h .residuals
+
+  abbrev next : List (List ℕ)
+  next = slotsOf (afterAll t e rs)
+
+  pub holding-source : Source t e p c
+  holding-source = rw (h .present, h .count) (step-source t rules rs (h .proper) n (h .room) e known)
+
+  sixteen : All Sixteen (slotsOf rs)
+  sixteen = slots-all t (regular t rules) Sixteen (slot-sixteen t (regular t rules)) rs (h .proper)
+
+  slots-are : slotCount p ≡ n
+  slots-are = ap slotCount (h .present) ∙ slotCount-fill n (slotsOf rs) sixteen (h .room)
+
+  next-is : nextOf t e p c ≡ next
+  unfolding nextOf
+  next-is =
+      ap₂ (λ (i : ℕ) (a : List ℕ). slotsOf (afterAll t e (held t (chunks i a)))) (h .count) (h .present)
+      ∙ ap (λ (ss : List (List ℕ)). slotsOf (afterAll t e (held t ss))) (chunks-fill n (slotsOf rs) sixteen)
+      ∙ slots-after t (regular t rules) e rs (h .proper)
+
+  cleared : zeros (c * 16) ++ drop (c * 16) p ≡ fill n []
+  cleared =
+      ap₂ (λ (i : ℕ) (a : List ℕ). zeros (i * 16) ++ drop (i * 16) a) (h .count) (h .present)
+      ∙ cleared-fill n (slotsOf rs) sixteen (h .room)
+
+  other-zero : zeros (length o) ≡ o
+  other-zero =
+      ap (λ (a : List ℕ). zeros (length a)) (h .other)
+      ∙ ap zeros (length-fill n [] tt (omega arith)) ∙ sym (fill-none n) ∙ sym (h .other)
+
+  abbrev Result : Held → List ℕ → List ℕ → Type 0
+  Result r p' o' =
+      Stepped (slotCount p) (nextOf t e p c) p o (fill (slotCount p) []) (fill (slotCount p) (nextOf t e p c)) r p' o'
+
+  module _ (r : Held) (o₁ : List ℕ) (g : Gave (putAll o 0 (gathered t e p c 0)) r o₁) where
+    gave : said r o₁ ≡ putAll (fill n []) 0 (gathered t e (fill n (slotsOf rs)) (length (slotsOf rs)) 0)
+    gave = rw (← h .other, ← h .present, ← h .count) (g .same)
+
+    roomy : length next ≤ n → said r o₁ ≡ said (Count (length next)) (fill n next)
+    roomy l = gave ∙ step-holds t rules rs (h .proper) n (h .room) e known l
+
+    crowded : n < length next → r ≡ Exceeded
+    crowded l = ap (λ (x : Outcome). x .held) gave ∙ step-exceeds t rules rs (h .proper) n (h .room) e known l
+
+    pub advanced-count : (k : ℕ) → r ≡ Count k → (p' : List ℕ) → p' ≡ zeros (c * 16) ++ drop (c * 16) p
+        → Result (Count k) p' o₁
+    advanced-count k q p' z = rw (slots-are, next-is) (by (decLt n (length next)))
+      where
+        by : Dec (n < length next) → Stepped n next p o (fill n []) (fill n next) (Count k) p' o₁
+        by (yes l) = absurd (let x = crowded l in let y : _≡_ {A = ℕ} 0 1 = cc in omega arith)
+        by (no l) =
+            let m : length next ≤ n = omega arith in
+            let s = roomy m in
+            record {
+              count = same-count k (length next) (sym q ∙ ap (λ (x : Outcome). x .held) s);
+              room = m;
+              first = z ∙ cleared;
+              second = ap (λ (x : Outcome). x .area) s;
+            }
+
+    pub advanced-exceeded : r ≡ Exceeded → (o' : List ℕ) → o' ≡ zeros (length o₁) → length o₁ ≡ length o
+        → Result Exceeded p o'
+    advanced-exceeded q o' z l = rw (slots-are, next-is) (by (decLt n (length next)))
+      where
+        by : Dec (n < length next) → Stepped n next p o (fill n []) (fill n next) Exceeded p o'
+        by (yes m) = record { over = m; first = refl; second = z ∙ ap zeros l ∙ other-zero }
+        by (no m) =
+            let k : length next ≤ n = omega arith in
+            absurd (let x = ap (λ (x : Outcome). x .held) (roomy k) in let y : _≡_ {A = ℕ} 0 1 = cc in omega arith)

@@ -1,0 +1,9 @@
+-- What the proofs of Offer share, on plain values, one law for each way out.
+--     BitTurn, BitsTurn     of `bit` and `bits`
+--     Cases                 of `offer_accepted`
+--     Outcomes              of `offer`
+-- Assumes nothing.
+pub mod BitTurn
+pub mod BitsTurn
+pub mod Cases
+pub mod Outcomes

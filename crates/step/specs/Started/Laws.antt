@@ -1,0 +1,89 @@
+-- Holding the residuals of a definition: one law per way out of `resolve_set`'s loop.
+--     body-in, all-branches                      the body's number; as many residuals as branches
+--     start-next, start-exceeded, start-end      the loop of `resolve_set`
+-- Assumes nothing.
+use Prim.Native.Nat.{ℕ, zero, suc, _+_, _*_, _<_, _≤_}
+use native.Mathlib.Omega.{arith}
+use native.Mathlib.Numerals.{add-one}
+use mathlib.Core.Path.{_≡_, refl, ap, sym, _∙_}
+use mathlib.Core.List.{List, [], _∷_, map}
+use lib.ListN.{length, getD, drop, length-map, drop-of-length-le}
+use lib.Seq.{drop-cons}
+use Rattle.table.specs.Table.{Table, termCount, bodyNumber}
+use Rattle.table.specs.Branches.{branches, bodyIn}
+use Rattle.table.specs.Branches.Capped.{capped}
+use Rattle.table.specs.Node.{termOf}
+use Rattle.table.specs.Node.Parts.{size-positive}
+use Rattle.table.specs.Node.Laws.{body-node}
+use Rattle.step.specs.declared.slots.Held.{Held}
+use Rattle.step.specs.declared.slots.Held.the-variants.{Count, Exceeded}
+use Rattle.step.specs.Lawful.{Lawful}
+use Rattle.step.specs.Residual.{Residual, words, resolvedBelow, nth, pushAll, definitionInto}
+use Rattle.step.specs.Residual.Resolved.{length-resolved, resolved-definition}
+use Rattle.step.specs.Distinct.{empty}
+use Rattle.step.specs.Walk.{onto}
+use Rattle.step.specs.Holding.{said, putOne, putAll, Gave}
+use Rattle.step.specs.Holding.Laws.{put-none, put-single, put-then, put-stop}
+use Rattle.step.specs.Successors.{slotsOf}
+use Rattle.step.specs.Started.{initial}
+
+-- ---- the number of residuals
+
+pub body-in : (t : Table) (d : ℕ) → d < length (t .definitions) → (n : ℕ) → n ≡ bodyNumber t d → n < termCount t
+body-in t d h n e =
+    omega (arith, body-node t d h .next, body-node t d h .inside, size-positive (bodyIn (t .definitions) d))
+
+pub all-branches : (t : Table) → Lawful t → (d : ℕ) → d < length (t .definitions) → (n c : ℕ) → n ≡ bodyNumber t d
+    → c ≡ capped (branches t (termOf t n)) → c ≡ length (resolvedBelow t (length (t .definitions)) d)
+unfolding capped
+all-branches t a d h n c en ec =
+    let few : branches t (termOf t n) ≤ 256 = rw (en, body-node t d h .term) (a .bodies d h) in
+    let same : length (resolvedBelow t (length (t .definitions)) d) ≡ branches t (termOf t n) = ap length
+    (resolved-definition t a d h) ∙ length-resolved t (bodyNumber t d) 0
+    ∙ ap (λ (k : ℕ). branches t (termOf t k)) (sym en) in
+    omega arith
+
+-- ---- the loop
+
+length-slots : (rs : List Residual) → length (slotsOf rs) ≡ length rs
+unfolding slotsOf onto
+length-slots rs = length-map (map words rs) (λ c. pushAll empty c) ∙ length-map rs words
+
+slot-of : (rs : List Residual) (i : ℕ) → i < length rs → getD (slotsOf rs) i [] ≡ pushAll empty (words (nth rs i))
+unfolding slotsOf onto nth
+slot-of [] i h = absurd (omega arith)
+slot-of (r ∷ rs) zero h = refl
+slot-of (r ∷ rs) (suc i) h = slot-of rs i (omega arith)
+
+module _ (t : Table) (d : ℕ) where
+  -- the slots from the i-th on
+  rest-at : (i : ℕ) → i < length (resolvedBelow t (length (t .definitions)) d)
+      → drop i (initial t d) ≡ definitionInto t d i empty ∷ drop (i + 1) (initial t d)
+  unfolding definitionInto
+  rest-at i h =
+      let rs = resolvedBelow t (length (t .definitions)) d in
+      let at : i < length (slotsOf rs) = omega (arith, length-slots rs) in
+      drop-cons (slotsOf rs) i [] at ∙ rw (slot-of rs i h, add-one i)
+
+  module _ (area : List ℕ) (c i : ℕ) (h : i < length (resolvedBelow t (length (t .definitions)) d)) (s : List ℕ)
+      (es : s ≡ definitionInto t d i empty) (r : Held) (l : List ℕ) (g : Gave (putOne area c s) r l) where
+    one : said r l ≡ putAll area c (definitionInto t d i empty ∷ [])
+    one = g .same ∙ put-single area c s ∙ rw es
+
+    pub start-next : (k : ℕ) → r ≡ Count k
+        → (putAll l k (drop (i + 1) (initial t d)) ≡ putAll area c (drop i (initial t d))) × (k * 16 ≤ length l)
+    start-next k e = (
+      put-then area c (definitionInto t d i empty ∷ []) (drop (i + 1) (initial t d)) e one
+          ∙ rw (rest-at i h),
+      rw e at (g .fits),
+    )
+
+    pub start-exceeded : r ≡ Exceeded → said Exceeded l ≡ putAll area c (drop i (initial t d))
+    start-exceeded e =
+        put-stop area c (definitionInto t d i empty ∷ []) (drop (i + 1) (initial t d)) e one ∙ rw (rest-at i h)
+
+  pub start-end : (area : List ℕ) (c i : ℕ) → length (resolvedBelow t (length (t .definitions)) d) ≤ i
+      → said (Count c) area ≡ putAll area c (drop i (initial t d))
+  start-end area c i h =
+      let z : length (initial t d) ≤ i = omega (arith, length-slots (resolvedBelow t (length (t .definitions)) d)) in
+      put-none area c ∙ rw (drop-of-length-le (initial t d) z)
