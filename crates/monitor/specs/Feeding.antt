@@ -3,21 +3,18 @@
 --     nextOf                 the slots after an event, of those that an area holds
 --     Stepped, Moved         the areas after an event, or as they were where the residuals exceed the slots
 --     TakenBy, EndedBy       one event; all events
--- The laws are in `Feeding/`. Assumes nothing.
+-- Assumes nothing.
 use Prim.Native.Nat.{ℕ, _≤_, _<_}
 use mathlib.Core.Path.{_≡_}
 use mathlib.Core.List.{List, []}
 use lib.ListN.{length}
-use Rattle.numbers.specs.Every.{All}
 use Rattle.table.specs.Table.{Table}
 use Rattle.table.specs.Operations.{zeros}
 use Rattle.step.specs.declared.slots.Held.{Held}
 use Rattle.step.specs.declared.slots.Held.the-variants.{Count, Exceeded}
-use Rattle.monitor_spec.specs.Residual.{Residual, afterAll}
+use Rattle.monitor_spec.specs.Residual.{afterAll}
 use Rattle.monitor_spec.specs.Slots.{slotsOf}
-use Rattle.monitor_spec.specs.Valid.{held}
-use Rattle.monitor_spec.specs.Proper.{Proper}
-use Rattle.monitor_spec.specs.State.{Monitor, slotCount, chunks, fill}
+use Rattle.monitor_spec.specs.State.{Monitor, slotCount, fill}
 use Rattle.monitor_spec.specs.Fold.{went, stops, through}
 use Rattle.monitor_spec.specs.Feed.{nextSlots, taking, takeEvent, endingOf, feedAccepted}
 use Rattle.monitor_spec.specs.Sensible.{Laid}
@@ -26,16 +23,12 @@ use Rattle.monitor.specs.declared.event.Taken.the-variants.{Went, Stoppe
 use Rattle.monitor.specs.declared.answer.Answer.{Answer}
 use Rattle.monitor.specs.Record.{monitorOf}
 use Rattle.monitor.specs.Answers.{outcome}
+use Rattle.monitor.specs.Holds.{Holds, heldIn}
 
 -- area p holds the slots of c proper residuals and then zeros, area o zeros
 pub record Holding (t : Table) (p o : List ℕ) (c : ℕ) : Type 0 where
-  pub slots : ℕ
-  pub residuals : List Residual
-  pub proper : All (Proper t) residuals
-  pub room : length (slotsOf residuals) ≤ slots
-  pub count : c ≡ length (slotsOf residuals)
-  pub present : p ≡ fill slots (slotsOf residuals)
-  pub other : o ≡ fill slots []
+  pub held : Holds t p c
+  pub other : o ≡ fill (held .slots) []
 
 pub record Standing (t : Table) (m : Monitor) : Type 0 where
   pub slots : ℕ
@@ -43,7 +36,7 @@ pub record Standing (t : Table) (m : Monitor) : Type 0 where
 
 -- the residuals after event e, of the c residuals that area p holds
 unfoldable pub nextOf : Table → ℕ → List ℕ → ℕ → List (List ℕ)
-nextOf t e p c = slotsOf (afterAll t e (held t (chunks c p)))
+nextOf t e p c = slotsOf (afterAll t e (heldIn t p c))
 
 pub record Filled (n : ℕ) (next : List (List ℕ)) (a⁺ b⁺ : List ℕ) (c : ℕ) (a' b' : List ℕ) : Type 0 where
   pub count : c ≡ length next

@@ -4,6 +4,6 @@ pub mod Record
 pub mod Answers
 pub mod Walk
 pub mod Stepping
+pub mod Holds
 pub mod Starting
 pub mod Feeding
-pub mod Holds

@@ -26,6 +26,7 @@ use Rattle.monitor_spec.specs.Valid.Residuals.{slot-sixteen, slots-all, slots-a
 use Rattle.monitor_spec.specs.State.{slotCount, chunks, concat, fill}
 use Rattle.monitor_spec.specs.State.Areas.{Sixteen, length-concat, length-fill, slotCount-fill, chunks-fill}
 use Rattle.monitor.specs.Stepping.{step-source, step-holds, step-exceeds}
+use Rattle.monitor.specs.Holds.{heldIn}
 use Rattle.monitor.specs.Feeding.{Holding, nextOf, Stepped}
 
 fill-none : (n : ℕ) → fill n [] ≡ zeros (n * 16)
@@ -49,34 +50,34 @@ same-count i j e = cc
 module _ (t : Table) (rules : Rules t) (e : ℕ) (known : e < t .alphabet) (p o : List ℕ) (c : ℕ)
     (h : Holding t p o c) where
   abbrev n : ℕ
-  n = h .slots
+  n = h .held .slots
 
   abbrev rs : List Residual
-  rs = h .residuals
+  rs = h .held .residuals
 
   abbrev next : List (List ℕ)
   next = slotsOf (afterAll t e rs)
 
   pub holding-source : Source t e p c
-  holding-source = rw (h .present, h .count) (step-source t rules rs (h .proper) n (h .room) e known)
+  holding-source = rw (h .held .words, h .held .number) (step-source t rules rs (h .held .proper) n (h .held .room) e known)
 
   sixteen : All Sixteen (slotsOf rs)
-  sixteen = slots-all t (regular t rules) Sixteen (slot-sixteen t (regular t rules)) rs (h .proper)
+  sixteen = slots-all t (regular t rules) Sixteen (slot-sixteen t (regular t rules)) rs (h .held .proper)
 
   slots-are : slotCount p ≡ n
-  slots-are = ap slotCount (h .present) ∙ slotCount-fill n (slotsOf rs) sixteen (h .room)
+  slots-are = ap slotCount (h .held .words) ∙ slotCount-fill n (slotsOf rs) sixteen (h .held .room)
 
   next-is : nextOf t e p c ≡ next
-  unfolding nextOf
+  unfolding nextOf heldIn
   next-is =
-      ap₂ (λ (i : ℕ) (a : List ℕ). slotsOf (afterAll t e (held t (chunks i a)))) (h .count) (h .present)
+      ap₂ (λ (i : ℕ) (a : List ℕ). slotsOf (afterAll t e (held t (chunks i a)))) (h .held .number) (h .held .words)
       ∙ ap (λ (ss : List (List ℕ)). slotsOf (afterAll t e (held t ss))) (chunks-fill n (slotsOf rs) sixteen)
-      ∙ slots-after t (regular t rules) e rs (h .proper)
+      ∙ slots-after t (regular t rules) e rs (h .held .proper)
 
   cleared : zeros (c * 16) ++ drop (c * 16) p ≡ fill n []
   cleared =
-      ap₂ (λ (i : ℕ) (a : List ℕ). zeros (i * 16) ++ drop (i * 16) a) (h .count) (h .present)
-      ∙ cleared-fill n (slotsOf rs) sixteen (h .room)
+      ap₂ (λ (i : ℕ) (a : List ℕ). zeros (i * 16) ++ drop (i * 16) a) (h .held .number) (h .held .words)
+      ∙ cleared-fill n (slotsOf rs) sixteen (h .held .room)
 
   other-zero : zeros (length o) ≡ o
   other-zero =
@@ -89,20 +90,20 @@ module _ (t : Table) (rules : Rules t) (e : ℕ) (known : e < t .alphabet) (p o 
 
   module _ (r : Held) (o₁ : List ℕ) (g : Gave (putAll o 0 (gathered t e p c 0)) r o₁) where
     gave : said r o₁ ≡ putAll (fill n []) 0 (gathered t e (fill n (slotsOf rs)) (length (slotsOf rs)) 0)
-    gave = rw (← h .other, ← h .present, ← h .count) (g .same)
+    gave = rw (← h .other, ← h .held .words, ← h .held .number) (g .same)
 
     roomy : length next ≤ n → said r o₁ ≡ said (Count (length next)) (fill n next)
-    roomy l = gave ∙ step-holds t rules rs (h .proper) n (h .room) e known l
+    roomy l = gave ∙ step-holds t rules rs (h .held .proper) n (h .held .room) e known l
 
-    crowded : n < length next → r ≡ Exceeded
-    crowded l = ap (λ (x : Outcome). x .held) gave ∙ step-exceeds t rules rs (h .proper) n (h .room) e known l
+    exceeds : n < length next → r ≡ Exceeded
+    exceeds l = ap (λ (x : Outcome). x .held) gave ∙ step-exceeds t rules rs (h .held .proper) n (h .held .room) e known l
 
     pub advanced-count : (k : ℕ) → r ≡ Count k → (p' : List ℕ) → p' ≡ zeros (c * 16) ++ drop (c * 16) p
         → Result (Count k) p' o₁
     advanced-count k q p' z = rw (slots-are, next-is) (by (decLt n (length next)))
       where
         by : Dec (n < length next) → Stepped n next p o (fill n []) (fill n next) (Count k) p' o₁
-        by (yes l) = absurd (let x = crowded l in let y : _≡_ {A = ℕ} 0 1 = cc in omega arith)
+        by (yes l) = absurd (let x = exceeds l in let y : _≡_ {A = ℕ} 0 1 = cc in omega arith)
         by (no l) =
             let m : length next ≤ n = omega arith in
             let s = roomy m in

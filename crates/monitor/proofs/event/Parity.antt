@@ -20,6 +20,7 @@ use Rattle.monitor_spec.specs.Expected.Laid.{laid-lengths}
 use Rattle.monitor.specs.declared.state.State.{State}
 use Rattle.monitor.specs.Record.{monitorOf}
 use Rattle.monitor.specs.Record.View.{present-even, present-odd}
+use Rattle.monitor.specs.Holds.{heldIn}
 use Rattle.monitor.specs.Feeding.{Holding, Standing, nextOf, Stepped, Moved}
 
 swapped : (n : ℕ) (next : List (List ℕ)) (a b x y : List ℕ) (r : Held) (a' b' : List ℕ)
@@ -69,18 +70,20 @@ module _ (t : Table) (regular : Regular t) (s : State) (a b : List ℕ) (h : Sta
   holds : (p o : List ℕ) → p ≡ fill n (slotsOf rs) → o ≡ fill n [] → Holding t p o (s .count)
   holds p o x y =
       record {
-        slots = n;
-        residuals = rs;
-        proper = h .laid .sensible .proper;
-        room = h .laid .sensible .room;
-        count = count-is;
-        present = x;
+        held = record {
+          residuals = rs;
+          slots = n;
+          proper = h .laid .sensible .proper;
+          room = h .laid .sensible .room;
+          words = x;
+          number = count-is;
+        };
         other = y;
       }
 
   next-at : (e : ℕ) (p : List ℕ) → choose (even (s .taken)) a b ≡ p
       → nextSlots t (monitorOf s a b) e ≡ nextOf t e p (s .count)
-  unfolding nextSlots presentSlots nextOf
+  unfolding nextSlots presentSlots nextOf heldIn
   next-at e p x = ap (λ (l : List ℕ). slotsOf (afterAll t e (held t (chunks (s .count) l)))) x
 
   module _ (parity : s .taken % 2 ≡ 0) where
