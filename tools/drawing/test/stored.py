@@ -1,0 +1,47 @@
+"""Tables that tools/reference wrote, with its answers.
+
+    accepted    the bytes of the accepted tables of some test data
+    refused     the bytes of Read's refused inputs
+"""
+
+import functools
+import subprocess
+
+from places import REFERENCE, ROOT
+
+FILE = ROOT / "crates" / "table_test" / "data" / "tables.txt"
+
+
+def stored():
+    return FILE.read_text()
+
+
+def drawn(seed, count):
+    """Test data drawn at random anew."""
+    command = [str(REFERENCE), "cases", "--seed", str(seed), "--count", str(count)]
+    return subprocess.run(command, check=True, capture_output=True, text=True).stdout
+
+
+@functools.lru_cache(maxsize=None)
+def cases(data):
+    """The letter, the input's words and the answer's number of each case."""
+    found = set()
+    for line in data.split("\n"):
+        if line[:1] in ("r", "w", "c"):
+            before, answer = line.split(" =")
+            found.add((line[0], before.split(" :")[1], int(answer.split()[0])))
+    return found
+
+
+def accepted(data):
+    # the head of the data says that each number of an accepted table is one byte
+    return sorted(map(bytes_of, {words for _, words, answer in cases(data) if answer == 0}))
+
+
+def refused(data):
+    found = {words for letter, words, answer in cases(data) if letter == "r" and answer != 0}
+    return sorted(map(bytes_of, found))
+
+
+def bytes_of(words):
+    return bytes(map(int, words.split()))
