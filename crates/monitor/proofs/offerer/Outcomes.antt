@@ -5,7 +5,6 @@ use mathlib.Core.Path.{_≡_, refl, ap, ap₂, sym, _∙_}
 use mathlib.Core.Bool.{Bool, true, false, not, _&&_}
 use mathlib.Core.List.{List}
 use lib.ListN.{length}
-use lib.Dec.{eqb}
 use borrow.Author.Tests.{eqb-true, not-true, not-false}
 use Rattle.table.specs.declared.answer.Judged.{Judged}
 use Rattle.table.specs.declared.answer.Judged.the-variants.{Accepted, Declined}
@@ -21,7 +20,7 @@ use Rattle.monitor.specs.declared.answer.Offered.the-variants.{Refused}
 use Rattle.monitor_spec.specs.Valid.Laws.{and-split}
 use Rattle.monitor_spec.specs.State.{Monitor, areasMeasured, workMeasured}
 use Rattle.monitor_spec.specs.Consistent.{consistent}
-use Rattle.monitor_spec.specs.Offer.{Offered, OfferOutcome, refused, offering, offerJudged, offerOf}
+use Rattle.monitor_spec.specs.Offer.{Offered, offering, offerJudged, offerOf}
 use Rattle.monitor.specs.Record.{lengthsFit, monitorOf}
 use Rattle.monitor.specs.Record.Laws.{lengths-measured}
 use Rattle.monitor.specs.Answers.{offeredOf, offerOutcome}

@@ -1,7 +1,7 @@
 -- `offerer::bit` meets its contract. The invariant: the residuals from the i-th on have the bit that all have. The
 -- measure is what is left of the count. Assumes nothing.
 use native.Mathlib.Omega.{arith}
-use Prim.Native.Nat.{_-_, _≤_}
+use Prim.Native.Nat.{_-_}
 use mathlib.Core.Path.{_≡_, refl, _∙_}
 use Rattle.table.specs.Index.{tableIn}
 use Rattle.index.specs.Facts.{indexed-rules}
