@@ -4,10 +4,8 @@ ghost use mathlib.Core.Path.{_≡_};
 ghost use Prim.Native.Nat.{_<_};
 ghost use lib.ListN.{length};
 ghost use Rattle.table.specs.Index.{tableIn, Indexed};
-ghost use Rattle.monitor_spec.specs.State.{slotCount, fill};
-ghost use mathlib.Core.List.{[]};
 ghost use Rattle.monitor.specs.Record.{monitorOf};
-ghost use Rattle.monitor.specs.Feeding.{Holding, Standing, nextOf, Stepped, Moved, TakenBy};
+ghost use Rattle.monitor.specs.Feeding.{Holding, Standing, Advanced, Moved, TakenBy};
 use crate::clear::clear_all;
 use crate::clear::clear_first;
 use crate::state::State;
@@ -19,8 +17,8 @@ pub enum Taken {
     Stopped(u8),
 }
 
-// Fills the other area with the residuals after event e, and zeroes the present one; where they
-// exceed the slots, both areas are as they were. Only words in use are cleared.
+// Fills the other area with the residuals after event e, and zeroes the words in use of the present
+// one; where they exceed the slots, both areas are as they were.
 fn advance(
     list: &[u16],
     work: &[u64],
@@ -34,12 +32,8 @@ fn advance(
     requires { ⌜ Holding (tableIn (now list)) (now present) (now other) count ⌝ }
     requires { ⌜ (e < tableIn (now list) .alphabet) × (length (now store) ≡ 4112) ⌝ }
     ensures { λ r.
-        ⌜ Stepped (slotCount (now (present .entry)))
-        (nextOf (tableIn (now (list .entry))) e (now (present .entry)) count)
+        ⌜ Advanced (tableIn (now (list .entry))) e count
         (now (present .entry)) (now (other .entry))
-        (fill (slotCount (now (present .entry))) [])
-        (fill (slotCount (now (present .entry)))
-        (nextOf (tableIn (now (list .entry))) e (now (present .entry)) count))
         r (now (present .exit)) (now (other .exit)) ⌝ }
 {
     match step::step_set(list, work, e, present, count, store, other) {
@@ -79,7 +73,7 @@ fn advance_present(
     advance(list, work, e, count, area1, area0, store)
 }
 
-// Takes one event.
+// Takes one event, or refuses it and keeps the areas. The store is for a step's own use.
 pub fn take_event(
     list: &[u16],
     work: &[u64],

@@ -17,7 +17,6 @@ use Rattle.step.specs.declared.slots.Held.{Held}
 use Rattle.step.specs.declared.slots.Held.the-variants.{Count, Exceeded}
 use Rattle.step.specs.Holding.{Outcome, said, putAll, Gave}
 use Rattle.step.specs.Stepped.{gathered, Source}
-use Rattle.monitor_spec.specs.Regular.{Regular}
 use Rattle.monitor_spec.specs.Regular.Laws.{regular}
 use Rattle.monitor_spec.specs.Residual.{Residual, afterAll}
 use Rattle.monitor_spec.specs.Slots.{slotsOf}
@@ -27,7 +26,7 @@ use Rattle.monitor_spec.specs.State.{slotCount, chunks, concat, fill}
 use Rattle.monitor_spec.specs.State.Areas.{Sixteen, length-concat, length-fill, slotCount-fill, chunks-fill}
 use Rattle.monitor.specs.Stepping.{step-source, step-holds, step-exceeds}
 use Rattle.monitor.specs.Holds.{heldIn}
-use Rattle.monitor.specs.Feeding.{Holding, nextOf, Stepped}
+use Rattle.monitor.specs.Feeding.{Holding, nextOf, Stepped, Advanced}
 
 fill-none : (n : ℕ) → fill n [] ≡ zeros (n * 16)
 unfolding fill concat
@@ -84,29 +83,26 @@ module _ (t : Table) (rules : Rules t) (e : ℕ) (known : e < t .alphabet) (p o 
       ap (λ (a : List ℕ). zeros (length a)) (h .other)
       ∙ ap zeros (length-fill n [] tt (omega arith)) ∙ sym (fill-none n) ∙ sym (h .other)
 
-  abbrev Result : Held → List ℕ → List ℕ → Type 0
-  Result r p' o' =
-      Stepped (slotCount p) (nextOf t e p c) p o (fill (slotCount p) []) (fill (slotCount p) (nextOf t e p c)) r p' o'
-
   module _ (r : Held) (o₁ : List ℕ) (g : Gave (putAll o 0 (gathered t e p c 0)) r o₁) where
     gave : said r o₁ ≡ putAll (fill n []) 0 (gathered t e (fill n (slotsOf rs)) (length (slotsOf rs)) 0)
     gave = rw (← h .other, ← h .held .words, ← h .held .number) (g .same)
 
-    roomy : length next ≤ n → said r o₁ ≡ said (Count (length next)) (fill n next)
-    roomy l = gave ∙ step-holds t rules rs (h .held .proper) n (h .held .room) e known l
+    with-room : length next ≤ n → said r o₁ ≡ said (Count (length next)) (fill n next)
+    with-room l = gave ∙ step-holds t rules rs (h .held .proper) n (h .held .room) e known l
 
-    exceeds : n < length next → r ≡ Exceeded
-    exceeds l = ap (λ (x : Outcome). x .held) gave ∙ step-exceeds t rules rs (h .held .proper) n (h .held .room) e known l
+    without-room : n < length next → r ≡ Exceeded
+    without-room l = ap (λ (x : Outcome). x .held) gave ∙ step-exceeds t rules rs (h .held .proper) n (h .held .room) e known l
 
     pub advanced-count : (k : ℕ) → r ≡ Count k → (p' : List ℕ) → p' ≡ zeros (c * 16) ++ drop (c * 16) p
-        → Result (Count k) p' o₁
+        → Advanced t e c p o (Count k) p' o₁
+    unfolding Advanced
     advanced-count k q p' z = rw (slots-are, next-is) (by (decLt n (length next)))
       where
         by : Dec (n < length next) → Stepped n next p o (fill n []) (fill n next) (Count k) p' o₁
-        by (yes l) = absurd (let x = exceeds l in let y : _≡_ {A = ℕ} 0 1 = cc in omega arith)
+        by (yes l) = absurd (let x = without-room l in let y : _≡_ {A = ℕ} 0 1 = cc in omega arith)
         by (no l) =
             let m : length next ≤ n = omega arith in
-            let s = roomy m in
+            let s = with-room m in
             record {
               count = same-count k (length next) (sym q ∙ ap (λ (x : Outcome). x .held) s);
               room = m;
@@ -115,11 +111,12 @@ module _ (t : Table) (rules : Rules t) (e : ℕ) (known : e < t .alphabet) (p o 
             }
 
     pub advanced-exceeded : r ≡ Exceeded → (o' : List ℕ) → o' ≡ zeros (length o₁) → length o₁ ≡ length o
-        → Result Exceeded p o'
+        → Advanced t e c p o Exceeded p o'
+    unfolding Advanced
     advanced-exceeded q o' z l = rw (slots-are, next-is) (by (decLt n (length next)))
       where
         by : Dec (n < length next) → Stepped n next p o (fill n []) (fill n next) Exceeded p o'
         by (yes m) = record { over = m; first = refl; second = z ∙ ap zeros l ∙ other-zero }
         by (no m) =
             let k : length next ≤ n = omega arith in
-            absurd (let x = ap (λ (x : Outcome). x .held) (roomy k) in let y : _≡_ {A = ℕ} 0 1 = cc in omega arith)
+            absurd (let x = ap (λ (x : Outcome). x .held) (with-room k) in let y : _≡_ {A = ℕ} 0 1 = cc in omega arith)

@@ -3,7 +3,6 @@
 --     moved-even, moved-odd        the areas after the event
 -- Assumes nothing.
 use Prim.Native.Nat.{ℕ, _/_, _%_}
-use native.Mathlib.Omega.{arith}
 use mathlib.Core.Path.{_≡_, ap, sym, _∙_}
 use mathlib.Core.List.{List, []}
 use lib.ListN.{length}
@@ -21,7 +20,7 @@ use Rattle.monitor.specs.declared.state.State.{State}
 use Rattle.monitor.specs.Record.{monitorOf}
 use Rattle.monitor.specs.Record.View.{present-even, present-odd}
 use Rattle.monitor.specs.Holds.{heldIn}
-use Rattle.monitor.specs.Feeding.{Holding, Standing, nextOf, Stepped, Moved}
+use Rattle.monitor.specs.Feeding.{Holding, Standing, nextOf, Stepped, Advanced, Moved}
 
 swapped : (n : ℕ) (next : List (List ℕ)) (a b x y : List ℕ) (r : Held) (a' b' : List ℕ)
     → Stepped n next b a x y r b' a' → Stepped n next a b y x r a' b'
@@ -88,13 +87,13 @@ module _ (t : Table) (regular : Regular t) (s : State) (a b : List ℕ) (h : Sta
 
   module _ (parity : s .taken % 2 ≡ 0) where
     pub holding-even : Holding t a b (s .count)
-    holding-even = holds a b (area0-is ∙ present-even (s .taken) _ _ parity) (area1-is ∙ present-even (s .taken) _ _ parity)
+    holding-even =
+        holds a b (area0-is ∙ present-even (s .taken) _ _ parity)
+        (area1-is ∙ present-even (s .taken) _ _ parity)
 
     pub moved-even : (e : ℕ) (r : Held) (a' b' : List ℕ)
-        → Stepped (slotCount a) (nextOf t e a (s .count)) a b (fill (slotCount a) [])
-        (fill (slotCount a) (nextOf t e a (s .count))) r a' b'
-        → Moved t (monitorOf s a b) e r a' b'
-    unfolding Moved taking
+        → Advanced t e (s .count) a b r a' b' → Moved t (monitorOf s a b) e r a' b'
+    unfolding Advanced Moved taking
     moved-even e r a' b' g =
         rw (
           next-at e a (present-even (s .taken) a b parity),
@@ -104,13 +103,13 @@ module _ (t : Table) (regular : Regular t) (s : State) (a b : List ℕ) (h : Sta
 
   module _ (parity : s .taken % 2 ≡ 0 → ⊥) where
     pub holding-odd : Holding t b a (s .count)
-    holding-odd = holds b a (area1-is ∙ present-odd (s .taken) _ _ parity) (area0-is ∙ present-odd (s .taken) _ _ parity)
+    holding-odd =
+        holds b a (area1-is ∙ present-odd (s .taken) _ _ parity)
+        (area0-is ∙ present-odd (s .taken) _ _ parity)
 
     pub moved-odd : (e : ℕ) (r : Held) (a' b' : List ℕ)
-        → Stepped (slotCount b) (nextOf t e b (s .count)) b a (fill (slotCount b) [])
-        (fill (slotCount b) (nextOf t e b (s .count))) r b' a'
-        → Moved t (monitorOf s a b) e r a' b'
-    unfolding Moved taking
+        → Advanced t e (s .count) b a r b' a' → Moved t (monitorOf s a b) e r a' b'
+    unfolding Advanced Moved taking
     moved-odd e r a' b' g =
         rw (
           next-at e b (present-odd (s .taken) a b parity),

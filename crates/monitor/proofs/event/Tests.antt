@@ -3,8 +3,7 @@
 --     taken-went                                   the event is taken
 -- Assumes nothing.
 use Prim.Native.Nat.{ℕ, _≤_, _<_}
-use native.Mathlib.Omega.{arith}
-use mathlib.Core.Path.{_≡_, refl, ap, sym, _∙_}
+use mathlib.Core.Path.{_≡_, refl, ap, sym}
 use mathlib.Core.List.{List}
 use lib.ListN.{length}
 use borrow.Author.Tests.{le-leb, lt-leb, eq-eqb, ne-eqb, lt-ltb, le-ltb}
@@ -12,7 +11,7 @@ use Rattle.table.specs.Table.{Table}
 use Rattle.step.specs.declared.slots.Held.{Held}
 use Rattle.step.specs.declared.slots.Held.the-variants.{Count, Exceeded}
 use Rattle.monitor_spec.specs.State.{Monitor, slotCount}
-use Rattle.monitor_spec.specs.Fold.{went, stops}
+use Rattle.monitor_spec.specs.Fold.{went}
 use Rattle.monitor_spec.specs.Feed.{nextSlots, taking, takeEvent}
 use Rattle.monitor.specs.declared.state.State.{State}
 use Rattle.monitor.specs.declared.event.Taken.the-variants.{Went, Stopped}
@@ -55,7 +54,8 @@ module _ (t : Table) (e : ℕ) (s : State) (a b : List ℕ) where
           let next = nextSlots t m e in
           let k : Filled (slotCount a) next (taking m next .area0) (taking m next .area1) c a' b' = rw q at g in
           let x = f m next refl (sym (k .count)) in
-          let y : monitorOf s' a' b' ≡ taking m next = λ i. record { state = x i; area0 = k .first i; area1 = k .second i } in
+          let y : monitorOf s' a' b' ≡ taking m next =
+          λ i. record { state = x i; area0 = k .first i; area1 = k .second i } in
           rw (
             lt-leb (t .alphabet) e known,
             ne-eqb (s .taken) 18446744073709551615 counts,

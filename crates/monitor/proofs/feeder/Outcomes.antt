@@ -2,11 +2,11 @@
 -- of the list.
 --     areas-same, standing-from                        from measured areas, and a consistent monitor
 --     accepted-inconsistent, accepted-ended            refusal 10; the events
---     feed-unmeasured, feed-declined, feed-accepted    refusal 1; 2 to 9; the rest
+--     feed-unmeasured, feed-declined, feed-fed         refusal 1; 2 to 9; the rest
+--     feed-indexed                                     what `feed_accepted` asks for
 -- Assumes nothing.
 use Prim.Native.Nat.{ℕ}
-use native.Mathlib.Omega.{arith}
-use mathlib.Core.Path.{_≡_, refl, ap, sym, _∙_}
+use mathlib.Core.Path.{_≡_, ap, sym, _∙_}
 use mathlib.Core.Bool.{Bool, true, false, _&&_}
 use mathlib.Core.List.{List}
 use lib.ListN.{length}
@@ -19,7 +19,7 @@ use Rattle.table.specs.Judge.{Judgement, declined, judgeList}
 use Rattle.table.specs.declared.answer.Refusal.{Refusal}
 use Rattle.table.specs.declared.answer.Judged.{Judged}
 use Rattle.table.specs.declared.answer.Judged.the-variants.{Accepted, Declined}
-use Rattle.table.specs.Judging.{CheckSaid, Checked}
+use Rattle.table.specs.Judging.{Checked}
 use Rattle.monitor_spec.specs.Regular.{Regular}
 use Rattle.monitor_spec.specs.State.{Monitor, areasMeasured, workMeasured, slotCount}
 use Rattle.monitor_spec.specs.Consistent.{consistent}
@@ -55,17 +55,17 @@ module _ (t : Table) (m : Monitor) where
 
 -- ---- on any list
 
-module _ (l : List ℕ) (m : Monitor) (es work : List ℕ) where
+module _ (l : List ℕ) (m : Monitor) (work : List ℕ) where
   abbrev fit : Bool
   fit = lengthsFit (length (m .area0)) (length (m .area1)) (length work)
 
   measured : (b : Bool) → fit ≡ b → (areasMeasured (m .area0) (m .area1) && workMeasured work) ≡ b
   measured b h = sym (lengths-measured (m .area0) (m .area1) work) ∙ h
 
-  pub feed-unmeasured : fit ≡ false
+  pub feed-unmeasured : (es : List ℕ) → fit ≡ false
       → outcome (Refused (record { number = 1; place = 0 })) (m .area0) (m .area1) work ≡ feedOf l m es work
   unfolding feedOf refusing
-  feed-unmeasured h = rw (measured false h, feedOf)
+  feed-unmeasured es h = rw (measured false h, feedOf)
 
   module _ (h : fit ≡ true) where
     areas : areasMeasured (m .area0) (m .area1) ≡ true
@@ -76,26 +76,26 @@ module _ (l : List ℕ) (m : Monitor) (es work : List ℕ) where
     whole = eqb-true (length work) 8192
         (and-split (areasMeasured (m .area0) (m .area1)) (workMeasured work) (measured true h) .1)
 
-    judged : feedJudged (judgeList l) m es work ≡ feedOf l m es work
+    judged : (es : List ℕ) → feedJudged (judgeList l) m es work ≡ feedOf l m es work
     unfolding feedOf
-    judged = rw (measured true h, feedOf)
+    judged es = rw (measured true h, feedOf)
 
     module _ (j : Judged) (work₁ : List ℕ) (c : Checked l work work₁ j) where
       pub feed-indexed : j ≡ Accepted → Indexed l work₁ × (areasMeasured (m .area0) (m .area1) ≡ true)
-      feed-indexed q = ((rw q at (c .right whole)), areas)
+      feed-indexed q = (rw q at (c .right whole), areas)
 
-      pub feed-declined : (r : Refusal) → j ≡ Declined r
+      pub feed-declined : (es : List ℕ) (r : Refusal) → j ≡ Declined r
           → outcome (Refused r) (m .area0) (m .area1) work₁ ≡ feedOf l m es work
       unfolding feedJudged refusing
-      feed-declined r q =
+      feed-declined es r q =
           let s : (judgeList l ≡ declined (r .number) (r .place)) × (work₁ ≡ zeros 8192) = rw q at (c .right whole) in
           ap (outcome (Refused r) (m .area0) (m .area1)) (s .1 ∙ ap zeros (sym whole))
-          ∙ ap (λ (x : Judgement). feedJudged x m es work) (sym (s .0)) ∙ judged
+          ∙ ap (λ (x : Judgement). feedJudged x m es work) (sym (s .0)) ∙ judged es
 
-      pub feed-fed : j ≡ Accepted → (r : Answer) (a b work₂ : List ℕ) → FedBy (tableIn l) m es r a b
+      pub feed-fed : j ≡ Accepted → (es : List ℕ) (r : Answer) (a b work₂ : List ℕ) → FedBy (tableIn l) m es r a b
           → work₂ ≡ zeros (length work₁) → length work₁ ≡ length work → outcome r a b work₂ ≡ feedOf l m es work
       unfolding feedJudged FedBy
-      feed-fed q r a b work₂ f z k =
+      feed-fed q es r a b work₂ f z k =
           let x : Indexed l work₁ = rw q at (c .right whole) in
           ap (outcome r a b) (z ∙ ap zeros k) ∙ f work
-          ∙ ap (λ (y : Judgement). feedJudged y m es work) (sym (x .taken)) ∙ judged
+          ∙ ap (λ (y : Judgement). feedJudged y m es work) (sym (x .taken)) ∙ judged es

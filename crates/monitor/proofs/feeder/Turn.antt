@@ -5,18 +5,15 @@
 --     head-stopped, head-done        the outcome where an event is refused, and after the last
 -- Assumes nothing.
 use Prim.Native.Nat.{ℕ, suc, _+_, _<_, _≤_}
-use native.Mathlib.Omega.{arith}
 use native.Mathlib.Numerals.{add-one}
 use mathlib.Core.Path.{_≡_, refl, ap, sym, _∙_}
-use mathlib.Core.List.{List, [], _∷_}
-use mathlib.Core.Option.{none, some}
+use mathlib.Core.List.{List, _∷_}
 use lib.ListN.{length, getD, drop, drop-of-length-le}
 use lib.Seq.{drop-cons}
 use Rattle.table.specs.Table.{Table}
-use Rattle.table.specs.Operations.{zeros}
 use Rattle.monitor_spec.specs.Regular.{Regular}
 use Rattle.monitor_spec.specs.State.{Monitor}
-use Rattle.monitor_spec.specs.Fold.{went, stops, Ended, through}
+use Rattle.monitor_spec.specs.Fold.{went, stops, through}
 use Rattle.monitor_spec.specs.Fold.Laws.{through-went, through-stops}
 use Rattle.monitor_spec.specs.Feed.{takeEvent, endingOf}
 use Rattle.monitor_spec.specs.Consistent.Laws.{take-laid}
@@ -25,7 +22,6 @@ use Rattle.monitor.specs.declared.event.Taken.{Taken}
 use Rattle.monitor.specs.declared.event.Taken.the-variants.{Went, Stopped}
 use Rattle.monitor.specs.declared.answer.Answer.the-variants as answer
 use Rattle.monitor.specs.Record.{monitorOf}
-use Rattle.monitor.specs.Answers.{outcome}
 use Rattle.monitor.specs.Feeding.{Standing, TakenBy, EndedBy}
 
 -- m is the monitor that the call began with, m' the one reached before event i

@@ -1,6 +1,6 @@
+-- `feeder::feed_accepted` meets its contract: whether state and areas agree decides. Assumes nothing.
 use mathlib.Core.Path.{sym, _∙_}
 use borrow.Author.Tests.{not-true, not-false}
-use Rattle.table.specs.Index.{tableIn}
 use Rattle.index.specs.Facts.{indexed-rules}
 use Rattle.monitor_spec.specs.Regular.Laws.{regular}
 use Rattle.monitor.specs.Record.{monitorOf}
@@ -8,42 +8,55 @@ use Rattle.monitor.proofs.feeder.Outcomes.{areas-same, standing-from, a
 use borrow.Author.Needs.{needs}
 use Rattle.monitor.proofs.feeder.feed_accepted.Statement.{statement}
 use Rattle.monitor.proofs.feeder.feed_accepted.Tie as tie
-use Rattle.monitor.proofs.feeder.feed_accepted.Reads as reads
-use Rattle.monitor.proofs.feeder.feed_accepted.Lts as lts
-use Rattle.monitor.proofs.consistent.consistent.Reads as consistent-reads
-use Rattle.monitor.proofs.feeder.take_all.Reads as take-all-reads
 
--- src/feeder.rt:70:9
 consistent-requires : tie.Need-consistent-requires
-consistent-requires c κs = (c .before .before .before .before .before .before .before .pre .0, areas-same _ _ (c .before .before .before .before .before .before .before .pre .1))
+consistent-requires c κs =
+    let pre = c .before .before .before .before .before .before .before .pre in
+    (pre .0, areas-same _ _ (pre .1))
 
--- src/feeder.rt:71:9
 same-length : tie.Need-same-length
 same-length c = search needs
 
--- src/feeder.rt:71:9
 same-length-2 : tie.Need-same-length-2
 same-length-2 c = search needs
 
--- src/feeder.rt:71:9
+-- they do not agree
 returns : tie.Need-returns
-returns c = accepted-inconsistent (tableIn (c .before .before .before .before .before .before .before .before .before .args .list .now)) (monitorOf (c .before .before .before .before .before .before .before .before .before .args .state) (c .before .before .before .before .before .before .before .before .before .args .area0 .now) (c .before .before .before .before .before .before .before .before .before .args .area1 .now)) _ (sym (c .before .consistent .ensures) ∙ not-true _ (c .if1 .taken))
+returns c =
+    let at-consistent = c .before in
+    let args = at-consistent .before .before .before .before .before .before .before .before .args in
+    let m = monitorOf (args .state) (args .area0 .now) (args .area1 .now) in
+    accepted-inconsistent _ m _ (sym (at-consistent .consistent .ensures) ∙ not-true _ (c .if1 .taken))
 
--- src/feeder.rt:76:5
 take-all-requires : tie.Need-take-all-requires
-take-all-requires c κs = (c .before .before .before .before .before .before .before .before .before .before .before .pre .0, standing-from (tableIn (c .before .before .before .before .before .before .before .before .before .before .before .args .list .now)) (monitorOf (c .before .before .before .before .before .before .before .before .before .before .before .args .state) (c .before .before .before .before .before .before .before .before .before .before .before .args .area0 .now) (c .before .before .before .before .before .before .before .before .before .before .before .args .area1 .now)) (regular _ (indexed-rules (c .before .before .before .before .before .before .before .before .before .before .before .pre .0))) (c .before .before .before .before .before .before .before .before .before .before .before .pre .1) (sym (c .before .before .before .consistent .ensures) ∙ not-false _ (c .before .before .if1 .left)))
+take-all-requires c κs =
+    let at-if1 = c .before .before in
+    let at-consistent = at-if1 .before in
+    let at-start = at-consistent .before .before .before .before .before .before .before .before in
+    let pre = at-start .pre in
+    let args = at-start .args in
+    let m = monitorOf (args .state) (args .area0 .now) (args .area1 .now) in (
+      pre .0,
+      standing-from _ m (regular _ (indexed-rules (pre .0))) (pre .1)
+          (sym (at-consistent .consistent .ensures) ∙ not-false _ (at-if1 .if1 .left)),
+    )
 
--- src/feeder.rt:55:1
 same-length-3 : tie.Need-same-length-3
 same-length-3 c = search needs
 
--- src/feeder.rt:55:1
 same-length-4 : tie.Need-same-length-4
 same-length-4 c = search needs
 
--- src/feeder.rt:55:1
+-- they agree
 returns-2 : tie.Need-returns-2
-returns-2 c = accepted-ended (tableIn (c .before .before .before .before .before .before .before .before .before .before .before .before .before .before .before .before .args .list .now)) (monitorOf (c .before .before .before .before .before .before .before .before .before .before .before .before .before .before .before .before .args .state) (c .before .before .before .before .before .before .before .before .before .before .before .before .before .before .before .before .args .area0 .now) (c .before .before .before .before .before .before .before .before .before .before .before .before .before .before .before .before .args .area1 .now)) _ (sym (c .before .before .before .before .before .before .before .before .consistent .ensures) ∙ not-false _ (c .before .before .before .before .before .before .before .if1 .left)) _ _ _ (c .before .before .before .before .take-all .ensures)
+returns-2 c =
+    let at-take-all = c .before .before .before .before in
+    let at-if1 = at-take-all .before .before .before in
+    let at-consistent = at-if1 .before in
+    let args = at-consistent .before .before .before .before .before .before .before .before .args in
+    let m = monitorOf (args .state) (args .area0 .now) (args .area1 .now) in
+    accepted-ended _ m _ (sym (at-consistent .consistent .ensures) ∙ not-false _ (at-if1 .if1 .left)) _ _ _
+    (at-take-all .take-all .ensures)
 
 pub feed-accepted-spec : {M : Type 1} → statement M
 feed-accepted-spec =
