@@ -1,0 +1,173 @@
+// Words in lent areas.
+//     numbers, list, words, work, events  buffers as long as any that the file asks for
+//     memory                              list, area 0 and area 1, each at its place in lent.rt
+//     clear, fill                         zeros; junk that counts down from 2^64 - 1
+//     are_zero, are_junk                  whether there are zeros, or that junk
+//     put_numbers, put_bytes, copy        numbers put into another buffer, where they fit
+//     begins                              whether an area begins with these words
+//     digest                              one number for all words
+ghost use mathlib.Core.Path.{_≡_};
+ghost use lib.ListN.{length};
+
+pub fn memory() -> [u64; 28852]
+    ensures { λ r. ⌜ 28852 ≡ length r ⌝ }
+{
+    [0; 28852]
+}
+
+pub fn numbers() -> [u64; 5101]
+    ensures { λ r. ⌜ 5101 ≡ length r ⌝ }
+{
+    [0; 5101]
+}
+
+pub fn list() -> [u16; 16500]
+    ensures { λ r. ⌜ 16500 ≡ length r ⌝ }
+{
+    [0; 16500]
+}
+
+pub fn words() -> [u64; 4160]
+    ensures { λ r. ⌜ 4160 ≡ length r ⌝ }
+{
+    [0; 4160]
+}
+
+pub fn work() -> [u64; 8300]
+    ensures { λ r. ⌜ 8300 ≡ length r ⌝ }
+{
+    [0; 8300]
+}
+
+pub fn events() -> [u8; 5100]
+    ensures { λ r. ⌜ 5100 ≡ length r ⌝ }
+{
+    [0; 5100]
+}
+
+fn junk(i: usize) -> u64 {
+    u64::MAX - i as u64
+}
+
+pub fn clear(area: &mut [u64]) {
+    let mut i = 0;
+    while i < area.len() {
+        area[i] = 0;
+        i += 1;
+    }
+}
+
+pub fn fill(area: &mut [u64]) {
+    let mut i = 0;
+    while i < area.len() {
+        area[i] = junk(i);
+        i += 1;
+    }
+}
+
+pub fn are_zero(area: &[u64]) -> bool {
+    let mut i = 0;
+    while i < area.len() {
+        if area[i] != 0 {
+            return false;
+        }
+        i += 1;
+    }
+    true
+}
+
+pub fn are_junk(area: &[u64]) -> bool {
+    let mut i = 0;
+    while i < area.len() {
+        if area[i] != junk(i) {
+            return false;
+        }
+        i += 1;
+    }
+    true
+}
+
+pub fn put_numbers(numbers: &[u64], list: &mut [u16]) -> bool {
+    if list.len() < numbers.len() {
+        return false;
+    }
+    let mut i = 0;
+    while i < numbers.len() {
+        let n = numbers[i];
+        if 65535 < n {
+            return false;
+        }
+        list[i] = n as u16;
+        i += 1;
+    }
+    true
+}
+
+pub fn put_bytes(numbers: &[u64], bytes: &mut [u8]) -> bool {
+    if bytes.len() < numbers.len() {
+        return false;
+    }
+    let mut i = 0;
+    while i < numbers.len() {
+        let n = numbers[i];
+        if 255 < n {
+            return false;
+        }
+        bytes[i] = n as u8;
+        i += 1;
+    }
+    true
+}
+
+// Puts n words of an area, from a place on, into another, at a place.
+pub fn copy(source: &[u64], from: usize, area: &mut [u64], to: usize, n: usize) -> bool {
+    if source.len() < from {
+        return false;
+    }
+    if source.len() - from < n {
+        return false;
+    }
+    if area.len() < to {
+        return false;
+    }
+    if area.len() - to < n {
+        return false;
+    }
+    let mut i = 0;
+    while i < n {
+        area[to + i] = source[from + i];
+        i += 1;
+    }
+    true
+}
+
+pub fn begins(area: &[u64], words: &[u64]) -> bool {
+    if area.len() < words.len() {
+        return false;
+    }
+    let mut i = 0;
+    while i < words.len() {
+        if area[i] != words[i] {
+            return false;
+        }
+        i += 1;
+    }
+    true
+}
+
+// A digest with half a word more.
+fn digest_half(d: u64, half: u64) -> u64 {
+    (d % 4294967291 * 16777619 + half % 4294967296) % 4294967291
+}
+
+// The digest d, and then each word of an area, its lower half first.
+pub fn digest(first: u64, area: &[u64]) -> u64 {
+    let mut d = first;
+    let mut i = 0;
+    while i < area.len() {
+        let w = area[i];
+        d = digest_half(digest_half(d, w), w / 4294967296);
+        i += 1;
+    }
+    d
+}
