@@ -55,5 +55,6 @@ unfolding flatMap size sizes bodyOf bodyNumber termIn termOfDefs termAt prefixes
     presentSlots nextSlots nextVerdict taking takeEvent endingOf refusing feedAccepted feedJudged feedOf
     startAccepted startJudged startOf
     carry later scanWith readNumber byteToken byteTokensWith byteTokens judgeBytes
-    cut headBy headOf verdictLine stateLine answerLine fresh monitorOf startedBy startedLine readLine headLine lineOf Rows
+    cut headBy headOf verdictLine stateLine answerLine fresh monitorOf startedBy startedLine readLine headLine lineOf
+    Rows
 rows = (refl, refl, refl, refl, refl, refl, refl, refl, refl)

@@ -1,16 +1,18 @@
 -- What this crate proves of the definitions: statements only. The proof of each is in `proofs/Theorems.antt`, under
 -- the same name.
---     Pieces      an input in pieces gives the line of the whole
---     Rows        the worked examples
+--     PiecesAreWhole    an input in pieces gives the line of the whole
+--     PieceAnyWork      a piece leaves the same, whatever the work area held
+--     Rows              the worked examples
 -- Assumes nothing.
 use Prim.Native.Nat.{ℕ, _≤_}
 use mathlib.Core.Path.{_≡_}
 use mathlib.Core.Logic.{_⊎_}
 use mathlib.Core.List.{List, [], _∷_, _++_}
 use lib.ListN.{length}
-use Rattle.monitor_spec.specs.State.{concat}
+use Rattle.monitor_spec.specs.State.{Monitor, concat}
+use Rattle.monitor_spec.specs.Feed.{feedOf}
 use Rattle.line.specs.Line.{Line, runs, fails, refused, lineOf}
-use Rattle.line.specs.Pieces.{piecesOf}
+use Rattle.line.specs.Pieces.{going, fed, pieceOf, piecesOf}
 
 -- 01, "The program and its lines": the front has the length number and the table (3 bytes and 16,384 at most), or is
 -- all there is
@@ -18,6 +20,12 @@ unfoldable pub PiecesAreWhole : Type 0
 PiecesAreWhole =
     (front : List ℕ) (pieces : List (List ℕ)) → (16387 ≤ length front) ⊎ (pieces ≡ [])
     → piecesOf front pieces ≡ lineOf (front ++ concat pieces)
+
+-- the definition of a piece has a work area of zeros; `resume` takes any of the right length
+unfoldable pub PieceAnyWork : Type 0
+PieceAnyWork =
+    (l : List ℕ) (m : Monitor) (es w : List ℕ) → length w ≡ 8192
+    → fed l (feedOf l m es w) ≡ pieceOf (going l m) es
 
 -- table B: "`03 02 00 01 00 00 01 01 01 00 02 00 02 01 05 00`"
 abbrev pub tableB : List ℕ

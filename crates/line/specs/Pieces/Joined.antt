@@ -69,7 +69,8 @@ stopped-taken l m g z es n h =
     let x = extends t (g .regular) 256 es (g .events) (g .fed) in
     let i = some-stopped S es m 0 n h in
     let a : (through S m 0 es) .at .state .taken ≡ length (extend t 256 (g .events) es) =
-    ap (λ (y : Monitor). (through S y 0 es) .at .state .taken) (g .same) ∙ ap (λ (y : Monitor). y .state .taken) (x .ends 0) in
+    ap (λ (y : Monitor). (through S y 0 es) .at .state .taken) (g .same)
+    ∙ ap (λ (y : Monitor). y .state .taken) (x .ends 0) in
     let b : length (extend t 256 (g .events) es) ≡ length (g .events ++ took S m es) =
     ap length (x .takes) ∙ ap (λ (y : Monitor). length (g .events ++ took S y es)) (sym (g .same)) in
     let c : length (g .events) ≡ 0 = sym (ap (λ (y : Monitor). y .state .taken) (g .same)) ∙ z in
@@ -180,7 +181,8 @@ opens l = by (fresh l .answer) refl
 -- the front alone, and then pieces
 pub record Fronts (h : Head) : Type 0 where
   pub alone : concludeOf (feedFront (frontHead h)) ≡ headLine h
-  pub more : (ess : List (List ℕ)) → concludeOf (throughPieces (feedFront (frontHead h)) ess) ≡ headLine (widenHead h (concat ess))
+  pub more : (ess : List (List ℕ))
+      → concludeOf (throughPieces (feedFront (frontHead h)) ess) ≡ headLine (widenHead h (concat ess))
 
 over-stays : (x : Line) (ess : List (List ℕ)) → throughPieces (over x) ess ≡ over x
 unfolding pieceOf
@@ -211,6 +213,7 @@ unfolding piecesOf frontOf lineOf
 pieces-whole s ess (inl h) = fronts (headOf s) .more ess ∙ sym (ap headLine (head-more s (concat ess) h))
 pieces-whole s ess (inr h) = rw h (none s)
   where
-    none : (s : List ℕ) → concludeOf (throughPieces (feedFront (frontHead (headOf s))) []) ≡ headLine (headOf (s ++ concat []))
+    none : (s : List ℕ)
+        → concludeOf (throughPieces (feedFront (frontHead (headOf s))) []) ≡ headLine (headOf (s ++ concat []))
     none s = unfold throughPieces in unfold concat in fronts (headOf s) .alone
         ∙ ap (λ (z : List ℕ). headLine (headOf z)) (sym (append-nil s))

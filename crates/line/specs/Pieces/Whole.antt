@@ -105,7 +105,8 @@ cut-long : (v : ℕ) (s : List ℕ) → ltb 16384 v ≡ true → cut v s ≡ wro
 unfolding cut
 cut-long v s e = rw (e, cut)
 
-cut-parts : (v : ℕ) (s : List ℕ) → ltb 16384 v ≡ false → ltb (length s) v ≡ false → cut v s ≡ parts (take v s) (drop v s)
+cut-parts : (v : ℕ) (s : List ℕ) → ltb 16384 v ≡ false → ltb (length s) v ≡ false
+    → cut v s ≡ parts (take v s) (drop v s)
 unfolding cut
 cut-parts v s e f = rw (e, f, cut)
 

@@ -1,0 +1,102 @@
+-- `opener::open_table` meets its contract, by Read's answer. Assumes nothing.
+use native.Mathlib.Omega.{arith}
+use mathlib.Core.Path.{sym}
+use Rattle.line.specs.Opening.Ways.{reads-few, reads-count, reads-refused}
+use borrow.Author.Needs.{needs}
+use Rattle.line.proofs.opener.open_table.Statement.{statement}
+use Rattle.line.proofs.opener.open_table.Tie as tie
+
+read-requires : tie.Need-read-requires
+read-requires c κs = search needs
+
+enum-known-count : tie.Need-enum-known-count
+enum-known-count c = search needs
+
+slice-reshare-prefix-start-list : tie.Need-slice-reshare-prefix-start-list
+slice-reshare-prefix-start-list c =
+    let at-count = c .before in
+    let at-read = at-count .before .before .before .before .before .before in
+    let entry = at-read .before .before .before .before .before .before .before .before in
+    let args = entry .args in
+    let pre = entry .pre in
+    omega (
+      arith,
+      reads-few (args .bytes .now) (args .list .now) (args .work .now) (pre .0) (pre .1 .1) _ _ _
+          (at-read .read .ensures) _ (at-count .count .given .1),
+    )
+
+slice-aggregate-start-list : tie.Need-slice-aggregate-start-list
+slice-aggregate-start-list c =
+    let at-count = c .before .before in
+    let at-read = at-count .before .before .before .before .before .before in
+    let entry = at-read .before .before .before .before .before .before .before .before in
+    let args = entry .args in
+    let pre = entry .pre in
+    sym (reads-few (args .bytes .now) (args .list .now) (args .work .now) (pre .0) (pre .1 .1) _ _ _
+    (at-read .read .ensures) _ (at-count .count .given .1) .1)
+
+start-list-requires : tie.Need-start-list-requires
+start-list-requires c κs = search needs
+
+enum-known-refusal : tie.Need-enum-known-refusal
+enum-known-refusal c = search needs
+
+same-length : tie.Need-same-length
+same-length c = search needs
+
+same-length-2 : tie.Need-same-length-2
+same-length-2 c = search needs
+
+same-length-3 : tie.Need-same-length-3
+same-length-3 c = search needs
+
+same-length-4 : tie.Need-same-length-4
+same-length-4 c = search needs
+
+returns : tie.Need-returns
+returns c =
+    let at-start-list = c .before .before .before .before .before .before in
+    let at-count = at-start-list .before .before .before .before .before .before in
+    let at-read = at-count .before .before .before .before .before .before in
+    let entry = at-read .before .before .before .before .before .before .before .before in
+    let args = entry .args in
+    let pre = entry .pre in
+    reads-count (args .bytes .now) (args .list .now) (args .work .now) (pre .0) (pre .1 .1) _ _ _
+    (at-read .read .ensures) _ (at-count .count .given .1) (args .next) (at-start-list .start-list .result) _ _ _
+    (at-start-list .start-list .ensures)
+
+same-length-5 : tie.Need-same-length-5
+same-length-5 c = search needs
+
+same-length-6 : tie.Need-same-length-6
+same-length-6 c = search needs
+
+returns-2 : tie.Need-returns-2
+returns-2 c =
+    let at-refusal = c .before in
+    let at-read = at-refusal .before .before .before .before .before .before in
+    let entry = at-read .before .before .before .before .before .before .before .before in
+    let args = entry .args in
+    let pre = entry .pre in
+    reads-refused (args .bytes .now) (args .list .now) (args .work .now) (pre .0) (pre .1 .1) _ _ _
+    (at-read .read .ensures) _ (at-refusal .refusal .given .1) (args .next) (args .area0 .now) (args .area1 .now)
+    (args .work .now)
+
+pub open-table-spec : {M : Type 1} → statement M
+open-table-spec =
+    tie.close
+    (tie.spec
+    read-requires
+    enum-known-count
+    slice-reshare-prefix-start-list
+    slice-aggregate-start-list
+    start-list-requires
+    enum-known-refusal
+    same-length
+    same-length-2
+    same-length-3
+    same-length-4
+    returns
+    same-length-5
+    same-length-6
+    returns-2)

@@ -1,0 +1,54 @@
+// A started monitor piece by piece, and its line at the input's end.
+ghost use mathlib.Core.Path.{_≡_};
+ghost use Rattle.monitor_spec.specs.Feed.{feedOf};
+ghost use Rattle.monitor.specs.Record.{stateOf, monitorOf};
+ghost use Rattle.line.specs.Line.{stateLine};
+ghost use Rattle.line.specs.Line.{refused as refusedAt};
+ghost use Rattle.line.specs.Pieces.{fed};
+ghost use Rattle.line.specs.Answers.{lineSaid, courseSaid};
+use crate::answer::Course;
+use crate::answer::Line;
+use monitor::Answer;
+use monitor::State;
+use monitor::Verdict;
+use table::Refusal;
+
+// The line of a refusal.
+pub(crate) fn refused(refusal: Refusal) -> Line
+    ensures { λ r. ⌜ lineSaid r ≡ refusedAt (refusal .number) (refusal .place) ⌝ }
+{
+    Line::Refused(refusal.number, refusal.place as u64)
+}
+
+// The line of a monitor where the input ends.
+pub fn conclude(state: State) -> Line
+    ensures { λ r. ⌜ lineSaid r ≡ stateLine (stateOf state) ⌝ }
+{
+    let verdict = state.verdict;
+    match verdict {
+        Verdict::Running => Line::Running(state.taken, state.count),
+        Verdict::Failed(place) => Line::Failed(place, state.taken),
+    }
+}
+
+// One piece of events more. A refused event is placed from the input's first.
+pub fn resume(
+    list: &[u16],
+    state: State,
+    area0: &mut [u64],
+    area1: &mut [u64],
+    events: &[u8],
+    work: &mut [u64],
+) -> Course
+    ensures { λ r.
+        ⌜ courseSaid (now (list .entry)) r (now (area0 .exit)) (now (area1 .exit))
+        ≡ fed (now (list .entry)) (feedOf (now (list .entry))
+        (monitorOf state (now (area0 .entry)) (now (area1 .entry)))
+        (now (events .entry)) (now (work .entry))) ⌝ }
+{
+    match monitor::feed(list, state, area0, area1, events, work) {
+        Answer::Given(next) => Course::Going(next),
+        Answer::Refused(refusal) => Course::Over(refused(refusal)),
+        Answer::Stopped(refusal, last) => Course::Over(Line::Refused(refusal.number, last.taken)),
+    }
+}

@@ -1,0 +1,100 @@
+// The front of an input: its table read, and the monitor started.
+ghost use mathlib.Core.Path.{_≡_};
+ghost use mathlib.Core.Bool.{true};
+ghost use Prim.Native.Nat.{_≤_};
+ghost use lib.ListN.{length, take, drop};
+ghost use Rattle.line.specs.Opening.{lentFit, Starts, Reads, Opens};
+use crate::answer::Head;
+use crate::answer::Opened;
+use crate::header::head;
+use monitor::Answer;
+use table::Refusal;
+
+// Whether lent lengths are the program's: of the list, the areas ("256 slots") and the work area.
+fn lent_fit(list: usize, area0: usize, area1: usize, work: usize) -> bool
+    ensures { λ r. ⌜ r ≡ lentFit list area0 area1 work ⌝ }
+{
+    if list != 16384 {
+        return false;
+    }
+    if area0 != 4096 {
+        return false;
+    }
+    if area1 != 4096 {
+        return false;
+    }
+    work == 8192
+}
+
+// Starts the monitor on a list of so many numbers; its events begin at `next`.
+fn start_list(
+    list: &[u16],
+    next: usize,
+    area0: &mut [u64],
+    area1: &mut [u64],
+    work: &mut [u64],
+) -> Opened
+    requires { ⌜ (length (now area0) ≡ 4096) × (length (now area1) ≡ 4096) ⌝ }
+    requires { ⌜ length (now work) ≡ 8192 ⌝ }
+    ensures { λ r.
+        ⌜ Starts (now (list .entry)) next r (now (area0 .exit)) (now (area1 .exit))
+        (now (work .exit)) ⌝ }
+{
+    match monitor::start(list, area0, area1, work) {
+        Answer::Given(state) => Opened::Started {
+            state,
+            count: list.len(),
+            next,
+        },
+        Answer::Refused(refusal) => Opened::Refused(refusal),
+        Answer::Stopped(refusal, _) => Opened::Refused(refusal),
+    }
+}
+
+// Reads a table and starts the monitor on it.
+fn open_table(
+    bytes: &[u8],
+    next: usize,
+    list: &mut [u16],
+    area0: &mut [u64],
+    area1: &mut [u64],
+    work: &mut [u64],
+) -> Opened
+    requires { ⌜ length (now list) ≡ 16384 ⌝ }
+    requires { ⌜ (length (now area0) ≡ 4096) × (length (now area1) ≡ 4096) ⌝ }
+    requires { ⌜ length (now work) ≡ 8192 ⌝ }
+    ensures { λ r.
+        ⌜ Reads (now (bytes .entry)) next r (now (list .exit)) (now (area0 .exit))
+        (now (area1 .exit)) (now (work .exit)) ⌝ }
+{
+    match table::read(bytes, list, work) {
+        table::Answer::Count(count) => start_list(&list[..count], next, area0, area1, work),
+        table::Answer::Refused(refusal) => Opened::Refused(refusal),
+    }
+}
+
+// Reads the head and the table of an input, of which the rest may be missing after its first
+// 16,387 bytes, and starts the monitor. Lent lengths are tried first.
+pub fn open(
+    input: &[u8],
+    list: &mut [u16],
+    area0: &mut [u64],
+    area1: &mut [u64],
+    work: &mut [u64],
+) -> Opened
+    ensures { λ r.
+        ⌜ Opens (now (input .entry)) (now (list .entry)) (now (area0 .entry))
+        (now (area1 .entry)) (now (work .entry)) r (now (list .exit)) (now (area0 .exit))
+        (now (area1 .exit)) (now (work .exit)) ⌝ }
+{
+    if !lent_fit(list.len(), area0.len(), area1.len(), work.len()) {
+        return Opened::Refused(Refusal {
+            number: 1,
+            place: 0,
+        });
+    }
+    match head(input) {
+        Head::Parts(from, to) => { open_table(&input[from..to], to, list, area0, area1, work) }
+        Head::Wrong(refusal) => Opened::Refused(refusal),
+    }
+}

@@ -1,0 +1,47 @@
+-- `cspe_read` and `cspe_write`: what they return and what stands in the lent words afterwards (01, "Operations").
+--     TableCall, said        the number returned, the value, the output and the work words
+--     Told                   a number and a value are those of an answer
+--     tableCall              the call of an outcome of Read or Write
+--     readCall, writeCall    of the words lent
+-- The laws are in `Tables/Laws.antt`. Assumes nothing.
+use Prim.Native.Nat.{ℕ}
+use mathlib.Core.Path.{_≡_}
+use mathlib.Core.List.{List}
+use Rattle.table.specs.Operations.{Answer, done, refusal, Outcome, readOf, writeOf}
+pub mod Laws
+
+pub record TableCall : Type 0 where
+  pub number : ℕ
+  pub value : ℕ
+  pub output : List ℕ
+  pub work : List ℕ
+
+abbrev pub said : ℕ → ℕ → List ℕ → List ℕ → TableCall
+said n v out w = record { number = n; value = v; output = out; work = w }
+
+-- the refusal's number, 0 where there is none
+unfoldable pub numberOf : Answer → ℕ
+numberOf (done n) = 0
+numberOf (refusal n at) = n
+
+-- the count, or the refusal's place
+unfoldable pub valueOf : Answer → ℕ
+valueOf (done n) = n
+valueOf (refusal n at) = at
+
+-- the promise of `tell`
+pub record Told (x : Answer) (n v : ℕ) : Type 0 where
+  pub number : n ≡ numberOf x
+  pub value : v ≡ valueOf x
+
+unfoldable pub tableCall : Outcome → TableCall
+tableCall o =
+    record { number = numberOf (o .answer); value = valueOf (o .answer); output = o .output; work = o .work }
+
+-- bytes, output, work words
+unfoldable pub readCall : List ℕ → List ℕ → List ℕ → TableCall
+readCall bytes out work = tableCall (readOf bytes out work)
+
+-- number list, output, work words
+unfoldable pub writeCall : List ℕ → List ℕ → List ℕ → TableCall
+writeCall list out work = tableCall (writeOf list out work)

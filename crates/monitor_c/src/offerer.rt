@@ -1,0 +1,46 @@
+// Offer for C. What a call returns and leaves is `offerCall` of `specs/Calls.antt`.
+ghost use mathlib.Core.Path.{_≡_};
+ghost use Rattle.monitor.specs.Answers.{offeredOf};
+ghost use Rattle.monitor_c.specs.Calls.{OfferTold, offerSaid, offerCall};
+use crate::words::load;
+use monitor::Offered;
+
+// The number to return; the bits or the place go into value.
+fn tell_offer(answer: Offered, value: &mut u64) -> u32
+    ensures { λ r. ⌜ OfferTold (offeredOf answer) r (now (value .exit)) ⌝ }
+{
+    match answer {
+        Offered::Offers(bits) => {
+            *value = bits;
+            0
+        }
+        Offered::Refused(r) => {
+            *value = r.place as u64;
+            r.number as u32
+        }
+    }
+}
+
+// Offer: a bit for each event that may come next.
+#[no_mangle]
+pub extern "C" fn cspe_offer(
+    list: &[u16],
+    record: &[u64],
+    area0: &[u64],
+    area1: &[u64],
+    work: &mut [u64],
+    value: &mut u64,
+) -> u32
+    ensures { λ r.
+        ⌜ offerSaid r (now (value .exit)) (now (area0 .entry)) (now (area1 .entry))
+        (now (work .exit))
+        ≡ offerCall (now (list .entry)) (now («record» .entry)) (now (area0 .entry))
+        (now (area1 .entry)) (now (work .entry)) ⌝ }
+{
+    if record.len() != 4 {
+        *value = 0;
+        return 1;
+    }
+    let answer = monitor::offer(list, load(record), area0, area1, work);
+    tell_offer(answer, value)
+}

@@ -1,0 +1,146 @@
+/*
+ * The monitor from C: table B of document 01 (an alphabet of 3; prefix {0}, prefix {1}, call 0) is read, a monitor is
+ * started and fed `0 1 0` in pieces, and each answer is checked. It prints a line for each call, and ends with status 1
+ * at the first answer that is not the expected one. In the repository's root:
+ *
+ *     rt staticlib monitor_c
+ *     cc -std=c99 -O2 -Iinclude -o target/example examples/c/main.c target/staticlib/libmonitor_c.a
+ *     target/example
+ */
+#include <inttypes.h>
+#include <stdio.h>
+#include <stdlib.h>
+#include <string.h>
+
+#include "cspe_monitor.h"
+
+enum { SLOTS = 4, AREA_WORDS = SLOTS * CSPE_SLOT_WORDS };
+
+static const uint8_t table_b[] = {0x03, 0x02, 0x00, 0x01, 0x00, 0x00, 0x01, 0x01,
+                                  0x01, 0x00, 0x02, 0x00, 0x02, 0x01, 0x05, 0x00};
+
+static uint16_t list[CSPE_NUMBERS];
+static size_t list_length;
+static uint64_t record[CSPE_RECORD_WORDS];
+static uint64_t area[2][AREA_WORDS];
+static uint64_t work[CSPE_WORK_WORDS];
+
+static void expect(int holds, const char *what) {
+    if (!holds) {
+        fprintf(stderr, "not as expected: %s\n", what);
+        exit(1);
+    }
+}
+
+static uint32_t start(size_t area_words, uint64_t *place) {
+    return cspe_start(list, list_length, record, CSPE_RECORD_WORDS, area[0], area_words, area[1], area_words, work,
+                      CSPE_WORK_WORDS, place);
+}
+
+static uint32_t feed(const uint8_t *events, size_t events_length, uint64_t *place) {
+    return cspe_feed(list, list_length, record, CSPE_RECORD_WORDS, area[0], AREA_WORDS, area[1], AREA_WORDS, events,
+                     events_length, work, CSPE_WORK_WORDS, place);
+}
+
+static uint32_t offer(uint64_t *value) {
+    return cspe_offer(list, list_length, record, CSPE_RECORD_WORDS, area[0], AREA_WORDS, area[1], AREA_WORDS, work,
+                      CSPE_WORK_WORDS, value);
+}
+
+/* Prints the record, which must be the one given. */
+static void show(const char *call, uint64_t taken, uint64_t residuals, uint64_t failed, uint64_t place) {
+    expect(record[CSPE_TAKEN] == taken && record[CSPE_RESIDUALS] == residuals && record[CSPE_FAILED] == failed &&
+               record[CSPE_PLACE] == place,
+           call);
+    if (record[CSPE_FAILED] == 0) {
+        printf("%s: running, %" PRIu64 " taken, %" PRIu64 " held\n", call, record[CSPE_TAKEN], record[CSPE_RESIDUALS]);
+    } else {
+        printf("%s: failed at %" PRIu64 ", %" PRIu64 " taken\n", call, record[CSPE_PLACE], record[CSPE_TAKEN]);
+    }
+}
+
+/* Prints a refusal, which must be the one given. */
+static void show_refusal(const char *call, uint32_t number, uint64_t place, uint32_t number_due, uint64_t place_due) {
+    expect(number == number_due && place == place_due, call);
+    printf("%s: refused %" PRIu32 " at %" PRIu64 "\n", call, number, place);
+}
+
+static void show_offer(uint64_t bits_due) {
+    uint64_t bits;
+    expect(offer(&bits) == CSPE_NONE && bits == bits_due, "offer");
+    printf("offer: %" PRIu64 "\n", bits);
+}
+
+static void show_view(size_t words_due, uint64_t area_due) {
+    uint64_t which;
+    size_t words = cspe_view(record, CSPE_RECORD_WORDS, area[0], AREA_WORDS, area[1], AREA_WORDS, &which);
+    expect(words == words_due && which == area_due, "view");
+    printf("view: %zu words of area %" PRIu64 "\n", words, which);
+    for (size_t i = 0; i < words; i += CSPE_SLOT_WORDS) {
+        /* a slot's first word is how many nodes the residual has; then the nodes, the term in the bits from 24 on */
+        printf("    nodes: %" PRIu64 ", term of the first: %" PRIu64 "\n", area[which][i], area[which][i + 1] >> 24);
+    }
+}
+
+static void read_and_write(void) {
+    uint64_t value;
+    expect(cspe_read(table_b, sizeof table_b, list, CSPE_NUMBERS, work, CSPE_WORK_WORDS, &value) == CSPE_NONE, "read");
+    list_length = (size_t)value;
+    expect(list_length == sizeof table_b, "how many numbers are read");
+    printf("read: %zu numbers\n", list_length);
+
+    uint8_t bytes[CSPE_TABLE_BYTES];
+    expect(cspe_write(list, list_length, bytes, sizeof bytes, work, CSPE_WORK_WORDS, &value) == CSPE_NONE, "write");
+    expect(value == sizeof table_b && memcmp(bytes, table_b, sizeof table_b) == 0, "what is written");
+    printf("write: %" PRIu64 " bytes\n", value);
+}
+
+static void follow(void) {
+    uint64_t place;
+    uint32_t number = start(0, &place);
+    show_refusal("start without slots", number, place, CSPE_WRONG_LENGTH, 0);
+    expect(start(AREA_WORDS, &place) == CSPE_NONE, "start");
+    show("start", 0, 1, 0, 0);
+    show_offer(1);
+
+    const uint8_t events[] = {0, 1, 0};
+    expect(feed(events, 1, &place) == CSPE_NONE, "feed of the first piece");
+    show("feed 0", 1, 1, 0, 0);
+    show_offer(2);
+    expect(feed(events + 1, 2, &place) == CSPE_NONE, "feed of the second piece");
+    show("feed 1 0", 3, 1, 0, 0);
+    show_offer(2);
+    show_view(CSPE_SLOT_WORDS, 1);
+}
+
+static void refuse_and_fail(void) {
+    uint64_t place;
+    /* 3 is no event of an alphabet of 3: the event before it is taken, and the record is the one after it */
+    const uint8_t strange[] = {1, 3, 0};
+    uint32_t number = feed(strange, sizeof strange, &place);
+    show_refusal("feed 1 3 0", number, place, CSPE_UNKNOWN_EVENT, 1);
+    show("the record", 4, 1, 0, 0);
+
+    const uint8_t wrong[] = {1};
+    expect(feed(wrong, sizeof wrong, &place) == CSPE_NONE, "feed of an event that is not offered");
+    show("feed 1", 5, 0, 1, 5);
+    show_offer(0);
+    show_view(0, 0);
+
+    /* a word of the areas that no call has written */
+    area[0][0] = 1;
+    number = feed(wrong, sizeof wrong, &place);
+    show_refusal("feed with a changed area", number, place, CSPE_INCONSISTENT, 0);
+
+    uint64_t value;
+    number = cspe_read(table_b, sizeof table_b - 1, list, CSPE_NUMBERS, work, CSPE_WORK_WORDS, &value);
+    show_refusal("read without the last byte", number, value, CSPE_TRUNCATED, sizeof table_b - 1);
+}
+
+int main(void) {
+    read_and_write();
+    follow();
+    refuse_and_fail();
+    printf("ok\n");
+    return 0;
+}

@@ -1,0 +1,72 @@
+//! The functions of `include/cspe_monitor.h`.
+
+extern "C" {
+    pub fn cspe_read(
+        bytes: *const u8,
+        bytes_length: usize,
+        numbers: *mut u16,
+        numbers_length: usize,
+        work: *mut u64,
+        work_length: usize,
+        value: *mut u64,
+    ) -> u32;
+    pub fn cspe_write(
+        list: *const u16,
+        list_length: usize,
+        bytes: *mut u8,
+        bytes_length: usize,
+        work: *mut u64,
+        work_length: usize,
+        value: *mut u64,
+    ) -> u32;
+    pub fn cspe_start(
+        list: *const u16,
+        list_length: usize,
+        record: *mut u64,
+        record_length: usize,
+        area0: *mut u64,
+        area0_length: usize,
+        area1: *mut u64,
+        area1_length: usize,
+        work: *mut u64,
+        work_length: usize,
+        place: *mut u64,
+    ) -> u32;
+    pub fn cspe_feed(
+        list: *const u16,
+        list_length: usize,
+        record: *mut u64,
+        record_length: usize,
+        area0: *mut u64,
+        area0_length: usize,
+        area1: *mut u64,
+        area1_length: usize,
+        events: *const u8,
+        events_length: usize,
+        work: *mut u64,
+        work_length: usize,
+        place: *mut u64,
+    ) -> u32;
+    pub fn cspe_offer(
+        list: *const u16,
+        list_length: usize,
+        record: *const u64,
+        record_length: usize,
+        area0: *const u64,
+        area0_length: usize,
+        area1: *const u64,
+        area1_length: usize,
+        work: *mut u64,
+        work_length: usize,
+        value: *mut u64,
+    ) -> u32;
+    pub fn cspe_view(
+        record: *const u64,
+        record_length: usize,
+        area0: *const u64,
+        area0_length: usize,
+        area1: *const u64,
+        area1_length: usize,
+        area: *mut u64,
+    ) -> usize;
+}

@@ -1,0 +1,115 @@
+//! The monitor from Rust: table B of document 01 is read, a monitor is started and fed `0 1 0` in pieces, and each
+//! answer is checked. It prints a line for each call, the same as `../c/main.c`, and ends with status 1 at the first
+//! answer that is not the expected one. In the repository's root:
+//!
+//!     rt staticlib monitor_c
+//!     cargo run --release --offline --manifest-path examples/rust/Cargo.toml
+mod cspe;
+
+use cspe::{Monitor, Refusal, State, Table, Verdict, SLOT_WORDS};
+use std::process::exit;
+
+const SLOTS: usize = 4;
+
+const TABLE_B: [u8; 16] = [3, 2, 0, 1, 0, 0, 1, 1, 1, 0, 2, 0, 2, 1, 5, 0];
+
+fn expect(holds: bool, what: &str) {
+    if !holds {
+        eprintln!("not as expected: {what}");
+        exit(1);
+    }
+}
+
+/// A result, which must be there.
+fn given<T>(result: Result<T, Refusal>, what: &str) -> T {
+    result.unwrap_or_else(|refusal| {
+        eprintln!("not as expected: {what}: {refusal:?}");
+        exit(1);
+    })
+}
+
+/// Prints a state, which must be the one given.
+fn show(call: &str, state: State, taken: u64, residuals: u64, verdict: Verdict) {
+    expect(state == State { taken, residuals, verdict }, call);
+    match state.verdict {
+        Verdict::Running => {
+            println!("{call}: running, {} taken, {} held", state.taken, state.residuals)
+        }
+        Verdict::Failed(place) => println!("{call}: failed at {place}, {} taken", state.taken),
+    }
+}
+
+/// Prints a refusal, which must be the one given.
+fn show_refusal<T>(call: &str, result: Result<T, Refusal>, number: u32, place: u64) {
+    expect(result.err() == Some(Refusal { number, place }), call);
+    println!("{call}: refused {number} at {place}");
+}
+
+fn show_offer(monitor: &mut Monitor, due: u64) {
+    let bits = given(monitor.offer(), "offer");
+    expect(bits == due, "offer");
+    println!("offer: {bits}");
+}
+
+fn show_view(monitor: &Monitor, words_due: usize, area_due: usize) {
+    let (slots, area) = monitor.view();
+    expect(slots.len() == words_due && area == area_due, "view");
+    println!("view: {} words of area {area}", slots.len());
+    for slot in slots.chunks(SLOT_WORDS) {
+        // a slot's first word is how many nodes the residual has; then the nodes, the term in the bits from 24 on
+        println!("    nodes: {}, term of the first: {}", slot[0], slot[1] >> 24);
+    }
+}
+
+fn read_and_write() -> Table {
+    let table = given(Table::read(&TABLE_B), "read");
+    expect(table.numbers().len() == TABLE_B.len(), "how many numbers are read");
+    println!("read: {} numbers", table.numbers().len());
+    let bytes = given(table.write(), "write");
+    expect(bytes == TABLE_B, "what is written");
+    println!("write: {} bytes", bytes.len());
+    table
+}
+
+fn follow(table: &Table) -> Monitor<'_> {
+    show_refusal("start without slots", Monitor::start(table, 0), 1, 0);
+    let mut monitor = given(Monitor::start(table, SLOTS), "start");
+    show("start", monitor.state(), 0, 1, Verdict::Running);
+    show_offer(&mut monitor, 1);
+
+    let events = [0, 1, 0];
+    let state = given(monitor.feed(&events[..1]), "feed of the first piece");
+    show("feed 0", state, 1, 1, Verdict::Running);
+    show_offer(&mut monitor, 2);
+    let state = given(monitor.feed(&events[1..]), "feed of the second piece");
+    show("feed 1 0", state, 3, 1, Verdict::Running);
+    show_offer(&mut monitor, 2);
+    show_view(&monitor, SLOT_WORDS, 1);
+    monitor
+}
+
+fn refuse_and_fail(table: &Table, mut monitor: Monitor) {
+    // 3 is no event of an alphabet of 3: the event before it is taken, and the record is the one after it
+    show_refusal("feed 1 3 0", monitor.feed(&[1, 3, 0]), 11, 1);
+    show("the record", monitor.state(), 4, 1, Verdict::Running);
+
+    let state = given(monitor.feed(&[1]), "feed of an event that is not offered");
+    show("feed 1", state, 5, 0, Verdict::Failed(5));
+    show_offer(&mut monitor, 0);
+    show_view(&monitor, 0, 0);
+
+    // a word of the areas that no call has written
+    let mut parts = monitor.parts().clone();
+    parts.areas[0][0] = 1;
+    show_refusal("feed with a changed area", Monitor::resume(table, parts).feed(&[1]), 10, 0);
+
+    let short = &TABLE_B[..TABLE_B.len() - 1];
+    show_refusal("read without the last byte", Table::read(short), 3, short.len() as u64);
+}
+
+fn main() {
+    let table = read_and_write();
+    let monitor = follow(&table);
+    refuse_and_fail(&table, monitor);
+    println!("ok");
+}

@@ -1,0 +1,161 @@
+/*
+ * A runtime monitor for tables in the process algebra CSP_E, as a static library for C: the six operations of
+ * document 01 (Read, Write, Start, Feed, Offer, View). `rt staticlib monitor_c` proves and writes it
+ * (target/staticlib/libmonitor_c.a, for x86-64 Linux). Each function is proved to return, and to leave in every word
+ * that it is lent, what crates/monitor_c/specs defines, on every input: no call has a condition but those below.
+ *
+ * What is lent. Every buffer is the caller's, and is lent for one call: a pointer, and after it how many elements it
+ * points to. A pointer is aligned for its type and is never NULL, also where its length is 0. A buffer that a call may
+ * write (its pointer is not const) overlaps no other buffer of that call. The library allocates nothing and keeps
+ * nothing between calls, so calls on different buffers may run at the same time.
+ *
+ * What is returned. Each function but cspe_view returns the refusal's number, 0 where there is none (enum
+ * cspe_refusal). One more word is written through the last pointer on every call: the result or the refusal's place.
+ *
+ * The record of a monitor is CSPE_RECORD_WORDS words, at these indices:
+ *     CSPE_TAKEN        how many events were taken
+ *     CSPE_RESIDUALS    how many residuals are held
+ *     CSPE_FAILED       0 running, 1 failed; a call that reads a record takes any word but 0 for failed
+ *     CSPE_PLACE        how many events were taken when it failed, that event counted; 0 while it runs, and then not
+ *                       read
+ * A monitor is its record and areas 0 and 1. Between calls only the calls below write them.
+ */
+#ifndef CSPE_MONITOR_H
+#define CSPE_MONITOR_H
+
+#include <stddef.h>
+#include <stdint.h>
+
+#ifdef __cplusplus
+extern "C" {
+#endif
+
+/* A table has at most so many bytes. */
+#define CSPE_TABLE_BYTES 16384
+/* The length of cspe_read's output, in numbers. */
+#define CSPE_NUMBERS 16384
+/* The length of the work area, in words. */
+#define CSPE_WORK_WORDS 8192
+/* Areas 0 and 1 have equal lengths, in words: a multiple of a slot's, from the least to the most. A slot holds one
+   residual, so they have room for a sixteenth of their words. */
+#define CSPE_SLOT_WORDS 16
+#define CSPE_AREA_WORDS_LEAST 16
+#define CSPE_AREA_WORDS_MOST 4096
+/* The length of a record, in words, and the indices of its words. */
+#define CSPE_RECORD_WORDS 4
+#define CSPE_TAKEN 0
+#define CSPE_RESIDUALS 1
+#define CSPE_FAILED 2
+#define CSPE_PLACE 3
+
+/*
+ * The refusals, with document 01's words and their places. They are tried in this order: 1; 2; 3 to 5 at each number
+ * from the left; 6; 7 from the left; 8; 9; 10; at each event 11, 12, 13. On a number list (all functions but
+ * cspe_read) 4 is never met, and 2 is tried right after 9.
+ */
+enum cspe_refusal {
+    CSPE_NONE = 0,
+    CSPE_WRONG_LENGTH = 1,       /* wrong measure: a lent length is not as it must be; place 0 */
+    CSPE_TOO_LONG = 2,           /* long table: more than CSPE_TABLE_BYTES bytes; place 0 */
+    CSPE_TRUNCATED = 3,          /* cut short: the input ends within the table; place: its length */
+    CSPE_MALFORMED = 4,          /* loose number: a number that is not written as it must be; place: its first byte */
+    CSPE_OUT_OF_RANGE = 5,       /* off scale: a field, an order or a term's bound is broken; place: that number */
+    CSPE_TRAILING_INPUT = 6,     /* left over: input after the table; place: the first such */
+    CSPE_BAD_REFERENCE = 7,      /* wrong reference: a rule of references is broken; place: that number */
+    CSPE_TOO_WIDE = 8,           /* too many hands: a level's width is above 8; place: the lowest such level */
+    CSPE_TOO_MANY_BRANCHES = 9,  /* too many openings: above 256; place: the lowest such term */
+    CSPE_INCONSISTENT = 10,      /* disturbed: record and areas disagree; place 0 */
+    CSPE_UNKNOWN_EVENT = 11,     /* strange event: it is not below the alphabet's size; place: events taken by this call */
+    CSPE_COUNTER_FULL = 12,      /* counter full: 2^64 - 1 events were taken; place: the same */
+    CSPE_CAPACITY_EXCEEDED = 13  /* crowded: more residuals than the areas have room for; place: the same, 0 at Start */
+};
+
+/*
+ * Read: the bytes of a table to its numbers.
+ *     bytes      the table, any length
+ *     numbers    CSPE_NUMBERS numbers
+ *     work       CSPE_WORK_WORDS words, of any content
+ * 0           numbers has the table's numbers and then zeros; *value is how many they are: the number list that the
+ *             other functions take
+ * 1           numbers and work are kept; *value is 0
+ * 2 to 9      numbers is zeroed; *value is the place, among the bytes
+ * The work area is zeroed, but on 1.
+ */
+uint32_t cspe_read(const uint8_t *bytes, size_t bytes_length, uint16_t *numbers, size_t numbers_length,
+                   uint64_t *work, size_t work_length, uint64_t *value);
+
+/*
+ * Write: the numbers of a table to its bytes.
+ *     list       the number list, without zeros after it
+ *     bytes      the output, any length
+ *     work       CSPE_WORK_WORDS words, of any content
+ * 0           bytes begins with the table's bytes, and the rest is kept; *value is how many they are
+ * 1           bytes is kept; *value is 0. The work area's length is wrong, and work is kept; or, tried last of all,
+ *             the table's bytes are more than bytes has room for, and work is zeroed
+ * 2 to 9      bytes is kept; *value is the place, in the list
+ * The work area is zeroed, but as said on 1.
+ */
+uint32_t cspe_write(const uint16_t *list, size_t list_length, uint8_t *bytes, size_t bytes_length,
+                    uint64_t *work, size_t work_length, uint64_t *value);
+
+/*
+ * Start: a monitor of the table, no event taken.
+ *     list            the number list of a table
+ *     record          CSPE_RECORD_WORDS words, of any content
+ *     area0, area1    the areas, of any content
+ *     work            CSPE_WORK_WORDS words, of any content
+ * 0           record and areas are the monitor: running, or failed at 0 where no residual is left; *place is 0
+ * 1 to 9      record and areas are kept
+ * 13          record is kept, both areas are zeroed
+ * On a refusal *place is its place. The work area is zeroed, but kept on 1.
+ */
+uint32_t cspe_start(const uint16_t *list, size_t list_length, uint64_t *record, size_t record_length,
+                    uint64_t *area0, size_t area0_length, uint64_t *area1, size_t area1_length,
+                    uint64_t *work, size_t work_length, uint64_t *place);
+
+/*
+ * Feed: the monitor takes events, from the first. Each is one byte.
+ *     list                    the number list that the monitor was started with
+ *     record, area0, area1    the monitor
+ *     events                  any number of events, or none
+ *     work                    CSPE_WORK_WORDS words, of any content
+ * 0           record and areas are the monitor after all events; *place is 0
+ * 1 to 10     record and areas are kept
+ * 11 to 13    record and areas are the monitor after the events before the refused one; *place is their number
+ * On a refusal *place is its place. After a failure events are still taken, and the record's place stays. The work area
+ * is zeroed, but kept on 1.
+ */
+uint32_t cspe_feed(const uint16_t *list, size_t list_length, uint64_t *record, size_t record_length,
+                   uint64_t *area0, size_t area0_length, uint64_t *area1, size_t area1_length,
+                   const uint8_t *events, size_t events_length, uint64_t *work, size_t work_length,
+                   uint64_t *place);
+
+/*
+ * Offer: which events may come next.
+ *     list                    the number list that the monitor was started with
+ *     record, area0, area1    the monitor, which is only read
+ *     work                    CSPE_WORK_WORDS words, of any content
+ * 0           bit e of *value is set exactly when residuals are left after the event e, whether or not the areas have
+ *             room for them; *value is 0 after a failure
+ * 1 to 10     *value is the place
+ * The work area is zeroed, but kept on 1.
+ */
+uint32_t cspe_offer(const uint16_t *list, size_t list_length, const uint64_t *record, size_t record_length,
+                    const uint64_t *area0, size_t area0_length, const uint64_t *area1, size_t area1_length,
+                    uint64_t *work, size_t work_length, uint64_t *value);
+
+/*
+ * View: where the residuals stand. It takes no table and never refuses.
+ *     record, area0, area1    the monitor, which is only read
+ * It returns how many words the residuals' slots are, from the beginning of area *area, which is 0 or 1. After a
+ * failure, and where the record's residuals are more than that area has room for, and where the record is not of
+ * CSPE_RECORD_WORDS words, it returns 0 and *area is 0.
+ */
+size_t cspe_view(const uint64_t *record, size_t record_length, const uint64_t *area0, size_t area0_length,
+                 const uint64_t *area1, size_t area1_length, uint64_t *area);
+
+#ifdef __cplusplus
+}
+#endif
+
+#endif
