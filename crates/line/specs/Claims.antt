@@ -7,10 +7,12 @@
 use Prim.Native.Nat.{ℕ, _≤_}
 use mathlib.Core.Path.{_≡_}
 use mathlib.Core.Logic.{_⊎_}
-use mathlib.Core.List.{List, [], _∷_, _++_}
+use mathlib.Core.List.{List, [], _∷_, _++_, flatten}
 use lib.ListN.{length}
-use Rattle.monitor_spec.specs.State.{Monitor, concat}
+use Rattle.monitor_spec.specs.State.{Monitor}
 use Rattle.monitor_spec.specs.Feed.{feedOf}
+use Rattle.table.specs.Table.{fixed, Term, stop, prefix, choice, par, one}
+use Rattle.table.specs.Writing.{numbersOf}
 use Rattle.line.specs.Line.{Line, runs, fails, refused, lineOf}
 use Rattle.line.specs.Pieces.{going, fed, pieceOf, piecesOf}
 
@@ -19,7 +21,7 @@ use Rattle.line.specs.Pieces.{going, fed, pieceOf, piecesOf}
 unfoldable pub PiecesAreWhole : Type 0
 PiecesAreWhole =
     (front : List ℕ) (pieces : List (List ℕ)) → (16387 ≤ length front) ⊎ (pieces ≡ [])
-    → piecesOf front pieces ≡ lineOf (front ++ concat pieces)
+    → piecesOf front pieces ≡ lineOf (front ++ flatten pieces)
 
 -- the definition of a piece has a work area of zeros; `resume` takes any of the right length
 unfoldable pub PieceAnyWork : Type 0
@@ -31,16 +33,42 @@ PieceAnyWork =
 abbrev pub tableB : List ℕ
 tableB = 3 ∷ 2 ∷ 0 ∷ 1 ∷ 0 ∷ 0 ∷ 1 ∷ 1 ∷ 1 ∷ 0 ∷ 2 ∷ 0 ∷ 2 ∷ 1 ∷ 5 ∷ 0 ∷ []
 
--- "The whole input `10`, table B, `00 01 00` prints `running 3 1`."; the length number cut short, loose, over 16,384;
--- the table cut short
+-- sixteen STOPs, one or the other
+abbrev stops : Term
+stops =
+    let two = choice stop stop in
+    let four = choice two two in
+    let eight = choice four four in
+    choice eight eight
+
+-- A = 1: (0 to STOP) choice (0 to those, in parallel over {} with themselves): 257 residuals after 0
+unfoldable pub exceeding : List ℕ
+exceeding =
+    numbersOf (record {
+      alphabet = 1;
+      sets = one (0 ∷ []) ∷ one [] ∷ [];
+      definitions = record {
+        level = 0;
+        body = choice (prefix (fixed 0) stop) (prefix (fixed 0) (par (fixed 1) stops stops));
+      } ∷ [];
+    })
+
+-- "The whole input `10`, table B, `00 01 00` prints `running 3 1`."; a place and the number taken; 11; 13 with 256
+-- slots; the length number cut short, loose, over 16,384; no table; the table cut short, by Read and "before Read"
 unfoldable pub Rows : Type 0
 Rows =
     (lineOf (16 ∷ tableB ++ (0 ∷ 1 ∷ 0 ∷ [])) ≡ runs 3 1)
     × (lineOf (16 ∷ tableB ++ (0 ∷ 0 ∷ [])) ≡ fails 2 2)
+    × (lineOf (16 ∷ tableB ++ (0 ∷ 0 ∷ 1 ∷ [])) ≡ fails 2 3)
     × (lineOf (16 ∷ tableB ++ (0 ∷ 1 ∷ 3 ∷ [])) ≡ refused 11 2)
+    × (lineOf (79 ∷ exceeding) ≡ runs 0 2)
+    × (lineOf (79 ∷ exceeding ++ (0 ∷ [])) ≡ refused 13 0)
     × (lineOf [] ≡ refused 3 0)
     × (lineOf (128 ∷ []) ≡ refused 3 0)
     × (lineOf (128 ∷ 0 ∷ []) ≡ refused 4 0)
     × (lineOf (129 ∷ 128 ∷ 1 ∷ []) ≡ refused 2 0)
-    × (lineOf (16 ∷ 3 ∷ 2 ∷ []) ≡ refused 3 2)
+    × (lineOf (0 ∷ []) ≡ refused 3 0)
     × (lineOf (1 ∷ 3 ∷ []) ≡ refused 3 1)
+    × (lineOf (2 ∷ 65 ∷ 2 ∷ []) ≡ refused 5 0)
+    × (lineOf (16 ∷ 3 ∷ 2 ∷ []) ≡ refused 3 2)
+    × (lineOf (16 ∷ 65 ∷ 2 ∷ []) ≡ refused 3 2)

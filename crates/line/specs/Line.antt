@@ -51,7 +51,7 @@ verdictLine (failedAt place) taken count = fails place taken
 unfoldable pub stateLine : State → Line
 stateLine s = verdictLine (s .verdict) (s .taken) (s .count)
 
--- a refusal's place among the events is "events taken by this call", which is all of them here
+-- "Events are placed from the input's first": they are all one call's, whose place is "events taken by this call"
 unfoldable pub answerLine : Answer → Line
 answerLine (given s) = stateLine s
 answerLine (state.refused n p) = refused n p
@@ -65,11 +65,11 @@ fresh l = startOf l (zeros 4096) (zeros 4096) (zeros 8192)
 unfoldable pub monitorOf : Outcome → State → Monitor
 monitorOf o s = record { state = s; area0 = o .area0; area1 = o .area1 }
 
--- Start's answer o, and then Feed's; Start gives none of the third form
+-- Start's answer, with its outcome o, and then Feed's; Start gives none of the third form
 unfoldable pub startedBy : List ℕ → List ℕ → Outcome → Answer → Line
 startedBy l es o (given s) = answerLine (feedOf l (monitorOf o s) es (zeros 8192) .answer)
 startedBy l es o (state.refused n p) = refused n p
-startedBy l es o (stopped n p s) = refused n (s .taken)
+startedBy l es o (stopped n p s) = refused n p
 
 unfoldable pub startedLine : List ℕ → List ℕ → Line
 startedLine l es = startedBy l es (fresh l) (fresh l .answer)

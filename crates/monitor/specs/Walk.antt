@@ -1,5 +1,5 @@
 -- A slot's node words read from the last with a count of trees (ours): what the code keeps of the trees that
--- `forest` spells (`Valid.antt`).
+-- `forest` spells (`specs/Valid.antt` of crate monitor_spec).
 --     withLeaf, joined    a leaf in front; the first two trees under a parallel
 --     wordFits            a known term, with a memory that it allows
 --     planted, walked     a node word in front; all of a list of node words

@@ -1,5 +1,5 @@
 // Whether state and area agree (document 01, "Disturbed"; refusal 10). The definitions are in
-// `specs/Consistent.antt`.
+// `specs/Consistent.antt` of crate monitor_spec.
 ghost use mathlib.Core.Path.{_≡_};
 ghost use Prim.Native.Nat.{_*_, _≤_};
 ghost use mathlib.Core.Bool.{_&&_};

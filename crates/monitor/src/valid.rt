@@ -1,7 +1,8 @@
 // Valid slots (document 01, "Disturbed": "A valid slot is one whole residual tree of known STOP,
 // prefix and parallel terms, its other words zero; memory is below A, zero beyond the term's
 // enclosing prefixes; the leaves' reach sums to at most 8"). The definitions are in
-// `specs/Valid.antt`, those of the walk over a slot's node words in `specs/Walk.antt`.
+// `specs/Valid.antt` of crate monitor_spec, those of the walk over a slot's node words in
+// `specs/Walk.antt`.
 ghost use mathlib.Core.Path.{_≡_};
 ghost use Prim.Native.Nat.{_≤_};
 ghost use lib.ListN.{length, take, drop};

@@ -6,5 +6,9 @@ pub mod Exceeds
 pub mod Histories
 pub mod Answers
 pub mod Offers
+pub mod Gate
+pub mod Starts
+pub mod Feeds
+pub mod Offering
 pub mod Keeps
 pub mod Rows

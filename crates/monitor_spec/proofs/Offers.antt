@@ -4,7 +4,7 @@ use native.Mathlib.Omega.{arith}
 use native.Mathlib.Nat.{zero-div}
 use mathlib.Core.Path.{_≡_, refl, ap, sym, subst, _∙_}
 use mathlib.Core.Bool.{true}
-use mathlib.Core.List.{List, [], _∷_, _++_, flatMap}
+use mathlib.Core.List.{List, [], _∷_, _++_, flatMap, flatten}
 use mathlib.Core.Logic.{_↔_}
 use lib.ListN.{length}
 use Rattle.table.specs.Table.{Table}
@@ -17,7 +17,7 @@ use Rattle.monitor_spec.specs.Meaning.{Some}
 use Rattle.monitor_spec.specs.Slots.{slotsOf}
 use Rattle.monitor_spec.specs.Valid.{held}
 use Rattle.monitor_spec.specs.Valid.Residuals.{slots-after}
-use Rattle.monitor_spec.specs.State.{Verdict, running, failedAt, Monitor, areasMeasured, workMeasured, concat, laid}
+use Rattle.monitor_spec.specs.State.{Verdict, running, failedAt, Monitor, areasMeasured, workMeasured, laid}
 use Rattle.monitor_spec.specs.Consistent.{consistent}
 use Rattle.monitor_spec.specs.Feed.{presentSlots}
 use Rattle.monitor_spec.specs.Offer.{OfferOutcome, offers, offerBits, offering, offerJudged, offerOf}
@@ -58,7 +58,7 @@ module _ (l ns : List ℕ) (t : Table) (says : judgeList l ≡ accepted ns t) (r
   after-none e = refl
 
   -- the bits, from any sensible residuals
-  bits-exact : (n k : ℕ) (v : Verdict) (rs : List Residual) → Sensible t n k v rs → (e : ℕ)
+  pub bits-exact : (n k : ℕ) (v : Verdict) (rs : List Residual) → Sensible t n k v rs → (e : ℕ)
       → (offerBits t (laid n k v (slotsOf rs)) v / 2 ^ e % 2 ≡ 1) ↔ ((e < t .alphabet) × Some (afterAll t e rs))
   unfolding offerBits
   bits-exact n k running rs ok e =
@@ -100,7 +100,7 @@ module _ (l ns : List ℕ) (t : Table) (says : judgeList l ≡ accepted ns t) (r
       }
 
   pub views-after : (n : ℕ) (s : List ℕ) → Fed t n s
-      → viewOf (monitorAfter t n s) ≡ concat (slotsOf (residualsOf t s))
+      → viewOf (monitorAfter t n s) ≡ flatten (slotsOf (residualsOf t s))
   unfolding monitorAfter
   views-after n s f = view-laid t regular n (length s) (residualsOf t s) (verdictOf t s)
       (fed-sensible t regular n s f)

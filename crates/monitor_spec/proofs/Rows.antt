@@ -1,6 +1,6 @@
 -- The worked examples hold, by computing. Assumes nothing.
 use mathlib.Core.Path.{refl}
-use mathlib.Core.List.{flatMap}
+use mathlib.Core.List.{flatMap, flatten}
 use Rattle.table.specs.Table.{size, sizes, bodyOf, bodyNumber, termIn, termOfDefs, termAt}
 use Rattle.table.specs.Table.{prefixesIn, enclosingIn, enclosing}
 use Rattle.numbers.specs.Number.{listBytes, bytesOf, groups}
@@ -26,7 +26,7 @@ use Rattle.monitor_spec.specs.Residual.{fromDefinition, residualsOf}
 use Rattle.monitor_spec.specs.Slots.{pack, termOf, memoryOf, nodes, slotOf, compareWords, insert, canon, slotsOf}
 use Rattle.monitor_spec.specs.Valid.{joinTrees, plant, plantWord, forest, oneTree, slotResidual, held, digitFits}
 use Rattle.monitor_spec.specs.Valid.{memoryFits, memoriesFit, reachAt, reachSum, validSlot}
-use Rattle.monitor_spec.specs.State.{areasMeasured, workMeasured, slotCount, even, choose, chunks, concat, fill}
+use Rattle.monitor_spec.specs.State.{areasMeasured, workMeasured, slotCount, even, choose, chunks, fill}
 use Rattle.monitor_spec.specs.Consistent.{every, allZero, ascendsFrom, ascends, verdictFits, recordFits, areaFits}
 use Rattle.monitor_spec.specs.Consistent.{consistent}
 use Rattle.monitor_spec.specs.Fold.{through}
@@ -38,7 +38,7 @@ use Rattle.monitor_spec.specs.View.{viewBy, viewOf}
 use Rattle.monitor_spec.specs.History.{standing, callOn, history}
 use Rattle.monitor_spec.specs.Examples.{drawn, feedAfter, startAndFeed, rows, saysAll}
 use Rattle.monitor_spec.specs.Cases.{fed, afterCalls, afterStart, cases, casesHold}
-use Rattle.monitor_spec.specs.Buffers.{BuffersStand}
+use Rattle.monitor_spec.specs.Buffers.{deep, BuffersStand}
 
 pub marked : saysAll rows
 unfolding flatMap size sizes bodyOf bodyNumber termIn termOfDefs termAt prefixesIn enclosingIn enclosing
@@ -53,7 +53,7 @@ unfolding flatMap size sizes bodyOf bodyNumber termIn termOfDefs termAt prefixes
     pack termOf memoryOf nodes slotOf compareWords insert canon slotsOf
     joinTrees plant plantWord forest oneTree slotResidual held digitFits memoryFits memoriesFit reachAt reachSum
     validSlot
-    areasMeasured workMeasured slotCount even choose chunks concat fill
+    areasMeasured workMeasured slotCount even choose chunks flatten fill
     every allZero ascendsFrom ascends verdictFits recordFits areaFits consistent through
     presentSlots nextSlots nextVerdict taking takeEvent endingOf refusing feedAccepted feedJudged feedOf
     startAccepted startJudged startOf drawn feedAfter startAndFeed
@@ -72,7 +72,7 @@ unfolding flatMap size sizes bodyOf bodyNumber termIn termOfDefs termAt prefixes
     pack termOf memoryOf nodes slotOf compareWords insert canon slotsOf
     joinTrees plant plantWord forest oneTree slotResidual held digitFits memoryFits memoriesFit reachAt reachSum
     validSlot
-    areasMeasured workMeasured slotCount even choose chunks concat fill
+    areasMeasured workMeasured slotCount even choose chunks flatten fill
     every allZero ascendsFrom ascends verdictFits recordFits areaFits consistent through
     presentSlots nextSlots nextVerdict taking takeEvent endingOf refusing feedAccepted feedJudged feedOf
     startAccepted startJudged startOf drawn feedAfter startAndFeed
@@ -92,9 +92,9 @@ unfolding flatMap size sizes bodyOf bodyNumber termIn termOfDefs termAt prefixes
     pack termOf memoryOf nodes slotOf compareWords insert canon slotsOf
     joinTrees plant plantWord forest oneTree slotResidual held digitFits memoryFits memoriesFit reachAt reachSum
     validSlot
-    areasMeasured workMeasured slotCount even choose chunks concat fill
+    areasMeasured workMeasured slotCount even choose chunks flatten fill
     every allZero ascendsFrom ascends verdictFits recordFits areaFits consistent through
     presentSlots nextSlots nextVerdict taking takeEvent endingOf refusing feedAccepted feedJudged feedOf
     startAccepted startJudged startOf drawn feedAfter startAndFeed
-    bitOf bitsBelow offerBits offering offerJudged offerOf viewBy viewOf
+    bitOf bitsBelow offerBits offering offerJudged offerOf viewBy viewOf deep
 outcomes-stand = (refl, refl, refl)

@@ -14,6 +14,7 @@ use Rattle.monitor_spec.specs.Residual.Traces.{traces-run, traces-defini
 use Rattle.monitor_spec.specs.Residual.{Residual}
 use Rattle.monitor_spec.specs.Residual.Calls.{resolveDef-body}
 use Rattle.monitor_spec.specs.Residual.Counts.{resolve-length}
+use Rattle.monitor_spec.specs.Slots.Canonical.{slots-sorted, in-slots}
 use Rattle.monitor_spec.specs.Valid.{slotResidual, validSlot}
 use Rattle.monitor_spec.specs.Valid.Laws.{valid-proper, proper-valid}
 use Rattle.monitor_spec.specs.Valid.Residuals.{read-back}
@@ -26,12 +27,18 @@ use Rattle.monitor_spec.specs.Expected.{monitorAfter}
 use Rattle.monitor_spec.specs.Stops.{JudgesOne}
 use Rattle.monitor_spec.specs.Expected.Steps.{Fed}
 use Rattle.monitor_spec.specs.History.Laws.{fed-joined}
+use Rattle.monitor_spec.specs.History.Begun.{start-never}
 use Rattle.monitor_spec.specs.Claims.{ResidualsAreTraces, DefinitionsAreTraces, LastIsTraces, ResolvesBranches}
-use Rattle.monitor_spec.specs.Claims.{StartExceeds}
-use Rattle.monitor_spec.specs.Claims.{CallsResolve, SlotsTell, ValidExactly, ConsistentExactly}
+use Rattle.monitor_spec.specs.Claims.{CallsResolve, SlotsTell, SlotsOnce, ValidExactly, ConsistentExactly}
+use Rattle.monitor_spec.specs.Claims.{StartRefusedExactly, StartGives, StartAnswers, StartBuffers, StartExceeds}
+use Rattle.monitor_spec.specs.Claims.{FeedRefusedExactly, FeedStopsExactly, FeedGivesExactly, FeedBuffers}
+use Rattle.monitor_spec.specs.Claims.{OfferRefusedExactly, OfferBits, OfferBuffers}
 use Rattle.monitor_spec.specs.Claims.{Judges, Answers, Histories, OffersTraces, ViewsResiduals, FeedKeeps}
 use Rattle.monitor_spec.specs.Claims.{Examples, Cases, Buffers}
 use Rattle.monitor_spec.proofs.Endings.{T-true, true-T}
+use Rattle.monitor_spec.proofs.Starts.{start-refused, start-gives as started, start-work, start-keeps, start-zeroes}
+use Rattle.monitor_spec.proofs.Feeds as feeds
+use Rattle.monitor_spec.proofs.Offering as offering
 use Rattle.monitor_spec.proofs.Exceeds.{start-exceeds-exactly}
 use Rattle.monitor_spec.proofs.Histories.{reached, history-holds}
 use Rattle.monitor_spec.proofs.Verdicts.{held-some}
@@ -69,6 +76,10 @@ slots-tell t rules r q x y e =
     some-same : (u v : Residual) → some u ≡ some v → u ≡ v
     some-same u v p = cc
 
+pub slots-once : SlotsOnce
+unfolding SlotsOnce
+slots-once rs = (slots-sorted rs, λ s. in-slots s rs)
+
 pub valid-exactly : ValidExactly
 unfolding ValidExactly
 valid-exactly t rules w = (
@@ -88,6 +99,50 @@ consistent-exactly t rules m a =
 pub resolves-branches : ResolvesBranches
 unfolding ResolvesBranches
 resolves-branches t rules n m p e = resolve-length t rules m (number-at t n p e .stands)
+
+pub start-refused-exactly : StartRefusedExactly
+unfolding StartRefusedExactly
+start-refused-exactly l a b w = start-refused l a b w
+
+pub start-gives : StartGives
+unfolding StartGives
+start-gives l a b w = started l a b w
+
+pub start-answers : StartAnswers
+unfolding StartAnswers
+start-answers l a b w = start-never l a b w
+
+pub feed-refused-exactly : FeedRefusedExactly
+unfolding FeedRefusedExactly
+feed-refused-exactly l m es w = feeds.feed-refused l m es w
+
+pub feed-stops-exactly : FeedStopsExactly
+unfolding FeedStopsExactly
+feed-stops-exactly l m es w = feeds.feed-stops l m es w
+
+pub feed-gives-exactly : FeedGivesExactly
+unfolding FeedGivesExactly
+feed-gives-exactly l m es w = feeds.feed-gives l m es w
+
+pub offer-refused-exactly : OfferRefusedExactly
+unfolding OfferRefusedExactly
+offer-refused-exactly l m w = offering.offer-refused l m w
+
+pub offer-bits : OfferBits
+unfolding OfferBits
+offer-bits l m w = offering.offer-word l m w
+
+pub start-buffers : StartBuffers
+unfolding StartBuffers
+start-buffers l a b w = (start-work l a b w, start-keeps l a b w, start-zeroes l a b w)
+
+pub feed-buffers : FeedBuffers
+unfolding FeedBuffers
+feed-buffers l m es w = (feeds.feed-work l m es w, feeds.feed-keeps l m es w)
+
+pub offer-buffers : OfferBuffers
+unfolding OfferBuffers
+offer-buffers l m w = let (x, y) = offering.offer-keeps l m w in (offering.offer-work l m w, x, y)
 
 pub start-exceeds : StartExceeds
 unfolding StartExceeds

@@ -1,6 +1,5 @@
 -- What stands in each lent buffer after a call (01, "Operations", "When the monitor declines"): whole outcomes of
--- Start, Feed, Offer and View. No other claim sees the work words, the length 8,192 or the areas of a refused Start;
--- these rows do.
+-- Start, Feed, Offer and View, word by word; the words themselves are written out here.
 --     Left, outcomes      what Start and Feed leave, beside what is expected
 --     Shown, offered      what Offer leaves;  Part, views: what View hands back
 -- Assumes nothing.
@@ -8,10 +7,11 @@ use Prim.Native.Nat.{ℕ}
 use mathlib.Core.Path.{_≡_}
 use mathlib.Core.List.{List, [], _∷_, _++_, map}
 use lib.ListN.{replicate}
-use Rattle.table.specs.Table.{fixed, stop, choice, par}
+use Rattle.table.specs.Table.{fixed, stop, fail, prefix, choice, par, one}
+use Rattle.table.specs.Writing.{numbersOf}
 use Rattle.table.specs.Operations.{zeros}
 use Rattle.monitor_spec.specs.State.{Verdict, running, failedAt, Monitor, Answer, given, refused, stopped, Outcome}
-use Rattle.monitor_spec.specs.Feed.{feedOf}
+use Rattle.monitor_spec.specs.Feed.{counterMost, feedOf}
 use Rattle.monitor_spec.specs.Start.{startOf}
 use Rattle.monitor_spec.specs.Offer as Offer
 use Rattle.monitor_spec.specs.Offer.{OfferOutcome, offerOf}
@@ -43,6 +43,20 @@ eight = drawn (par (fixed 2) (a stop) (a stop))
 abbrev trailing : List ℕ
 trailing = tableB ++ 0 ∷ []
 
+-- 1 to K8
+abbrev delayed : List ℕ
+delayed = drawn (b (par (fixed 2) (a stop) (a stop)))
+
+-- A = 5; x in {1,2,3,4}, four times, to STOP
+unfoldable pub deep : List ℕ
+deep =
+    let any = prefix (fixed 0) in
+    numbersOf (record {
+      alphabet = 5;
+      sets = one (1 ∷ 2 ∷ 3 ∷ 4 ∷ []) ∷ [];
+      definitions = record { level = 0; body = any (any (any (any stop))) } ∷ [];
+    })
+
 -- the slots of K7 at Start
 abbrev both : List ℕ
 both = oneNode (word 1 0) ++ oneNode (word 3 0)
@@ -70,6 +84,15 @@ outcomes =
     ∷ leaves (feedOf eight (mon 0 1 running (threeNodes (word 0 0) (word 1 0) (word 3 0)) (zeros 16)) (0 ∷ [])
     (sevens 8192))
     (stopped 13 0 (st 0 1 running)) (threeNodes (word 0 0) (word 1 0) (word 3 0)) (zeros 16) (zeros 8192)
+    -- so with an odd taken, at place 1
+    ∷ leaves (feedOf delayed (mon 0 1 running (oneNode 0) (zeros 16)) (1 ∷ 0 ∷ []) (sevens 8192))
+    (stopped 13 1 (st 1 1 running)) (zeros 16) (threeNodes (word 1 1) (word 2 1) (word 4 1)) (zeros 8192)
+    -- 12: as before the event
+    ∷ leaves (feedOf tableB (mon counterMost 1 running (zeros 16) (oneNode 0)) (0 ∷ []) (sevens 8192))
+    (stopped 12 0 (st counterMost 1 running)) (zeros 16) (oneNode 0) (zeros 8192)
+    -- "term × 2^24 + m0 × 2^18 + m1 × 2^12 + m2 × 2^6 + m3": term 4 with the memory 4, 3, 2, 1
+    ∷ leaves (feedOf deep (mon 0 1 running (oneNode 0) (zeros 16)) (1 ∷ 2 ∷ 3 ∷ 4 ∷ []) (sevens 8192))
+    (given (st 4 1 running)) (1 ∷ 68169857 ∷ zeros 14) (zeros 16) (zeros 8192)
     -- failed: both areas zero
     ∷ leaves (feedOf tableB (mon 4 1 running (oneNode 0) (zeros 16)) (2 ∷ []) (sevens 8192))
     (given (st 5 0 (failedAt 5))) (zeros 16) (zeros 16) (zeros 8192)
@@ -87,6 +110,17 @@ outcomes =
     (refused 6 16) (sevens 16) (sevens 16) (zeros 8192)
     ∷ leaves (startOf seven (sevens 16) (sevens 32) (sevens 8192))
     (refused 1 0) (sevens 16) (sevens 32) (sevens 8192)
+    -- "a multiple of 16 from 16 to 4,096": 0 and 4,112 are not, 4,096 is
+    ∷ leaves (startOf tableB [] [] (sevens 8192)) (refused 1 0) [] [] (sevens 8192)
+    ∷ leaves (startOf tableB (sevens 4112) (sevens 4112) (sevens 8192))
+    (refused 1 0) (sevens 4112) (sevens 4112) (sevens 8192)
+    ∷ leaves (startOf tableB (sevens 4096) (sevens 4096) (sevens 8192))
+    (given (st 0 1 running)) (oneNode 0 ++ zeros 4080) (zeros 4096) (zeros 8192)
+    ∷ leaves (startOf tableB (sevens 16) (sevens 16) (sevens 8192))
+    (given (st 0 1 running)) (oneNode 0) (zeros 16) (zeros 8192)
+    -- "(0 at Start)": K5
+    ∷ leaves (startOf (drawn (par (fixed 2) stop fail)) (sevens 16) (sevens 16) (sevens 8192))
+    (given (st 0 0 (failedAt 0))) (zeros 16) (zeros 16) (zeros 8192)
     ∷ []
 
 pub record Shown : Type 0 where

@@ -1,13 +1,13 @@
 -- Further worked cases (ours, from 01's sentences): memories, calls, one residual from two sides, the counter, lists
 -- of calls, inconsistent states; refusals 1 and 10 to 13 with their places.
 --     Case, is         what was got beside what is expected
---     started, fed     Start and one Feed; Feed on a record and two areas as they are;  after: a list of calls
+--     startAndFeed, fed    Start and one Feed; Feed on a record and two areas as they are;  afterStart: a list of calls
 -- Assumes nothing.
 use Prim.Native.Nat.{ℕ, _+_, _*_}
 use mathlib.Core.Path.{_≡_}
 use mathlib.Core.List.{List, [], _∷_, _++_, map}
 use lib.ListN.{replicate}
-use Rattle.table.specs.Table.{fixed, family, Term, stop, prefix, par, call, one, each, Definition}
+use Rattle.table.specs.Table.{fixed, family, Term, stop, fail, prefix, choice, par, call, one, each, Definition}
 use Rattle.table.specs.Table.{SetDef}
 use Rattle.table.specs.Writing.{numbersOf}
 use Rattle.table.specs.Operations.{zeros}
@@ -105,6 +105,13 @@ word n d = n * 16777216 + d * 262144
 abbrev any : Term → Term
 any p = prefix (fixed 3) p
 
+-- (0 to STOP) choice ((0 to STOP) parallel over {} itself): slots of one node and of three
+abbrev mixed : List ℕ
+mixed = drawn (choice (a stop) (par (fixed 2) (a stop) (a stop)))
+
+abbrev eight : List ℕ
+eight = drawn (par (fixed 2) (a stop) (a stop))
+
 -- an event set of a parameter k, behind four prefixes
 abbrev behind : ℕ → List ℕ
 behind k = drawn (any (any (any (any (prefix (family 4 k) stop)))))
@@ -150,6 +157,13 @@ cases =
     (stopped 12 0 (st counterMost 1 running))
     ∷ is (fed tableB (st 18446744073709551614 1 running) (oneNode 0) (zeros 16) (0 ∷ 1 ∷ []))
     (stopped 12 1 (st counterMost 1 running))
+    -- 12 before 13: two residuals after 0, one slot; 12 after failure
+    ∷ is (fed eight (st counterMost 1 running) (zeros 16) (threeNodes (word 0 0) (word 1 0) (word 3 0)) (0 ∷ []))
+    (stopped 12 0 (st counterMost 1 running))
+    ∷ is (fed eight (st 1 1 running) (zeros 16) (threeNodes (word 0 0) (word 1 0) (word 3 0)) (0 ∷ []))
+    (stopped 13 0 (st 1 1 running))
+    ∷ is (fed tableB (st counterMost 0 (failedAt 3)) (zeros 16) (zeros 16) (0 ∷ []))
+    (stopped 12 0 (st counterMost 0 (failedAt 3)))
     -- 10: the wrong parity; failed above taken; residuals after failure; running with none, or more than fit
     ∷ is (fed tableB (st 1 1 running) (oneNode 0) (zeros 16) []) (refused 10 0)
     ∷ is (fed tableB (st 1 0 (failedAt 2)) (zeros 16) (zeros 16) []) (refused 10 0)
@@ -169,6 +183,17 @@ cases =
     ∷ is (fed tableB (st 0 1 running) (oneNode 0 ++ oneNode (word 1 0)) (zeros 32) []) (refused 10 0)
     ∷ is (fed tableB (st 0 1 running) (2 ∷ 0 ∷ zeros 14) (zeros 16) []) (refused 10 0)
     ∷ is (fed tableB (st 0 1 running) (oneNode 0) (zeros 15 ++ 1 ∷ []) []) (refused 10 0)
+    -- a slot that stands after failure; words that are not zero behind a slot's nodes; FAIL, and a choice
+    ∷ is (fed tableB (st 0 0 (failedAt 0)) (oneNode 0) (zeros 16) []) (refused 10 0)
+    ∷ is (fed tableB (st 0 1 running) (1 ∷ 0 ∷ 1 ∷ zeros 13) (zeros 16) []) (refused 10 0)
+    ∷ is (fed tableB (st 0 1 running) (1 ∷ 0 ∷ zeros 13 ++ 1 ∷ []) (zeros 16) []) (refused 10 0)
+    ∷ is (fed (drawn (a fail)) (st 0 1 running) (oneNode (word 1 0)) (zeros 16) []) (refused 10 0)
+    ∷ is (fed mixed (st 0 1 running) (oneNode (word 0 0)) (zeros 16) []) (refused 10 0)
+    -- one node before three nodes stands, three before one does not
+    ∷ is (fed mixed (st 0 2 running) (oneNode (word 1 0) ++ threeNodes (word 3 0) (word 4 0) (word 6 0)) (zeros 32) [])
+    (said 0 2 running)
+    ∷ is (fed mixed (st 0 2 running) (threeNodes (word 3 0) (word 4 0) (word 6 0) ++ oneNode (word 1 0)) (zeros 32) [])
+    (refused 10 0)
     -- "the leaves' reach sums to at most 8": the prefix beside a STOP has 8 + 1; a pair of two STOPs stands
     ∷ is (fed wide (st 0 1 running) (threeNodes (word 0 0) (word 3 0) (word 15 0)) (zeros 16) []) (refused 10 0)
     ∷ is (fed wide (st 0 1 running) (threeNodes (word 0 0) (word 3 0) (word 4 0)) (zeros 16) []) (said 0 1 running)

@@ -4,19 +4,24 @@
 --     DefinitionsAreTraces    from every definition;  LastIsTraces: from the last
 --     CallsResolve            a call resolves to what the body does
 --     ResolvesBranches        resolving lists as many residuals as the term has branches
---     SlotsTell               a slot tells its residual;  ValidExactly: the valid slots are those of proper residuals
+--     SlotsTell               a slot tells its residual;  SlotsOnce: slots ascend, each once
+--     ValidExactly            the valid slots are those of proper residuals
 --     ConsistentExactly       the consistent monitors are those laid out of proper residuals
---     StartExceeds            capacity exceeded at Start, exactly
+--     StartRefusedExactly, StartGives, StartAnswers           demand 1, on every input: Start
+--     FeedRefusedExactly, FeedStopsExactly, FeedGivesExactly  Feed
+--     OfferRefusedExactly, OfferBits                          Offer
+--     StartBuffers, FeedBuffers, OfferBuffers                 areas and work words on every input
+--     StartExceeds            capacity exceeded at Start, exactly, on an accepted table
 --     Judges                  demand 2: one list fed to a fresh monitor
 --     Answers                 what a call along a history answers, exactly: 1, 11, 12, 13 with places, or a record
 --     Histories               demand 3: one claim over the whole list of calls
 --     OffersTraces            Offer's bits along a history;  ViewsResiduals: what View hands back there
 --     FeedKeeps               no call makes a consistent monitor inconsistent
 --     Examples                K1 to K12;  Cases: further cases;  Buffers: whole outcomes with every lent word
--- Every claim on calls is about a number list l that the table layer accepts as the table t. Assumes nothing.
-use Prim.Native.Nat.{ℕ, _<_}
+-- Every claim along a history is about a number list l that the table layer accepts as the table t. Assumes nothing.
+use Prim.Native.Nat.{ℕ, _≤_, _<_}
 use mathlib.Core.Path.{_≡_}
-use mathlib.Core.List.{List, []}
+use mathlib.Core.List.{List, [], flatten}
 use mathlib.Core.Option.{some}
 use mathlib.Core.Logic.{_↔_}
 use lib.ListN.{length}
@@ -27,23 +32,28 @@ use Rattle.table.specs.Memory.{Memory, noMemory}
 use Rattle.table.specs.Branches.{branches}
 use Rattle.table.specs.Rules.{Rules}
 use Rattle.table.specs.Judge.{accepted, judgeList}
+use Rattle.table.specs.Operations.{zeros}
 use Rattle.numbers.specs.Every.{All}
 use Rattle.meaning.specs.Some.{Any}
 use Rattle.meaning.specs.Figure1.{Term, call, count}
 use Rattle.meaning.specs.Figure2.{TraceSet, Model}
 use Rattle.monitor_spec.specs.Residual.{Residual, resolveDef, resolve, run, fromDefinition, residualsOf}
-use Rattle.monitor_spec.specs.Slots.{slotOf, slotsOf}
+use Rattle.monitor_spec.specs.Slots.{slotOf, slotsOf, Sorted}
 use Rattle.monitor_spec.specs.Valid.{validSlot}
-use Rattle.monitor_spec.specs.State.{Monitor, refused, areasMeasured, workMeasured, slotCount, concat}
+use Rattle.monitor_spec.specs.State.{State, Monitor, refused, stopped, areasMeasured, workMeasured, slotCount}
 use Rattle.monitor_spec.specs.Consistent.{consistent}
 use Rattle.monitor_spec.specs.Start.{startOf}
-use Rattle.monitor_spec.specs.Offer.{offerOf}
+use Rattle.monitor_spec.specs.Feed.{feedOf}
+use Rattle.monitor_spec.specs.Offer as Offer
+use Rattle.monitor_spec.specs.Offer.{offers, offerOf}
 use Rattle.monitor_spec.specs.View.{viewOf}
 use Rattle.monitor_spec.specs.Joined.{Call, residualCount, joined}
 use Rattle.monitor_spec.specs.Meaning.{denote, Sound, Some}
 use Rattle.monitor_spec.specs.Proper.{Proper}
 use Rattle.monitor_spec.specs.Sensible.{Laid}
-use Rattle.monitor_spec.specs.History.{callOn, history, Fresh, slotsLent, start, Along, AfterCalls}
+use Rattle.monitor_spec.specs.Refusals.{StartRefused, Starts, CallRefused, Offers, WorkLeft}
+use Rattle.monitor_spec.specs.Progress.{LeavesAt, FeedStops, FeedGives}
+use Rattle.monitor_spec.specs.History.{callOn, history, Fresh, slotsLent, start, Leaves, Along, AfterCalls}
 use Rattle.monitor_spec.specs.Stops.{AnswersOne, JudgesOne}
 use Rattle.monitor_spec.specs.Offers.{OffersJust}
 use Rattle.monitor_spec.specs.Examples.{rows, saysAll}
@@ -84,6 +94,12 @@ ResolvesBranches =
 unfoldable pub SlotsTell : Type 0
 SlotsTell = (t : Table) → Rules t → (r q : Residual) → Proper t r → Proper t q → slotOf r ≡ slotOf q → r ≡ q
 
+-- 01, "Residuals": "A residual already held is not held twice. An area holds slots ascending by first differing word"
+unfoldable pub SlotsOnce : Type 0
+SlotsOnce =
+    (rs : List Residual)
+    → Sorted (slotsOf rs) × ((s : List ℕ) → Any (λ x. s ≡ x) (slotsOf rs) ↔ Any (λ r. s ≡ slotOf r) rs)
+
 -- 01, "Disturbed": "A valid slot is one whole residual tree .."
 unfoldable pub ValidExactly : Type 0
 ValidExactly =
@@ -95,6 +111,73 @@ unfoldable pub ConsistentExactly : Type 0
 ConsistentExactly =
     (t : Table) → Rules t → (m : Monitor) → T (areasMeasured (m .area0) (m .area1))
     → T (consistent t m) ↔ Laid t (slotCount (m .area0)) m
+
+-- 00, demand 1: "for all tables, state records, events and buffers, .. a refusal only on its listed condition"; 01,
+-- "When the monitor declines": "Each is given exactly on its condition"
+unfoldable pub StartRefusedExactly : Type 0
+StartRefusedExactly =
+    (l a b w : List ℕ) (n p : ℕ) → (startOf l a b w .answer ≡ refused n p) ↔ StartRefused l a b w n p
+
+-- 01: "Start settles the last definition into area 0, zeroes area 1, taken 0."
+unfoldable pub StartGives : Type 0
+StartGives = (l a b w : List ℕ) (m : Monitor) → Fresh l a b w m ↔ Starts l a b w m
+
+-- 01: "Start crowded (place 0) .. returns no record": no answer of Start has a number and a record
+unfoldable pub StartAnswers : Type 0
+StartAnswers = (l a b w : List ℕ) (n p : ℕ) (s : State) → startOf l a b w .answer ≡ stopped n p s → ⊥
+
+unfoldable pub FeedRefusedExactly : Type 0
+FeedRefusedExactly =
+    (l : List ℕ) (m : Monitor) (es w : List ℕ) (n p : ℕ)
+    → (feedOf l m es w .answer ≡ refused n p) ↔ CallRefused l m w n p
+
+-- 01: "per event 11, 12, 13"; "Refusals 11 to 13 also return the record after the events already taken, areas as then"
+unfoldable pub FeedStopsExactly : Type 0
+FeedStopsExactly =
+    (l : List ℕ) (m : Monitor) (es w : List ℕ) (n p : ℕ) (left : Monitor)
+    → LeavesAt (feedOf l m es w) n p left ↔ FeedStops l m es w n p left
+
+-- 01: "each call takes the state record and hands back its successor"
+unfoldable pub FeedGivesExactly : Type 0
+FeedGivesExactly =
+    (l : List ℕ) (m : Monitor) (es w : List ℕ) (left : Monitor)
+    → Leaves (feedOf l m es w) left ↔ FeedGives l m es w left
+
+unfoldable pub OfferRefusedExactly : Type 0
+OfferRefusedExactly =
+    (l : List ℕ) (m : Monitor) (w : List ℕ) (n p : ℕ)
+    → (offerOf l m w .answer ≡ Offer.refused n p) ↔ CallRefused l m w n p
+
+-- 01: "a u64 whose bit e is set exactly when the residuals after e, crowded or not, are not empty; 0 after failure"
+unfoldable pub OfferBits : Type 0
+OfferBits =
+    (l : List ℕ) (m : Monitor) (w : List ℕ) (bits : ℕ) → (offerOf l m w .answer ≡ offers bits) ↔ Offers l m w bits
+
+-- 01: "Refusals 1 to 10 .. keep areas"; "Start crowded (place 0) zeroes both areas"; the work area is "all zero after
+-- each call, but kept on refusal 1"
+unfoldable pub StartBuffers : Type 0
+StartBuffers =
+    (l a b w : List ℕ)
+    → WorkLeft a b w (startOf l a b w .work)
+    × ((n p : ℕ) → startOf l a b w .answer ≡ refused n p → n ≤ 10
+    → (startOf l a b w .area0 ≡ a) × (startOf l a b w .area1 ≡ b))
+    × ((p : ℕ) → startOf l a b w .answer ≡ refused 13 p
+    → (startOf l a b w .area0 ≡ zeros (length a)) × (startOf l a b w .area1 ≡ zeros (length b)))
+
+unfoldable pub FeedBuffers : Type 0
+FeedBuffers =
+    (l : List ℕ) (m : Monitor) (es w : List ℕ)
+    → WorkLeft (m .area0) (m .area1) w (feedOf l m es w .work)
+    × ((n p : ℕ) → feedOf l m es w .answer ≡ refused n p
+    → (feedOf l m es w .area0 ≡ m .area0) × (feedOf l m es w .area1 ≡ m .area1))
+
+-- Offer: "areas kept", whatever the answer
+unfoldable pub OfferBuffers : Type 0
+OfferBuffers =
+    (l : List ℕ) (m : Monitor) (w : List ℕ)
+    → WorkLeft (m .area0) (m .area1) w (offerOf l m w .work)
+    × (offerOf l m w .area0 ≡ m .area0)
+    × (offerOf l m w .area1 ≡ m .area1)
 
 -- 01: "crowded: residuals .. at Start, exceed the slots", place 0, when refusal 1 is not met
 unfoldable pub StartExceeds : Type 0
@@ -146,7 +229,7 @@ ViewsResiduals =
     (l ns : List ℕ) (t : Table) → judgeList l ≡ accepted ns t
     → (a b work : List ℕ) (fresh : Monitor) → Fresh l a b work fresh
     → (calls : List Call)
-    → viewOf (history l fresh calls) ≡ concat (slotsOf (residualsOf t (joined t (slotsLent fresh) calls)))
+    → viewOf (history l fresh calls) ≡ flatten (slotsOf (residualsOf t (joined t (slotsLent fresh) calls)))
 
 -- 01, "Disturbed": whatever the monitor, the events and the work area
 unfoldable pub FeedKeeps : Type 0

@@ -14,6 +14,9 @@ pub mod Joined
 pub mod Meaning
 pub mod Proper
 pub mod Sensible
+pub mod Expected
+pub mod Refusals
+pub mod Progress
 pub mod History
 pub mod Stops
 pub mod Offers
@@ -23,4 +26,3 @@ pub mod Buffers
 pub mod Claims
 pub mod Part
 pub mod Regular
-pub mod Expected

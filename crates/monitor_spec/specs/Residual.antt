@@ -40,8 +40,9 @@ resolveIn calls (choice p q) n m = resolveIn calls p (suc n) m ++ resolveIn call
 resolveIn calls (par r p q) n m = pairs n m (resolveIn calls p (suc n) m) (resolveIn calls q (suc (size p + n)) m)
 resolveIn calls (call d) n m = calls d
 
--- "Memory is four events, all 0 at a body's start": the resolved body of d, where b bounds the definitions that calls
--- with no prefix around them name (01, "References": such a call "names a lower definition number")
+-- "Memory is four events, all 0 at a body's start": the resolved body of d, through bodies that call each other at most
+-- b deep. As a call with no prefix around it "names a lower definition number" (01, "References"), the number of
+-- definitions is deep enough (`Residual/Calls.antt`).
 unfoldable pub resolveDef : Table → ℕ → ℕ → List Residual
 resolveDef t zero d = []
 resolveDef t (suc b) d = resolveIn (resolveDef t b) (bodyOf t d) (bodyNumber t d) noMemory

@@ -4,12 +4,15 @@
 --     Order, compareWords       the order "by first differing word"
 --     insert, canon             one slot put in its place; a list of slots ascending, each once
 --     slotsOf                   the slots of a list of residuals
+--     Precedes, Sorted          that order as a relation; strictly ascending
 -- The laws are in `Slots/`: `Packing`, `Comparison`, `Canonical`. Assumes nothing.
-use Prim.Native.Nat.{ℕ, _+_, _-_, _*_, _/_, _%_}
+use Prim.Native.Nat.{ℕ, _+_, _-_, _*_, _/_, _%_, _<_}
+use mathlib.Core.Path.{_≡_}
 use mathlib.Core.Bool.{true, false}
 use mathlib.Core.List.{List, [], _∷_, _++_, map}
 use lib.ListN.{length, replicate}
 use lib.Dec.{ltb}
+use Rattle.numbers.specs.Every.{All}
 use Rattle.table.specs.Memory.{Memory}
 use Rattle.monitor_spec.specs.Residual.{Residual, leaf, pair}
 pub mod Packing
@@ -59,3 +62,13 @@ canon (s ∷ ss) = insert s (canon ss)
 -- "Two residuals are equal when their words are."
 unfoldable pub slotsOf : List Residual → List (List ℕ)
 slotsOf rs = canon (map slotOf rs)
+
+-- "by first differing word"; ours: a list stands before a longer one that it begins (slots are all of 16 words)
+pub data Precedes : List ℕ → List ℕ → Type 0 where
+  differs : {x y : ℕ} {xs ys : List ℕ} → x < y → Precedes (x ∷ xs) (y ∷ ys)
+  agrees : {x y : ℕ} {xs ys : List ℕ} → x ≡ y → Precedes xs ys → Precedes (x ∷ xs) (y ∷ ys)
+  begins : {y : ℕ} {ys : List ℕ} → Precedes [] (y ∷ ys)
+
+abbrev pub Sorted : List (List ℕ) → Type 0
+Sorted [] = Unit
+Sorted (s ∷ ss) = All (Precedes s) ss × Sorted ss

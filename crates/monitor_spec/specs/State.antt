@@ -7,7 +7,7 @@
 -- The laws are in `State/Areas.antt`. Assumes nothing.
 use Prim.Native.Nat.{ℕ, zero, suc, _-_, _*_, _/_, _%_}
 use mathlib.Core.Bool.{Bool, true, false, _&&_}
-use mathlib.Core.List.{List, [], _∷_, _++_}
+use mathlib.Core.List.{List, [], _∷_, _++_, flatten}
 use lib.ListN.{length, take, drop}
 use lib.Dec.{eqb, leb}
 use Rattle.table.specs.Operations.{zeros}
@@ -67,13 +67,9 @@ unfoldable pub chunks : ℕ → List ℕ → List (List ℕ)
 chunks zero a = []
 chunks (suc n) a = take 16 a ∷ chunks n (drop 16 a)
 
-unfoldable pub concat : List (List ℕ) → List ℕ
-concat [] = []
-concat (s ∷ ss) = s ++ concat ss
-
 -- 01, "Residuals": "An area holds slots ascending by first differing word, then zeros": an area of n slots
 unfoldable pub fill : ℕ → List (List ℕ) → List ℕ
-fill n ss = concat ss ++ zeros ((n - length ss) * 16)
+fill n ss = flatten ss ++ zeros ((n - length ss) * 16)
 
 -- "the present area has their slots and then zeros, the other area zeros": with areas of n slots, after k events
 unfoldable pub laid : ℕ → ℕ → Verdict → List (List ℕ) → Monitor

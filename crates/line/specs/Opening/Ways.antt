@@ -8,7 +8,7 @@ use Prim.Native.Nat.{ℕ, _-_, _≤_}
 use native.Mathlib.Omega.{arith}
 use mathlib.Core.Path.{_≡_, refl, ap, ap₂, sym, subst, _∙_}
 use mathlib.Core.Bool.{Bool, true, false, cond, _&&_}
-use mathlib.Core.List.{List, [], _++_, append-nil}
+use mathlib.Core.List.{List, [], _++_, append-nil, flatten}
 use mathlib.Core.Logic.{inr}
 use lib.ListN.{length, take, drop, length-take, length-drop, length-replicate}
 use lib.Seq.{take-all}
@@ -23,7 +23,7 @@ use Rattle.table.specs.Operations as read
 use Rattle.table.specs.Operations.Laws.{ReadDone, read-done}
 use Rattle.table.specs.Answers as tableAnswers
 use Rattle.monitor_spec.specs.Valid.Laws.{and-split}
-use Rattle.monitor_spec.specs.State.{Outcome, concat}
+use Rattle.monitor_spec.specs.State.{Outcome}
 use Rattle.monitor_spec.specs.Start.{startOf}
 use Rattle.monitor_spec.specs.Feed.{feedOf}
 use Rattle.monitor.specs.declared.answer.Answer as code
@@ -202,7 +202,7 @@ module _ (s l a b w : List ℕ) where
 -- ---- a whole input
 
 whole-line : (s : List ℕ) → concludeOf (feedFront (frontOf s)) ≡ lineOf s
-unfolding piecesOf throughPieces concat
+unfolding piecesOf throughPieces flatten
 whole-line s = pieces-whole s [] (inr refl) ∙ ap lineOf (append-nil s)
 
 module _ (s l a b w : List ℕ) (o : Opened) (l' a' b' w' : List ℕ) (opens : Opens s l a b w o l' a' b' w') where

@@ -6,7 +6,7 @@ use Prim.Native.Nat.{ℕ, _+_, _-_, _≤_}
 use native.Mathlib.Omega.{arith}
 use mathlib.Core.Path.{_≡_, refl, ap, sym, subst, _∙_}
 use mathlib.Core.Bool.{Bool, true, false, _&&_}
-use mathlib.Core.List.{List, [], _∷_, _++_, append-assoc, append-nil}
+use mathlib.Core.List.{List, [], _∷_, _++_, append-assoc, append-nil, flatten}
 use mathlib.Core.Option.{Option, none, some}
 use mathlib.Core.Logic.{_⊎_, inl, inr}
 use lib.ListN.{length, length-append, length-replicate}
@@ -19,7 +19,7 @@ use Rattle.monitor_spec.specs.Regular.{Regular}
 use Rattle.monitor_spec.specs.Regular.Laws.{regular}
 use Rattle.monitor_spec.specs.Fold.{Step, Ended, through, took}
 use Rattle.monitor_spec.specs.Fold.Laws.{some-stopped}
-use Rattle.monitor_spec.specs.State.{State, Monitor, Answer, given, stopped, Outcome, slotCount, laid, concat}
+use Rattle.monitor_spec.specs.State.{State, Monitor, Answer, given, stopped, Outcome, slotCount, laid}
 use Rattle.monitor_spec.specs.State.{areasMeasured, workMeasured}
 use Rattle.monitor_spec.specs.State as state
 use Rattle.monitor_spec.specs.Feed.{takeEvent, endingOf, feedOf}
@@ -28,7 +28,7 @@ use Rattle.monitor_spec.specs.Joined.{extend}
 use Rattle.monitor_spec.specs.Expected.{monitorAfter}
 use Rattle.monitor_spec.specs.History.{Fresh}
 use Rattle.monitor_spec.specs.History.Laws.{extends}
-use Rattle.monitor_spec.specs.History.Begun.{Began, fresh-began, start-declined, start-unmeasured}
+use Rattle.monitor_spec.specs.History.Begun.{Began, fresh-began, start-declined, start-unmeasured, start-never}
 use Rattle.line.specs.Line.{Head, parts, wrong, headOf, Line, refused, stateLine, answerLine, fresh, monitorOf}
 use Rattle.line.specs.Line.{startedBy, startedLine, readLine, headLine, lineOf}
 use Rattle.line.specs.Pieces.{Course, going, over, fed, fedBy, pieceOf, frontBy, frontHead, frontOf, feedFront}
@@ -49,12 +49,12 @@ piece-join (going l m) (runs-on _ _ g z) es fs = piece-more l m g es fs
 piece-join (over x) s es fs = refl
 
 through-join : (c : Course) → Sound c → (ess : List (List ℕ)) (es : List ℕ)
-    → throughPieces (pieceOf c es) ess ≡ pieceOf c (es ++ concat ess)
-unfolding throughPieces concat
+    → throughPieces (pieceOf c es) ess ≡ pieceOf c (es ++ flatten ess)
+unfolding throughPieces flatten
 through-join c s [] es = ap (pieceOf c) (sym (append-nil es))
 through-join c s (fs ∷ ess) es =
     ap (λ (x : Course). throughPieces x ess) (piece-join c s es fs) ∙ through-join c s ess (es ++ fs)
-    ∙ ap (pieceOf c) (append-assoc es fs (concat ess))
+    ∙ ap (pieceOf c) (append-assoc es fs (flatten ess))
 
 -- ---- the first piece
 
@@ -150,7 +150,7 @@ pub record Opens (l : List ℕ) : Type 0 where
   pub line : (es : List ℕ) → concludeOf (pieceOf (fed l (fresh l)) es) ≡ startedLine l es
 
 opens : (l : List ℕ) → Opens l
-unfolding fed fedBy pieceOf concludeOf startedLine startedBy monitorOf
+unfolding fed fedBy pieceOf concludeOf startedLine startedBy monitorOf fresh
 opens l = by (fresh l .answer) refl
   where
     by : (a : Answer) → fresh l .answer ≡ a → Opens l
@@ -169,12 +169,7 @@ opens l = by (fresh l .answer) refl
           sound = subst Sound (sym c) (stands (refused n p));
           line = λ es. ap (λ (x : Course). concludeOf (pieceOf x es)) c ∙ sym (ap (startedBy l es (fresh l)) e);
         }
-    by (stopped n p s) e =
-        let c : fed l (fresh l) ≡ over (refused n (s .taken)) = ap (fedBy l (fresh l)) e in
-        record {
-          sound = subst Sound (sym c) (stands (refused n (s .taken)));
-          line = λ es. ap (λ (x : Course). concludeOf (pieceOf x es)) c ∙ sym (ap (startedBy l es (fresh l)) e);
-        }
+    by (stopped n p s) e = absurd (start-never l (zeros 4096) (zeros 4096) (zeros 8192) n p s e)
 
 -- ---- all of it
 
@@ -182,7 +177,7 @@ opens l = by (fresh l .answer) refl
 pub record Fronts (h : Head) : Type 0 where
   pub alone : concludeOf (feedFront (frontHead h)) ≡ headLine h
   pub more : (ess : List (List ℕ))
-      → concludeOf (throughPieces (feedFront (frontHead h)) ess) ≡ headLine (widenHead h (concat ess))
+      → concludeOf (throughPieces (feedFront (frontHead h)) ess) ≡ headLine (widenHead h (flatten ess))
 
 over-stays : (x : Line) (ess : List (List ℕ)) → throughPieces (over x) ess ≡ over x
 unfolding pieceOf
@@ -204,16 +199,16 @@ fronts (parts bs es) = by (judgeBytes bs) refl
         record {
           alone = rw (e, frontHead, headLine) (o .line es);
           more = λ ess. rw (e, frontHead, headLine)
-              (ap concludeOf (through-join (fed ns (fresh ns)) (o .sound) ess es) ∙ o .line (es ++ concat ess));
+              (ap concludeOf (through-join (fed ns (fresh ns)) (o .sound) ess es) ∙ o .line (es ++ flatten ess));
         }
 
 pub pieces-whole : (s : List ℕ) (ess : List (List ℕ)) → (16387 ≤ length s) ⊎ (ess ≡ [])
-    → piecesOf s ess ≡ lineOf (s ++ concat ess)
+    → piecesOf s ess ≡ lineOf (s ++ flatten ess)
 unfolding piecesOf frontOf lineOf
-pieces-whole s ess (inl h) = fronts (headOf s) .more ess ∙ sym (ap headLine (head-more s (concat ess) h))
+pieces-whole s ess (inl h) = fronts (headOf s) .more ess ∙ sym (ap headLine (head-more s (flatten ess) h))
 pieces-whole s ess (inr h) = rw h (none s)
   where
     none : (s : List ℕ)
-        → concludeOf (throughPieces (feedFront (frontHead (headOf s))) []) ≡ headLine (headOf (s ++ concat []))
-    none s = unfold throughPieces in unfold concat in fronts (headOf s) .alone
+        → concludeOf (throughPieces (feedFront (frontHead (headOf s))) []) ≡ headLine (headOf (s ++ flatten []))
+    none s = unfold throughPieces in unfold flatten in fronts (headOf s) .alone
         ∙ ap (λ (z : List ℕ). headLine (headOf z)) (sym (append-nil s))

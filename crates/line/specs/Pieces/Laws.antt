@@ -17,7 +17,7 @@ use Rattle.table.specs.Operations.{zeros}
 use Rattle.monitor_spec.specs.Regular.{Regular}
 use Rattle.monitor_spec.specs.Fold.{Step, went, stops, Ended, through, took}
 use Rattle.monitor_spec.specs.Fold.Laws.{through-went, through-stops, took-then, none-took, through-at}
-use Rattle.monitor_spec.specs.State.{State, Monitor, Answer, given, stopped, Outcome, workMeasured, concat}
+use Rattle.monitor_spec.specs.State.{State, Monitor, Answer, given, stopped, Outcome, workMeasured}
 use Rattle.monitor_spec.specs.Feed.{takeEvent, endingOf, feedOf}
 use Rattle.monitor_spec.specs.Joined.{extend}
 use Rattle.monitor_spec.specs.Expected.{monitorAfter}

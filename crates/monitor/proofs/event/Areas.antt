@@ -6,7 +6,7 @@ use Prim.Native.Nat.{ℕ, _+_, _-_, _*_, _≤_, _<_}
 use native.Mathlib.Omega.{arith}
 use native.Mathlib.Decide.{decLt}
 use mathlib.Core.Path.{_≡_, refl, ap, ap₂, sym, _∙_}
-use mathlib.Core.List.{List, [], _++_}
+use mathlib.Core.List.{List, [], _++_, flatten}
 use lib.ListN.{length, drop, replicate-append-replicate}
 use lib.Seq.{drop-at}
 use Rattle.numbers.specs.Every.{All}
@@ -22,14 +22,14 @@ use Rattle.monitor_spec.specs.Residual.{Residual, afterAll}
 use Rattle.monitor_spec.specs.Slots.{slotsOf}
 use Rattle.monitor_spec.specs.Valid.{held}
 use Rattle.monitor_spec.specs.Valid.Residuals.{slot-sixteen, slots-all, slots-after}
-use Rattle.monitor_spec.specs.State.{slotCount, chunks, concat, fill}
-use Rattle.monitor_spec.specs.State.Areas.{Sixteen, length-concat, length-fill, slotCount-fill, chunks-fill}
+use Rattle.monitor_spec.specs.State.{slotCount, chunks, fill}
+use Rattle.monitor_spec.specs.State.Areas.{Sixteen, length-flatten, length-fill, slotCount-fill, chunks-fill}
 use Rattle.monitor.specs.Stepping.{step-source, step-holds, step-exceeds}
 use Rattle.monitor.specs.Holds.{heldIn}
 use Rattle.monitor.specs.Feeding.{Holding, nextOf, Stepped, Advanced}
 
 fill-none : (n : ℕ) → fill n [] ≡ zeros (n * 16)
-unfolding fill concat
+unfolding fill flatten
 fill-none n = let i : (n - 0) * 16 ≡ n * 16 = omega arith in ap zeros i
 
 -- the words in use are zeroed, and the others were zero
@@ -40,7 +40,7 @@ cleared-fill n ss h room =
     let k : ℕ = length ss in
     let rest : ℕ = (n - k) * 16 in
     let i : k * 16 + rest ≡ n * 16 = omega arith in
-    ap (zeros (k * 16) ++_) (drop-at (concat ss) (zeros rest) (k * 16) (length-concat ss h))
+    ap (zeros (k * 16) ++_) (drop-at (flatten ss) (zeros rest) (k * 16) (length-flatten ss h))
     ∙ replicate-append-replicate (k * 16) rest 0 ∙ ap zeros i ∙ sym (fill-none n)
 
 same-count : (i j : ℕ) → Count i ≡ Count j → i ≡ j

@@ -9,7 +9,7 @@ use native.Mathlib.Omega.{arith}
 use native.Mathlib.Decide.{decLt}
 use mathlib.Core.Path.{_≡_, refl, ap, sym, _∙_}
 use mathlib.Core.Bool.{true, false, _&&_}
-use mathlib.Core.List.{List, [], _∷_}
+use mathlib.Core.List.{List, [], _∷_, flatten}
 use lib.ListN.{length}
 use lib.Dec.{eqb}
 use borrow.Author.Tests.{lt-ltb, le-ltb, eqb-true}
@@ -28,7 +28,7 @@ use Rattle.step.specs.Started.{ResolvesAll, initial}
 use Rattle.monitor_spec.specs.Residual.{residualsOf}
 use Rattle.monitor_spec.specs.Slots.{slotsOf}
 use Rattle.monitor_spec.specs.State.{State, running, given, refused, areasMeasured, workMeasured}
-use Rattle.monitor_spec.specs.State.{slotCount, concat, fill}
+use Rattle.monitor_spec.specs.State.{slotCount, fill}
 use Rattle.monitor_spec.specs.Valid.Laws.{and-split}
 use Rattle.monitor_spec.specs.Feed.{nextVerdict}
 use Rattle.monitor_spec.specs.Start.{startAccepted, startJudged, startOf}
@@ -77,7 +77,7 @@ areas-length a b e =
     (omega arith, omega arith)
 
 cleared : (n k : ℕ) → k ≡ n * 16 → zeros k ≡ fill n []
-unfolding fill concat
+unfolding fill flatten
 cleared n k e = let z : k ≡ (n - 0) * 16 = omega arith in rw z
 
 pub areas-cleared : (a b : List ℕ) → areasMeasured a b ≡ true

@@ -7,7 +7,7 @@
 use Prim.Native.Nat.{ℕ, zero, suc, _+_, _-_, _*_, _<_}
 use native.Mathlib.Omega.{arith}
 use mathlib.Core.Path.{_≡_, refl, ap, ap₂, sym, _∙_}
-use mathlib.Core.List.{List, [], _∷_, _++_, map, append-assoc}
+use mathlib.Core.List.{List, [], _∷_, _++_, map, append-assoc, flatten}
 use lib.ListN.{length, getD, take, drop, replicate, length-map}
 use lib.Seq.{getD-drop, drop-drop, drop-at, take-append-seam}
 use Rattle.numbers.specs.Every.{All}
@@ -26,7 +26,7 @@ use Rattle.monitor_spec.specs.Valid.{held}
 use Rattle.monitor_spec.specs.Valid.Laws.{SlotOf}
 use Rattle.monitor_spec.specs.Valid.Residuals.{read-back, slot-sixteen, slots-all}
 use Rattle.monitor_spec.specs.Consistent.Reading.{held-words, held-proper}
-use Rattle.monitor_spec.specs.State.{concat, fill}
+use Rattle.monitor_spec.specs.State.{fill}
 use Rattle.monitor_spec.specs.Proper.{Proper}
 use Rattle.monitor.specs.Stepping.Low.{low}
 use Rattle.monitor.specs.Stepping.Words.{words-low}
@@ -68,34 +68,34 @@ module _ (t : Table) (rules : Rules t) where
 
   module _ (area : List ℕ) (tail : List ℕ) where
     after-slot : (r : Residual) (rs : List Residual) → Proper t r → (p q : ℕ) → q ≡ p + 16
-        → drop p area ≡ concat (map slotOf (r ∷ rs)) ++ tail → drop q area ≡ concat (map slotOf rs) ++ tail
-    unfolding concat
+        → drop p area ≡ flatten (map slotOf (r ∷ rs)) ++ tail → drop q area ≡ flatten (map slotOf rs) ++ tail
+    unfolding flatten
     after-slot r rs h p q z e =
         ap (λ (j : ℕ). drop j area) z ∙ sym (drop-drop 16 p area)
-        ∙ ap (drop 16) (e ∙ append-assoc (slotOf r) (concat (map slotOf rs)) tail)
-        ∙ drop-at (slotOf r) (concat (map slotOf rs) ++ tail) 16 (slot-sixteen t (regular t rules) r h)
+        ∙ ap (drop 16) (e ∙ append-assoc (slotOf r) (flatten (map slotOf rs)) tail)
+        ∙ drop-at (slotOf r) (flatten (map slotOf rs) ++ tail) 16 (slot-sixteen t (regular t rules) r h)
 
-    slots-at : (rs : List Residual) → All (Proper t) rs → (p : ℕ) → drop p area ≡ concat (map slotOf rs) ++ tail
+    slots-at : (rs : List Residual) → All (Proper t) rs → (p : ℕ) → drop p area ≡ flatten (map slotOf rs) ++ tail
         → (i j : ℕ) → j ≡ p + i * 16 → i < length rs → SlotAt area j (getD rs i (leaf 0 noMemory))
-    unfolding concat
+    unfolding flatten
     slots-at [] h p e i j q l = absurd (omega arith)
     slots-at (r ∷ rs) h p e zero j q l =
         let z : j ≡ p = omega arith in
         record {
-          tail = concat (map slotOf rs) ++ tail;
-          stands = ap (λ (k : ℕ). drop k area) z ∙ e ∙ append-assoc (slotOf r) (concat (map slotOf rs)) tail;
+          tail = flatten (map slotOf rs) ++ tail;
+          stands = ap (λ (k : ℕ). drop k area) z ∙ e ∙ append-assoc (slotOf r) (flatten (map slotOf rs)) tail;
         }
     slots-at (r ∷ rs) h p e (suc i) j q l =
         slots-at rs (h .1) (p + 16) (after-slot r rs (h .0) p (p + 16) refl e) i j (omega arith) (omega arith)
 
     slots-hold : (rs : List Residual) → All (Proper t) rs → (i : ℕ)
-        → drop (i * 16) area ≡ concat (map slotOf rs) ++ tail → Holds t area i (map low rs)
-    unfolding concat
+        → drop (i * 16) area ≡ flatten (map slotOf rs) ++ tail → Holds t area i (map low rs)
+    unfolding flatten
     slots-hold [] h i e = tt
     slots-hold (r ∷ rs) h i e =
         let s : SlotAt area (i * 16) r = record {
-          tail = concat (map slotOf rs) ++ tail;
-          stands = e ∙ append-assoc (slotOf r) (concat (map slotOf rs)) tail;
+          tail = flatten (map slotOf rs) ++ tail;
+          stands = e ∙ append-assoc (slotOf r) (flatten (map slotOf rs)) tail;
         } in (
           slot-tree area i r s,
           valid-low t rules r (h .0),
@@ -120,9 +120,9 @@ module _ (t : Table) (rules : Rules t) where
     held-length = sym (length-map (held t (slotsOf rs)) slotOf) ∙ ap length slots-held
 
     area-is : (n : ℕ) → fill n (slotsOf rs)
-        ≡ concat (map slotOf (held t (slotsOf rs))) ++ zeros ((n - length (slotsOf rs)) * 16)
+        ≡ flatten (map slotOf (held t (slotsOf rs))) ++ zeros ((n - length (slotsOf rs)) * 16)
     unfolding fill
-    area-is n = ap (λ (l : List (List ℕ)). concat l ++ zeros ((n - length (slotsOf rs)) * 16)) (sym slots-held)
+    area-is n = ap (λ (l : List (List ℕ)). flatten l ++ zeros ((n - length (slotsOf rs)) * 16)) (sym slots-held)
 
     pub slot-at : (n i : ℕ) → i < length (slotsOf rs)
         → SlotAt (fill n (slotsOf rs)) (i * 16) (getD (held t (slotsOf rs)) i (leaf 0 noMemory))

@@ -7,7 +7,7 @@ use native.Mathlib.Omega.{arith}
 use mathlib.Core.Path.{_≡_, refl, ap, ap₂, sym, _∙_}
 use mathlib.Core.Bool.{Bool, true, false}
 use mathlib.Core.Logic.{⊎-elim}
-use mathlib.Core.List.{List, [], _∷_, _++_, map, append-assoc, append-nil}
+use mathlib.Core.List.{List, [], _∷_, _++_, map, append-assoc, append-nil, flatten}
 use lib.ListN.{length, replicate}
 use lib.Dec.{ltb}
 use Rattle.numbers.specs.Every.{All, all-imp}
@@ -24,7 +24,7 @@ use Rattle.monitor_spec.specs.Regular.Laws.{regular}
 use Rattle.monitor_spec.specs.Residual.{Residual}
 use Rattle.monitor_spec.specs.Slots.{Order, below, same, above, slotOf, compareWords, insert, canon, slotsOf}
 use Rattle.monitor_spec.specs.Slots.Canonical.{canon-snoc, in-insert, all-of, of-all}
-use Rattle.monitor_spec.specs.State.{concat, fill}
+use Rattle.monitor_spec.specs.State.{fill}
 use Rattle.monitor_spec.specs.State.Areas.{Sixteen}
 use Rattle.monitor_spec.specs.Proper.{Proper}
 use Rattle.monitor_spec.specs.Proper.Nodes.{nodes-most}
@@ -117,8 +117,8 @@ module _ (t : Table) (rules : Rules t) where
 
 -- ---- an area
 
-joined-low : (xs : List (List ℕ)) → joined xs ≡ concat xs
-unfolding joined concat
+joined-low : (xs : List (List ℕ)) → joined xs ≡ flatten xs
+unfolding joined flatten
 joined-low [] = refl
 joined-low (x ∷ xs) = ap (x ++_) (joined-low xs)
 

@@ -6,7 +6,7 @@
 use Prim.Native.Nat.{ℕ, _-_, _*_, _≤_, _<_}
 use native.Mathlib.Omega.{arith}
 use mathlib.Core.Path.{_≡_, ap, _∙_}
-use mathlib.Core.List.{List, [], map}
+use mathlib.Core.List.{List, [], map, flatten}
 use lib.ListN.{length, replicate, length-map}
 use Rattle.numbers.specs.Every.{All}
 use Rattle.table.specs.Table.{Table}
@@ -23,7 +23,7 @@ use Rattle.step.specs.Successors.Laws.{stepped, exceeded, slots-of-slots}
 use Rattle.monitor_spec.specs.Regular.Laws.{regular}
 use Rattle.monitor_spec.specs.Residual.{Residual, afterAll, run, fromDefinition, residualsOf}
 use Rattle.monitor_spec.specs.Slots.{slotsOf}
-use Rattle.monitor_spec.specs.State.{concat, fill}
+use Rattle.monitor_spec.specs.State.{fill}
 use Rattle.monitor_spec.specs.Proper.{Proper}
 use Rattle.monitor_spec.specs.Proper.Laws.{afterAll-proper, definition-proper}
 use Rattle.monitor_spec.specs.Valid.{held}
@@ -35,7 +35,7 @@ use Rattle.monitor.specs.Stepping.Canon.{canon-low, area-low}
 use Rattle.monitor.specs.Stepping.Areas.{held-all, held-length}
 
 zeroed : (n : ℕ) → fill n [] ≡ replicate (n * 16) 0
-unfolding fill concat
+unfolding fill flatten
 zeroed n = let z : (n - 0) * 16 ≡ n * 16 = omega arith in rw z
 
 module _ (t : Table) (rules : Rules t) (rs : List Residual) (proper : All (Proper t) rs) where

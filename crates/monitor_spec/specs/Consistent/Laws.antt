@@ -26,13 +26,13 @@ use Rattle.monitor_spec.specs.Consistent.Reading.{consistent-laid}
 
 module _ (t : Table) (regular : Regular t) where
   -- ---- an event keeps it so
-  next-agrees : (v : Verdict) (k : ℕ) (rs next : List Residual) → (rs ≡ [] → next ≡ []) → Agrees k rs v
+  pub next-agrees : (v : Verdict) (k : ℕ) (rs next : List Residual) → (rs ≡ [] → next ≡ []) → Agrees k rs v
       → Agrees (suc k) next (nextVerdict v (suc k) (slotsOf next))
   next-agrees running k rs [] f h = rw (slots-none, next-none) (refl, omega arith)
   next-agrees running k rs (q ∷ qs) f h = rw (next-some (suc k) (slotsOf (q ∷ qs)) (slots-some q qs)) tt
   next-agrees (failedAt p) k rs next f (e, l) = rw (next-failed p (suc k) (slotsOf next)) (f e, omega arith)
 
-  none-after : (e : ℕ) (rs : List Residual) → rs ≡ [] → afterAll t e rs ≡ []
+  pub none-after : (e : ℕ) (rs : List Residual) → rs ≡ [] → afterAll t e rs ≡ []
   unfolding afterAll flatMap
   none-after e rs h = rw h
 

@@ -3,7 +3,7 @@ use Prim.Native.Nat.{ℕ, zero, suc, _+_, _-_, _*_, _%_, _≤_}
 use native.Mathlib.Omega.{arith}
 use mathlib.Core.Path.{_≡_, refl, ap, ap₂, sym, subst, _∙_}
 use mathlib.Core.Bool.{Bool, true, false, not}
-use mathlib.Core.List.{List, [], _∷_, _++_, map, append-assoc}
+use mathlib.Core.List.{List, [], _∷_, _++_, map, append-assoc, flatten}
 use lib.ListN.{length, take, drop, length-drop, take-append-drop}
 use lib.Seq.{drop-drop}
 use lib.Dec.{eqb, ltb}
@@ -20,7 +20,7 @@ use Rattle.monitor_spec.specs.Proper.{Proper}
 use Rattle.monitor_spec.specs.Valid.Residuals.{held-some}
 use Rattle.monitor_spec.specs.Valid.Laws.{and-split, SlotOf, valid-proper}
 use Rattle.monitor_spec.specs.State.{Verdict, running, failedAt, Monitor, areasMeasured, slotCount, even, choose}
-use Rattle.monitor_spec.specs.State.{chunks, concat, fill, laid}
+use Rattle.monitor_spec.specs.State.{chunks, fill, laid}
 use Rattle.table.specs.Operations.{zeros}
 use Rattle.monitor_spec.specs.Consistent.{every, allZero, ascendsFrom, ascends, verdictFits, recordFits, areaFits}
 use Rattle.monitor_spec.specs.Consistent.{consistent}
@@ -91,15 +91,15 @@ unfolding chunks
 length-chunks zero a = refl
 length-chunks (suc n) a = ap suc (length-chunks n (drop 16 a))
 
-concat-chunks : (n : ℕ) (a : List ℕ) → concat (chunks n a) ++ drop (n * 16) a ≡ a
-unfolding chunks concat
-concat-chunks zero a = refl
-concat-chunks (suc n) a =
+flatten-chunks : (n : ℕ) (a : List ℕ) → flatten (chunks n a) ++ drop (n * 16) a ≡ a
+unfolding chunks flatten
+flatten-chunks zero a = refl
+flatten-chunks (suc n) a =
     let e : suc n * 16 ≡ 16 + n * 16 = omega arith in
-    append-assoc (take 16 a) (concat (chunks n (drop 16 a))) (drop (suc n * 16) a)
-    ∙ ap (λ (z : List ℕ). take 16 a ++ (concat (chunks n (drop 16 a)) ++ z))
+    append-assoc (take 16 a) (flatten (chunks n (drop 16 a))) (drop (suc n * 16) a)
+    ∙ ap (λ (z : List ℕ). take 16 a ++ (flatten (chunks n (drop 16 a)) ++ z))
     (ap (λ (i : ℕ). drop i a) e ∙ sym (drop-drop (n * 16) 16 a))
-    ∙ ap (take 16 a ++_) (concat-chunks n (drop 16 a))
+    ∙ ap (take 16 a ++_) (flatten-chunks n (drop 16 a))
     ∙ take-append-drop 16 a
 
 area-fill : (n c : ℕ) (a : List ℕ) → length a ≡ n * 16 → c ≤ n → allZero (drop (c * 16) a) ≡ true
@@ -108,10 +108,10 @@ unfolding fill
 area-fill n c a l h z =
     let e = length-chunks c a in
     let d : length (drop (c * 16) a) ≡ (n - length (chunks c a)) * 16 = omega (arith, length-drop (c * 16) a) in
-    sym (concat-chunks c a) ∙ ap (concat (chunks c a) ++_) (zero-split (drop (c * 16) a) z ∙ ap zeros d)
+    sym (flatten-chunks c a) ∙ ap (flatten (chunks c a) ++_) (zero-split (drop (c * 16) a) z ∙ ap zeros d)
 
 area-empty : (n : ℕ) (a : List ℕ) → length a ≡ n * 16 → allZero a ≡ true → a ≡ fill n []
-unfolding fill concat
+unfolding fill flatten
 area-empty n a l z = let d : length a ≡ (n - 0) * 16 = omega arith in zero-split a z ∙ ap zeros d
 
 -- ---- a consistent monitor

@@ -1,5 +1,6 @@
 -- A fresh monitor is the one that the empty list calls for: what Start gives, case by case. Assumes nothing.
 --     start-measured, start-unmeasured, start-declined, start-room, start-exceeded   Start's outcome, by its tests
+--     start-never                                                    Start gives no number with a record
 --     fresh-began                                                    the record and areas that a Start gave
 use Prim.Native.Nat.{ℕ, _%_, _≤_}
 use native.Mathlib.Omega.{arith}
@@ -10,13 +11,13 @@ use lib.ListN.{length}
 use lib.Dec.{eqb, ltb, leb}
 use borrow.Author.Tests.{leb-true, ltb-false}
 use Rattle.table.specs.Table.{Table}
-use Rattle.table.specs.Judge.{accepted, declined, judgeList}
+use Rattle.table.specs.Judge.{Judgement, accepted, declined, judgeList}
 use Rattle.table.specs.Operations.{zeros}
 use Rattle.meaning.specs.Figure1.{count, last}
 use Rattle.monitor_spec.specs.Residual.{resolveDef, run, fromDefinition, residualsOf}
 use Rattle.monitor_spec.specs.Slots.{slotsOf}
 use Rattle.monitor_spec.specs.Valid.Laws.{and-split}
-use Rattle.monitor_spec.specs.State.{running, State, Monitor, Answer, given, refused, Outcome}
+use Rattle.monitor_spec.specs.State.{running, State, Monitor, Answer, given, refused, stopped, Outcome}
 use Rattle.monitor_spec.specs.State.{areasMeasured, workMeasured, slotCount, even, choose, fill, laid}
 use Rattle.monitor_spec.specs.Feed.{nextVerdict}
 use Rattle.monitor_spec.specs.Start.{startAccepted, startJudged, startOf}
@@ -66,6 +67,28 @@ start-exceeded t a b work e = rw (e, startAccepted)
 
 pub not-given : {X : Type 0} {x : Answer} {s : State} (n p : ℕ) → x ≡ refused n p → x ≡ given s → X
 not-given n p e f = absurd (let z : _≡_ {A = ℕ} 0 1 = cc in omega arith)
+
+pub start-never : (l a b work : List ℕ) (n p : ℕ) (s : State) → startOf l a b work .answer ≡ stopped n p s → ⊥
+unfolding begun
+start-never l a b work n p s h = by (areasMeasured a b && workMeasured work) refl (judgeList l) refl
+  where
+    no : {x : Answer} (i k : ℕ) → x ≡ refused i k → x ≡ stopped n p s → ⊥
+    no i k e f = let z : _≡_ {A = ℕ} 0 1 = cc in omega arith
+
+    not-both : {x : Answer} (r : State) → x ≡ given r → x ≡ stopped n p s → ⊥
+    not-both r e f = let z : _≡_ {A = ℕ} 0 1 = cc in omega arith
+
+    room : (ns : List ℕ) (t : Table) → judgeList l ≡ accepted ns t → (areasMeasured a b && workMeasured work) ≡ true
+        → (y : Bool) → ltb (slotCount a) (length (slotsOf (residualsOf t []))) ≡ y → ⊥
+    room ns t d e true g = no 13 0 (ap (λ (o : Outcome). o .answer) (start-measured l ns t d a b work e)
+        ∙ start-exceeded t a b work g) h
+    room ns t d e false g = not-both _ (ap (λ (o : Outcome). o .answer) (start-measured l ns t d a b work e
+        ∙ start-room t a b work g)) h
+
+    by : (x : Bool) → (areasMeasured a b && workMeasured work) ≡ x → (j : Judgement) → judgeList l ≡ j → ⊥
+    by false e j d = no 1 0 (start-unmeasured l a b work e) h
+    by true e (declined i k) d = no i k (start-declined l a b work i k d e) h
+    by true e (accepted ns t) d = room ns t d e (ltb (slotCount a) (length (slotsOf (residualsOf t [])))) refl
 
 given-same : (x y : State) → given x ≡ given y → x ≡ y
 given-same x y e = cc

@@ -1,8 +1,9 @@
 -- Offer's bit e is set exactly when the residuals after e are not empty (01, "Operations"). Assumes nothing.
 use Prim.Native.Nat.{ℕ, zero, suc, _+_, _-_, _*_, _/_, _%_, _^_, _≤_, _<_}
 use native.Mathlib.Omega.{arith}
-use native.Mathlib.Decide.{decLt}
+use native.Mathlib.Decide.{decLt, ℕ-discrete}
 use native.Mathlib.Nat.{pow-suc, mul-assoc, one-mul, div-eq-of-lt, add-mul-div-right, add-mul-mod-self-right}
+use native.Mathlib.Nat.{div-div-eq-div-mul, pow-succ', div-one}
 use mathlib.Core.Path.{_≡_, refl, ap, ap₂, sym, subst, _∙_}
 use mathlib.Core.List.{List, [], _∷_}
 use mathlib.Core.Logic.{_↔_}
@@ -101,3 +102,33 @@ module _ (t : Table) (rs : List Residual) where
           let b = bits-small k in
           let z : bit (suc k) ≡ 1 = ap₂ (λ (x y : ℕ). x / 2 ^ y % 2) a i ∙ top-bit (bitsBelow t rs k) k b in
           (λ x. (omega arith, subst Some (sym (ap (λ (y : ℕ). afterAll t y rs) i ∙ p)) tt), λ x. z)
+
+-- ---- a number is its bits
+
+half-bit : (x e : ℕ) → x / 2 / 2 ^ e % 2 ≡ x / 2 ^ suc e % 2
+half-bit x e = ap (λ (j : ℕ). j % 2) (div-div-eq-div-mul x 2 (2 ^ e) ∙ ap (x /_) (sym (pow-succ' 2 e)))
+
+same-odd : (x y : ℕ) → (x % 2 ≡ 1) ↔ (y % 2 ≡ 1) → x % 2 ≡ y % 2
+same-odd x y f = by (ℕ-discrete (x % 2) 1)
+  where
+    by : Dec (x % 2 ≡ 1) → x % 2 ≡ y % 2
+    by (yes h) = h ∙ sym (f .0 h)
+    by (no h) = by-other (ℕ-discrete (y % 2) 1)
+      where
+        by-other : Dec (y % 2 ≡ 1) → x % 2 ≡ y % 2
+        by-other (yes k) = absurd (h (f .1 k))
+        by-other (no k) = omega arith
+
+bits-tell-to : (k x y : ℕ) → x ≤ k → y ≤ k → ((e : ℕ) → (x / 2 ^ e % 2 ≡ 1) ↔ (y / 2 ^ e % 2 ≡ 1)) → x ≡ y
+bits-tell-to zero x y i j f = omega arith
+bits-tell-to (suc k) x y i j f =
+    let g : (e : ℕ) → (x / 2 / 2 ^ e % 2 ≡ 1) ↔ (y / 2 / 2 ^ e % 2 ≡ 1) =
+    λ e. rw (half-bit x e, half-bit y e) (f (suc e)) in
+    let h : x / 2 ≡ y / 2 = bits-tell-to k (x / 2) (y / 2) (omega arith) (omega arith) g in
+    let a : x / 2 ^ 0 ≡ x = div-one x in
+    let b : y / 2 ^ 0 ≡ y = div-one y in
+    let o : x % 2 ≡ y % 2 = same-odd x y (rw (a, b) at (f 0)) in
+    omega arith
+
+pub bits-tell : (x y : ℕ) → ((e : ℕ) → (x / 2 ^ e % 2 ≡ 1) ↔ (y / 2 ^ e % 2 ≡ 1)) → x ≡ y
+bits-tell x y f = bits-tell-to (x + y) x y (omega arith) (omega arith) f

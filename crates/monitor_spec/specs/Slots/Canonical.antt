@@ -1,14 +1,18 @@
--- `canon` has the members of its list, is strictly ascending, and depends on the members only. Assumes nothing.
+-- `canon` has the members of its list, is strictly ascending, and depends on the members only; so the slots of
+-- residuals. Assumes nothing.
 use Prim.Native.Nat.{ℕ, suc, _≤_}
 use native.Mathlib.Omega.{arith}
 use mathlib.Core.Path.{_≡_, refl, ap₂, sym, _∙_}
-use mathlib.Core.List.{List, [], _∷_, _++_}
+use mathlib.Core.List.{List, [], _∷_, _++_, map}
 use mathlib.Core.Logic.{_↔_, _⊎_, inl, inr, ⊎-elim}
 use lib.ListN.{length}
 use Rattle.numbers.specs.Every.{All, all-imp}
 use Rattle.meaning.specs.Some.{Any, any-append-left, any-append-right, any-append-cases}
-use Rattle.monitor_spec.specs.Slots.{Order, below, same, above, compareWords, insert, canon}
+use Rattle.monitor_spec.specs.Residual.{Residual}
+use Rattle.monitor_spec.specs.Slots.{Order, below, same, above, slotOf, compareWords, insert, canon, slotsOf}
+use Rattle.monitor_spec.specs.Slots.{Precedes, Sorted}
 use Rattle.monitor_spec.specs.Slots.Comparison.{Less, same-eq, above-less, less-trans, less-not-eq, less-not-back}
+use Rattle.monitor_spec.specs.Slots.Comparison.{less-precedes}
 
 abbrev pub In : List ℕ → List (List ℕ) → Type 0
 In a l = Any (λ x. a ≡ x) l
@@ -159,3 +163,28 @@ pub canon-grows : (k l : List (List ℕ)) → length (canon l) ≤ length (canon
 unfolding canon
 canon-grows [] l = omega arith
 canon-grows (s ∷ k) l = let a = canon-grows k l in let b = insert-length s (canon (k ++ l)) .0 in omega arith
+
+-- ---- the slots of residuals
+
+sorted-of : (l : List (List ℕ)) → Ascending l → Sorted l
+sorted-of [] h = tt
+sorted-of (x ∷ l) h = (all-imp (Less x) (Precedes x) (less-precedes x) l (h .0), sorted-of l (h .1))
+
+pub slots-sorted : (rs : List Residual) → Sorted (slotsOf rs)
+unfolding slotsOf
+slots-sorted rs = sorted-of (canon (map slotOf rs)) (canon-ascending (map slotOf rs))
+
+in-map : (s : List ℕ) (rs : List Residual) → In s (map slotOf rs) ↔ Any (λ r. s ≡ slotOf r) rs
+in-map s [] = (λ h. h, λ h. h)
+in-map s (r ∷ rs) =
+    let i = in-map s rs in (
+      λ h. ⊎-elim (λ k. inl k) (λ k. inr (i .0 k)) h,
+      λ h. ⊎-elim (λ k. inl k) (λ k. inr (i .1 k)) h,
+    )
+
+pub in-slots : (s : List ℕ) (rs : List Residual) → In s (slotsOf rs) ↔ Any (λ r. s ≡ slotOf r) rs
+unfolding slotsOf
+in-slots s rs =
+    let i = in-canon s (map slotOf rs) in
+    let j = in-map s rs in
+    (λ h. j .0 (i .0 h), λ h. i .1 (j .1 h))

@@ -5,7 +5,7 @@ use native.Mathlib.Decide.{decLt}
 use mathlib.Core.Path.{_≡_, refl, ap₂, sym, _∙_}
 use mathlib.Core.List.{List, [], _∷_}
 use borrow.Author.Tests.{le-ltb, lt-ltb}
-use Rattle.monitor_spec.specs.Slots.{Order, below, same, above, compareWords}
+use Rattle.monitor_spec.specs.Slots.{Order, below, same, above, compareWords, Precedes, differs, agrees, begins}
 
 abbrev pub Less : List ℕ → List ℕ → Type 0
 Less a b = compareWords a b ≡ below
@@ -88,3 +88,16 @@ less-not-eq a b h e = apart-same h (rw e (cmp-refl b))
 
 pub less-not-back : (a b : List ℕ) → Less a b → Less b a → ⊥
 less-not-back a b h k = less-not-eq a a (less-trans a b a h k) refl
+
+-- what is below stands before
+pub less-precedes : (a b : List ℕ) → Less a b → Precedes a b
+unfolding compareWords
+less-precedes [] [] e = apart-same e refl
+less-precedes [] (y ∷ b) e = begins
+less-precedes (x ∷ a) [] e = apart e refl
+less-precedes (x ∷ a) (y ∷ b) e = by (decLt x y) (decLt y x) (less-precedes a b)
+  where
+    by : Dec (x < y) → Dec (y < x) → (Less a b → Precedes a b) → Precedes (x ∷ a) (y ∷ b)
+    by (yes h) k ih = differs h
+    by (no h) (yes k) ih = apart e (cmp-gt x y a b k)
+    by (no h) (no k) ih = let n : x ≡ y = omega arith in agrees n (ih (sym (cmp-eq x y a b n) ∙ e))

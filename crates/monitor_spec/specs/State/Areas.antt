@@ -3,13 +3,13 @@ use Prim.Native.Nat.{ℕ, zero, suc, _-_, _*_, _%_, _≤_}
 use native.Mathlib.Omega.{arith}
 use mathlib.Core.Path.{_≡_, refl, ap, ap₂, _∙_}
 use mathlib.Core.Bool.{Bool, true, false, not, _&&_}
-use mathlib.Core.List.{List, [], _∷_, _++_, append-assoc}
+use mathlib.Core.List.{List, [], _∷_, _++_, append-assoc, flatten}
 use lib.ListN.{length, take, drop, replicate, length-append, length-replicate}
 use lib.Seq.{take-at, drop-at}
 use lib.Dec.{eqb}
 use borrow.Author.Tests.{eq-eqb, ne-eqb}
 use Rattle.numbers.specs.Every.{All}
-use Rattle.monitor_spec.specs.State.{slotCount, even, choose, chunks, concat, fill}
+use Rattle.monitor_spec.specs.State.{slotCount, even, choose, chunks, fill}
 use Rattle.table.specs.Operations.{zeros}
 use Rattle.monitor_spec.specs.Consistent.{every, allZero}
 
@@ -55,20 +55,20 @@ even-zero = refl
 
 -- ---- lengths
 
-pub length-concat : (ss : List (List ℕ)) → All Sixteen ss → length (concat ss) ≡ length ss * 16
-unfolding concat
-length-concat [] h = refl
-length-concat (s ∷ ss) h =
-    let a = length-concat ss (h .1) in
+pub length-flatten : (ss : List (List ℕ)) → All Sixteen ss → length (flatten ss) ≡ length ss * 16
+unfolding flatten
+length-flatten [] h = refl
+length-flatten (s ∷ ss) h =
+    let a = length-flatten ss (h .1) in
     let b = h .0 in
-    omega (arith, length-append s (concat ss))
+    omega (arith, length-append s (flatten ss))
 
 pub length-fill : (n : ℕ) (ss : List (List ℕ)) → All Sixteen ss → length ss ≤ n → length (fill n ss) ≡ n * 16
 unfolding fill
 length-fill n ss h l =
-    let a = length-concat ss h in
+    let a = length-flatten ss h in
     let b = length-replicate {A = ℕ} ((n - length ss) * 16) 0 in
-    omega (arith, length-append (concat ss) (replicate ((n - length ss) * 16) 0))
+    omega (arith, length-append (flatten ss) (replicate ((n - length ss) * 16) 0))
 
 pub slotCount-fill : (n : ℕ) (ss : List (List ℕ)) → All Sixteen ss → length ss ≤ n → slotCount (fill n ss) ≡ n
 unfolding slotCount
@@ -76,19 +76,19 @@ slotCount-fill n ss h l = let a = length-fill n ss h l in omega arith
 
 -- ---- reading back
 
-chunks-concat : (ss : List (List ℕ)) (rest : List ℕ) → All Sixteen ss → chunks (length ss) (concat ss ++ rest) ≡ ss
-unfolding chunks concat
-chunks-concat [] rest h = refl
-chunks-concat (s ∷ ss) rest h =
-    let e : (s ++ concat ss) ++ rest ≡ s ++ (concat ss ++ rest) = append-assoc s (concat ss) rest in
-    let a : take 16 ((s ++ concat ss) ++ rest) ≡ s = ap (take 16) e ∙ take-at s (concat ss ++ rest) 16 (h .0) in
-    let b : drop 16 ((s ++ concat ss) ++ rest) ≡ concat ss ++ rest =
-    ap (drop 16) e ∙ drop-at s (concat ss ++ rest) 16 (h .0) in
-    ap₂ _∷_ a (ap (chunks (length ss)) b ∙ chunks-concat ss rest (h .1))
+chunks-flatten : (ss : List (List ℕ)) (rest : List ℕ) → All Sixteen ss → chunks (length ss) (flatten ss ++ rest) ≡ ss
+unfolding chunks flatten
+chunks-flatten [] rest h = refl
+chunks-flatten (s ∷ ss) rest h =
+    let e : (s ++ flatten ss) ++ rest ≡ s ++ (flatten ss ++ rest) = append-assoc s (flatten ss) rest in
+    let a : take 16 ((s ++ flatten ss) ++ rest) ≡ s = ap (take 16) e ∙ take-at s (flatten ss ++ rest) 16 (h .0) in
+    let b : drop 16 ((s ++ flatten ss) ++ rest) ≡ flatten ss ++ rest =
+    ap (drop 16) e ∙ drop-at s (flatten ss ++ rest) 16 (h .0) in
+    ap₂ _∷_ a (ap (chunks (length ss)) b ∙ chunks-flatten ss rest (h .1))
 
 pub chunks-fill : (n : ℕ) (ss : List (List ℕ)) → All Sixteen ss → chunks (length ss) (fill n ss) ≡ ss
 unfolding fill
-chunks-fill n ss h = chunks-concat ss (zeros ((n - length ss) * 16)) h
+chunks-fill n ss h = chunks-flatten ss (zeros ((n - length ss) * 16)) h
 
 pub zero-zeros : (n : ℕ) → allZero (zeros n) ≡ true
 unfolding allZero every
@@ -98,9 +98,9 @@ zero-zeros (suc n) = zero-zeros n
 pub zero-after : (n : ℕ) (ss : List (List ℕ)) → All Sixteen ss → allZero (drop (length ss * 16) (fill n ss)) ≡ true
 unfolding fill
 zero-after n ss h =
-    ap allZero (drop-at (concat ss) (zeros ((n - length ss) * 16)) (length ss * 16) (length-concat ss h))
+    ap allZero (drop-at (flatten ss) (zeros ((n - length ss) * 16)) (length ss * 16) (length-flatten ss h))
     ∙ zero-zeros ((n - length ss) * 16)
 
 pub zero-fill : (n : ℕ) → allZero (fill n []) ≡ true
-unfolding fill concat
+unfolding fill flatten
 zero-fill n = zero-zeros ((n - 0) * 16)

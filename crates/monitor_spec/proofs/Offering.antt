@@ -1,0 +1,158 @@
+-- Offer on every input: 1 to 10, or the word whose bits are those of the residuals held. Assumes nothing.
+use Prim.Native.Nat.{ℕ, _/_, _%_, _^_, _<_}
+use native.Mathlib.Omega.{arith}
+use mathlib.Core.Path.{_≡_, refl, ap, sym, _∙_}
+use mathlib.Core.Bool.{true, false}
+use mathlib.Core.List.{List}
+use mathlib.Core.Logic.{_↔_}
+use lib.ListN.{length}
+use Rattle.table.specs.Table.{Table}
+use Rattle.table.specs.Judge.{accepted, declined, judgeList}
+use Rattle.table.specs.Operations.{zeros}
+use Rattle.monitor_spec.specs.Residual.{afterAll}
+use Rattle.monitor_spec.specs.Meaning.{Some}
+use Rattle.monitor_spec.specs.Slots.{slotsOf}
+use Rattle.monitor_spec.specs.State.{failedAt, Monitor, slotCount, laid}
+use Rattle.monitor_spec.specs.Offer.{Offered, offers, refused, OfferOutcome, offerBits, offering, offerJudged}
+use Rattle.monitor_spec.specs.Offer.{offerOf}
+use Rattle.monitor_spec.specs.Offer.Laws.{bits-tell}
+use Rattle.monitor_spec.specs.Refusals.{CallRefused, Offers, WorkLeft}
+use Rattle.monitor_spec.proofs.Gate.{measured-in, unmeasured-in, is-table-in, is-table-out, accepts, Lent, Held}
+use Rattle.monitor_spec.proofs.Gate.{held-in, unheld-in, Gate, shut-1, shut-table, shut-10, clear, gate}
+use Rattle.monitor_spec.proofs.Gate.{refused-exactly}
+use Rattle.monitor_spec.proofs.Offers.{bits-exact}
+
+refused-same : (n p k q : ℕ) → refused n p ≡ refused k q → (n ≡ k) × (p ≡ q)
+refused-same n p k q e = (cc, cc)
+
+offers-same : (x y : ℕ) → offers x ≡ offers y → x ≡ y
+offers-same x y e = cc
+
+refused-offers : {X : Type 0} {o : Offered} (n p x : ℕ) → o ≡ refused n p → o ≡ offers x → X
+refused-offers n p x e f = absurd (let z : _≡_ {A = ℕ} 0 1 = cc in omega arith)
+
+module _ (l : List ℕ) (m : Monitor) (w : List ℕ) where
+  -- ---- the whole outcome
+
+  on-1 : (Lent l m w → ⊥) → offerOf l m w ≡ offering (refused 1 0) m w
+  unfolding offerOf
+  on-1 x = rw (unmeasured-in (m .area0) (m .area1) w x, offerOf)
+
+  on-table : Lent l m w → (n p : ℕ) → judgeList l ≡ declined n p
+      → offerOf l m w ≡ offering (refused n p) m (zeros (length w))
+  unfolding offerOf offerJudged
+  on-table x n p d = rw (measured-in (m .area0) (m .area1) w x, d, offerOf)
+
+  on-accepted : Lent l m w → (ns : List ℕ) (t : Table) → judgeList l ≡ accepted ns t
+      → offerOf l m w ≡ offerJudged (accepted ns t) m w
+  unfolding offerOf
+  on-accepted x ns t d = rw (measured-in (m .area0) (m .area1) w x, d, offerOf)
+
+  on-10 : Lent l m w → (ns : List ℕ) (t : Table) → judgeList l ≡ accepted ns t → (Held l m w t → ⊥)
+      → offerOf l m w ≡ offering (refused 10 0) m (zeros (length w))
+  unfolding offerJudged
+  on-10 x ns t d h = on-accepted x ns t d ∙ rw (unheld-in l m w x ns t d h, offerJudged)
+
+  on-open : Lent l m w → (ns : List ℕ) (t : Table) → judgeList l ≡ accepted ns t → Held l m w t
+      → offerOf l m w ≡ offering (offers (offerBits t m (m .state .verdict))) m (zeros (length w))
+  unfolding offerJudged
+  on-open x ns t d h = on-accepted x ns t d ∙ rw (held-in l m w ns t d h, offerJudged)
+
+  abbrev said : Offered
+  said = offerOf l m w .answer
+
+  says : (o : Offered) (v : List ℕ) → offerOf l m w ≡ offering o m v → said ≡ o
+  unfolding offering
+  says o v e = ap (λ (z : OfferOutcome). z .answer) e
+
+  -- ---- 1 to 10
+
+  pub offer-refused : (n p : ℕ) → (said ≡ refused n p) ↔ CallRefused l m w n p
+  offer-refused =
+      refused-exactly l m w refused refused-same said
+      (λ x. says (refused 1 0) w (on-1 x))
+      (λ x n p d. says (refused n p) (zeros (length w)) (on-table x n p d))
+      (λ x ns t d h. says (refused 10 0) (zeros (length w)) (on-10 x ns t d h))
+      (λ x ns t d h n p e. refused-offers n p (offerBits t m (m .state .verdict)) e
+      (says (offers (offerBits t m (m .state .verdict))) (zeros (length w)) (on-open x ns t d h)))
+
+  -- ---- the word
+
+  word : Table → ℕ
+  word t = offerBits t m (m .state .verdict)
+
+  word-exact : (ns : List ℕ) (t : Table) → judgeList l ≡ accepted ns t → (h : Held l m w t) → (e : ℕ)
+      → (word t / 2 ^ e % 2 ≡ 1) ↔ ((e < t .alphabet) × Some (afterAll t e (h .residuals)))
+  unfolding laid word
+  word-exact ns t d h e =
+      let n : ℕ = slotCount (m .area0) in
+      let q : word t ≡ offerBits t (laid n (h .taken) (h .verdict) (slotsOf (h .residuals))) (h .verdict) =
+      ap (λ (z : Monitor). offerBits t z (z .state .verdict)) (h .same) in
+      rw q (bits-exact l ns t d (accepts l ns t d) n (h .taken) (h .verdict) (h .residuals) (h .sensible) e)
+
+  word-failed : (t : Table) (p : ℕ) → m .state .verdict ≡ failedAt p → word t ≡ 0
+  unfolding offerBits word
+  word-failed t p e = ap (offerBits t m) e
+
+  says-word : Lent l m w → (ns : List ℕ) (t : Table) → judgeList l ≡ accepted ns t → Held l m w t
+      → said ≡ offers (word t)
+  unfolding word
+  says-word x ns t d h = says (offers (word t)) (zeros (length w)) (on-open x ns t d h)
+
+  word-to : (bits : ℕ) → said ≡ offers bits → Gate l m w → Offers l m w bits
+  word-to b e (shut-1 x) = refused-offers 1 0 b (says (refused 1 0) w (on-1 x)) e
+  word-to b e (shut-table x n p d) =
+      refused-offers n p b (says (refused n p) (zeros (length w)) (on-table x n p d)) e
+  word-to b e (shut-10 x ns t d h) =
+      refused-offers 10 0 b (says (refused 10 0) (zeros (length w)) (on-10 x ns t d h)) e
+  word-to b e (clear x ns t d h) =
+      let q : b ≡ word t = offers-same b (word t) (sym e ∙ says-word x ns t d h) in
+      record {
+        measured = x;
+        table = t;
+        is-table = is-table-out l ns t d;
+        laid = h;
+        exact = λ i. rw q (word-exact ns t d h i);
+        failed = λ p f. q ∙ word-failed t p f;
+      }
+
+  word-from : (bits : ℕ) → Offers l m w bits → said ≡ offers bits
+  word-from b o =
+      let t : Table = o .table in
+      let d = is-table-in l t (o .is-table) in
+      says-word (o .measured) l t d (o .laid)
+      ∙ ap offers (bits-tell (word t) b (λ e. let f = word-exact l t d (o .laid) e in let g = o .exact e in
+      (λ h. g .1 (f .0 h), λ h. f .1 (g .0 h))))
+
+  pub offer-word : (bits : ℕ) → (said ≡ offers bits) ↔ Offers l m w bits
+  offer-word b = (λ e. word-to b e (gate l m w), word-from b)
+
+  -- ---- what stands in the lent buffers
+
+  pub offer-work : WorkLeft (m .area0) (m .area1) w (offerOf l m w .work)
+  unfolding offering
+  offer-work =
+      record {
+        zeroed = λ x. by x (gate l m w) ∙ ap zeros (x .work);
+        kept = λ x. ap (λ (z : OfferOutcome). z .work) (on-1 x);
+      }
+    where
+      by : Lent l m w → Gate l m w → offerOf l m w .work ≡ zeros (length w)
+      by x (shut-1 y) = absurd (y x)
+      by x (shut-table y n p d) = ap (λ (z : OfferOutcome). z .work) (on-table y n p d)
+      by x (shut-10 y ns t d h) = ap (λ (z : OfferOutcome). z .work) (on-10 y ns t d h)
+      by x (clear y ns t d h) = ap (λ (z : OfferOutcome). z .work) (on-open y ns t d h)
+
+  pub offer-keeps : (offerOf l m w .area0 ≡ m .area0) × (offerOf l m w .area1 ≡ m .area1)
+  unfolding offering
+  offer-keeps = by (gate l m w)
+    where
+      kept : (o : Offered) (v : List ℕ) → offerOf l m w ≡ offering o m v
+          → (offerOf l m w .area0 ≡ m .area0) × (offerOf l m w .area1 ≡ m .area1)
+      kept o v f = (ap (λ (z : OfferOutcome). z .area0) f, ap (λ (z : OfferOutcome). z .area1) f)
+
+      by : Gate l m w → (offerOf l m w .area0 ≡ m .area0) × (offerOf l m w .area1 ≡ m .area1)
+      by (shut-1 x) = kept (refused 1 0) w (on-1 x)
+      by (shut-table x n p d) = kept (refused n p) (zeros (length w)) (on-table x n p d)
+      by (shut-10 x ns t d h) = kept (refused 10 0) (zeros (length w)) (on-10 x ns t d h)
+      by (clear x ns t d h) = kept (offers (offerBits t m (m .state .verdict))) (zeros (length w)) (on-open x ns t d h)
