@@ -94,7 +94,7 @@ pub fn open(
         });
     }
     match head(input) {
-        Head::Parts(from, to) => { open_table(&input[from..to], to, list, area0, area1, work) }
+        Head::Parts(from, to) => open_table(&input[from..to], to, list, area0, area1, work),
         Head::Wrong(refusal) => Opened::Refused(refusal),
     }
 }

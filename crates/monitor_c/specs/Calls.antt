@@ -6,7 +6,7 @@
 -- The laws are in `Calls/Laws.antt`. Assumes nothing.
 use Prim.Native.Nat.{ℕ, _%_}
 use mathlib.Core.Path.{_≡_}
-use mathlib.Core.Bool.{true, false}
+use mathlib.Core.Bool.{Bool, true, false}
 use mathlib.Core.List.{List}
 use lib.ListN.{length}
 use lib.Dec.{eqb}
@@ -37,6 +37,12 @@ unfoldable pub numberOf : Answer → ℕ
 numberOf (given s) = 0
 numberOf (refused n p) = n
 numberOf (stopped n p s) = n
+
+-- there is none
+unfoldable pub isGiven : Answer → Bool
+isGiven (given s) = true
+isGiven (refused n p) = false
+isGiven (stopped n p s) = false
 
 -- its place, 0 where there is none
 unfoldable pub placeOf : Answer → ℕ
@@ -106,6 +112,10 @@ offerSaid n v a b w = record { number = n; value = v; area0 = a; area1 = b; work
 unfoldable pub offerNumber : Offered → ℕ
 offerNumber (offers bits) = 0
 offerNumber (operation.refused n p) = n
+
+unfoldable pub isOffered : Offered → Bool
+isOffered (offers bits) = true
+isOffered (operation.refused n p) = false
 
 -- the bits, or the refusal's place
 unfoldable pub offerValue : Offered → ℕ

@@ -1,5 +1,7 @@
 -- What the functions for C promise, in reading order: the record in words; the calls of the table layer; those of the
--- monitor. Assumes nothing.
+-- monitor; worked rows; what is claimed. Assumes nothing.
 pub mod Words
 pub mod Tables
 pub mod Calls
+pub mod Examples
+pub mod Claims

@@ -6,6 +6,7 @@
 -- The laws are in `Tables/Laws.antt`. Assumes nothing.
 use Prim.Native.Nat.{ℕ}
 use mathlib.Core.Path.{_≡_}
+use mathlib.Core.Bool.{Bool, true, false}
 use mathlib.Core.List.{List}
 use Rattle.table.specs.Operations.{Answer, done, refusal, Outcome, readOf, writeOf}
 pub mod Laws
@@ -23,6 +24,11 @@ said n v out w = record { number = n; value = v; output = out; work = w }
 unfoldable pub numberOf : Answer → ℕ
 numberOf (done n) = 0
 numberOf (refusal n at) = n
+
+-- there is no refusal
+unfoldable pub isDone : Answer → Bool
+isDone (done n) = true
+isDone (refusal n at) = false
 
 -- the count, or the refusal's place
 unfoldable pub valueOf : Answer → ℕ

@@ -26,6 +26,7 @@ use Rattle.monitor_spec.specs.History.Laws.{append-nil, extends, measure
 use Rattle.monitor_spec.specs.Stops.{Stops, StoppedAt, AnswersOne, JudgesOne}
 use Rattle.monitor_spec.proofs.Endings.{T-true, true-T, false-T, not-true, none-answer, some-answer}
 use Rattle.monitor_spec.proofs.Endings.{ending-given, ending-stopped, stops-out, stops-in}
+use Rattle.monitor_spec.proofs.Forms.{given-same, refused-same, stopped-same, refused-given, refused-stopped}
 use Rattle.monitor_spec.proofs.Verdicts.{judged-running, fails-exactly}
 
 append-cancel : (s u v : List ℕ) → s ++ u ≡ s ++ v → u ≡ v
@@ -34,18 +35,6 @@ append-cancel (x ∷ s) u v e = append-cancel s u v (tail x (s ++ u) (s ++ v) e)
   where
     tail : (x : ℕ) (a b : List ℕ) → x ∷ a ≡ x ∷ b → a ≡ b
     tail x a b p = cc
-
-refused-not-stopped : {X : Type 0} (n p k q : ℕ) (r : State) → refused n p ≡ stopped k q r → X
-refused-not-stopped n p k q r e = absurd (let z : _≡_ {A = ℕ} 0 1 = cc in omega arith)
-
-refused-not-given : {X : Type 0} (n p : ℕ) (r : State) → refused n p ≡ given r → X
-refused-not-given n p r e = absurd (let z : _≡_ {A = ℕ} 0 1 = cc in omega arith)
-
-stopped-state : (n p k q : ℕ) (r u : State) → stopped n p r ≡ stopped k q u → r ≡ u
-stopped-state n p k q r u e = cc
-
-refused-same : (n p k q : ℕ) → refused n p ≡ refused k q → (n ≡ k) × (p ≡ q)
-refused-same n p k q e = (cc, cc)
 
 module _ (t : Table) (regular : Regular t) (n : ℕ) (s : List ℕ) (fed : Fed t n s) where
   abbrev M : Monitor
@@ -135,23 +124,22 @@ module _ (t : Table) (regular : Regular t) (n : ℕ) (s : List ℕ) (fed : Fed t
       where
         by : (b : Bool) → workMeasured w ≡ b → workMeasured w ≡ true
         by true h = h
-        by false h = refused-not-stopped 1 0 k p r (sym (wrong-work h) ∙ e)
+        by false h = refused-stopped 1 0 k p r (wrong-work h) e
 
     given-right : (r : State) → feedOf l M es w .answer ≡ given r → workMeasured w ≡ true
     given-right r e = by (workMeasured w) refl
       where
         by : (b : Bool) → workMeasured w ≡ b → workMeasured w ≡ true
         by true h = h
-        by false h = refused-not-given 1 0 r (sym (wrong-work h) ∙ e)
+        by false h = refused-given 1 0 r (wrong-work h) e
 
     refuses-one : (k p : ℕ) → feedOf l M es w .answer ≡ refused k p → (T (workMeasured w) → ⊥) × (k ≡ 1) × (p ≡ 0)
     refuses-one k p e = by (workMeasured w) refl
       where
         never : (o : Option ℕ) → go 0 es .why ≡ o → endingOf (length w) (go 0 es) .answer ≡ refused k p → ⊥
-        never none h f = refused-not-given k p (go 0 es .at .state) (sym f ∙ none-answer (length w) (go 0 es) h)
+        never none h f = refused-given k p (go 0 es .at .state) f (none-answer (length w) (go 0 es) h)
         never (some j) h f =
-            refused-not-stopped k p j (go 0 es .taken) (go 0 es .at .state)
-            (sym f ∙ some-answer (length w) (go 0 es) j h)
+            refused-stopped k p j (go 0 es .taken) (go 0 es .at .state) f (some-answer (length w) (go 0 es) j h)
 
         by : (b : Bool) → workMeasured w ≡ b → (T (workMeasured w) → ⊥) × (k ≡ 1) × (p ≡ 0)
         by true h = absurd (never (go 0 es .why) refl (sym (right-answer h) ∙ e))
@@ -185,7 +173,7 @@ module _ (t : Table) (regular : Regular t) (n : ℕ) (s : List ℕ) (fed : Fed t
         right-work h (a .before) ∙ ap (endingOf (length w)) (whole-ends (a .before) (a .unrefused)) in
         record {
           record-same = ap (λ (o : Outcome). o .answer) y
-              ∙ ap given (stopped-state k p k p (m .state) r (sym (stops-from k p h a) ∙ e));
+              ∙ ap given (stopped-same k p k p (m .state) r (sym (stops-from k p h a) ∙ e) .2);
           area0-same = ap (λ (o : Outcome). o .area0) y ∙ sym (ap (λ (o : Outcome). o .area0) x);
           area1-same = ap (λ (o : Outcome). o .area1) y ∙ sym (ap (λ (o : Outcome). o .area1) x);
         }
@@ -222,9 +210,8 @@ module _ (t : Table) (regular : Regular t) (n : ℕ) (s : List ℕ) (fed : Fed t
     unfolding monitorAfter laid
     given-verdict r e =
         let (h, x) = gives-to r e in
-        let same : (u v : State) → given u ≡ given v → u ≡ v = λ u v p. cc in
         ap (λ (z : State). z .verdict)
-        (same r (monitorAfter t n (s ++ es) .state) (sym e ∙ gives-from (T-true (workMeasured w) h) x))
+        (given-same r (monitorAfter t n (s ++ es) .state) (sym e ∙ gives-from (T-true (workMeasured w) h) x))
 
 -- ---- demand 2: one list fed to a fresh monitor
 

@@ -1,6 +1,7 @@
 -- The proofs of `specs/Claims.antt`: `Theorems` has one for each claim, from the others. Assumes nothing.
 pub mod Theorems
 pub mod Verdicts
+pub mod Forms
 pub mod Endings
 pub mod Exceeds
 pub mod Histories
@@ -9,6 +10,7 @@ pub mod Offers
 pub mod Gate
 pub mod Starts
 pub mod Feeds
+pub mod Onward
 pub mod Offering
 pub mod Keeps
 pub mod Rows

@@ -16,7 +16,7 @@ use Rattle.table.specs.Refusals.{too-wide, too-many-branches}
 use Rattle.table.specs.Refusals.AtNumbers.{refused-in, refused-out}
 use Rattle.monitor_spec.specs.Residual.{Residual, residualsOf}
 use Rattle.monitor_spec.specs.Slots.{slotsOf}
-use Rattle.monitor_spec.specs.State.{Verdict, running, failedAt, State, Monitor, Answer, given, refused}
+use Rattle.monitor_spec.specs.State.{running, failedAt, State, Monitor, Answer, given, refused}
 use Rattle.monitor_spec.specs.State.{Outcome, slotCount, fill}
 use Rattle.monitor_spec.specs.Feed.{nextVerdict}
 use Rattle.monitor_spec.specs.Start.{startAccepted, startJudged, startOf}
@@ -25,21 +25,11 @@ use Rattle.monitor_spec.specs.Expected.{ifNone}
 use Rattle.monitor_spec.specs.Expected.Verdicts.{slots-none, slots-some, next-some, next-none}
 use Rattle.monitor_spec.specs.History.{Fresh}
 use Rattle.monitor_spec.specs.History.Begun.{start-measured, begun, start-room}
-use Rattle.monitor_spec.specs.Refusals.{Measured, IsTable, StartRefused, wrong-length, bad-table, exceeded, Starts}
+use Rattle.monitor_spec.specs.Refusals.{Measured, StartRefused, wrong-length, bad-table, exceeded, Starts}
 use Rattle.monitor_spec.specs.Refusals.{WorkLeft}
+use Rattle.monitor_spec.proofs.Forms.{given-same, refused-same, refused-given}
 use Rattle.monitor_spec.proofs.Gate.{lent, measured-out, measured-in, unmeasured-in, unmeasured-out}
 use Rattle.monitor_spec.proofs.Gate.{is-table-in, is-table-out}
-
--- ---- answers
-
-pub refused-same : (n p k q : ℕ) → refused n p ≡ refused k q → (n ≡ k) × (p ≡ q)
-refused-same n p k q e = (cc, cc)
-
-given-same : (r s : State) → given r ≡ given s → r ≡ s
-given-same r s e = cc
-
-pub refused-given : {X : Type 0} {x : Answer} (n p : ℕ) (s : State) → x ≡ refused n p → x ≡ given s → X
-refused-given n p s e f = absurd (let z : _≡_ {A = ℕ} 0 1 = cc in omega arith)
 
 -- the verdict of a record at Start
 begun-verdict : (rs : List Residual) → nextVerdict running 0 (slotsOf rs) ≡ ifNone rs (failedAt 0) running

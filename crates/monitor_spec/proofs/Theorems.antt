@@ -38,6 +38,7 @@ use Rattle.monitor_spec.specs.Claims.{Examples, Cases, Buffers}
 use Rattle.monitor_spec.proofs.Endings.{T-true, true-T}
 use Rattle.monitor_spec.proofs.Starts.{start-refused, start-gives as started, start-work, start-keeps, start-zeroes}
 use Rattle.monitor_spec.proofs.Feeds as feeds
+use Rattle.monitor_spec.proofs.Onward.{feed-stops, feed-gives}
 use Rattle.monitor_spec.proofs.Offering as offering
 use Rattle.monitor_spec.proofs.Exceeds.{start-exceeds-exactly}
 use Rattle.monitor_spec.proofs.Histories.{reached, history-holds}
@@ -118,11 +119,11 @@ feed-refused-exactly l m es w = feeds.feed-refused l m es w
 
 pub feed-stops-exactly : FeedStopsExactly
 unfolding FeedStopsExactly
-feed-stops-exactly l m es w = feeds.feed-stops l m es w
+feed-stops-exactly l m es w = feed-stops l m es w
 
 pub feed-gives-exactly : FeedGivesExactly
 unfolding FeedGivesExactly
-feed-gives-exactly l m es w = feeds.feed-gives l m es w
+feed-gives-exactly l m es w = feed-gives l m es w
 
 pub offer-refused-exactly : OfferRefusedExactly
 unfolding OfferRefusedExactly

@@ -7,6 +7,9 @@ mod length;
 mod limit;
 mod mixed;
 
+pub use input::loose_forms;
+pub use mixed::change;
+
 use crate::case::*;
 use crate::damage::CLAUSES;
 use crate::generate::{small, MIDDLE, SMALL};

@@ -24,6 +24,14 @@ reference: another implementation of the CSP_E line monitor, for test answers
     reference line FILE
         Prints the line that the program prints of a file as its standard input.
 
+    reference lines --seed N --count M
+        Writes test data of the program's line to standard output: the inputs worked by hand,
+        and about M drawn at random. The same seed and count give the same file.
+
+    reference lines-summary FILE
+        Prints what the test program prints of a file of inputs when every line is the stored
+        one: a line `NAME CASES` for each group, then `ok`.
+
     reference histories --seed N --count M
         Writes test data of the monitor to standard output: the histories worked by hand, and
         about M drawn at random. The same seed and count give the same file.
@@ -54,6 +62,9 @@ fn main() -> ExitCode {
         ["summary", ..] => Err("summary takes one file".to_string()),
         ["line", file] => line(file),
         ["line", ..] => Err("line takes one file".to_string()),
+        ["lines", options @ ..] => written("lines", options, reference::monitor::lines::file),
+        ["lines-summary", file] => summary(file, reference::monitor::lines::summary),
+        ["lines-summary", ..] => Err("lines-summary takes one file".to_string()),
         ["histories", options @ ..] => {
             written("histories", options, reference::monitor::histories::file)
         }

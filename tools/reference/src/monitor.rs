@@ -5,11 +5,12 @@
 //     program     the program's line                        history     lines of test data
 //     histories   the test data file                        examples    cases worked by hand
 //     summary     what its test program prints              replay      the calls of a file again
-//     tables      seeded tables with something to follow
+//     tables      seeded tables with something to follow    lines       inputs of the program
 
 pub mod examples;
 pub mod histories;
 pub mod history;
+pub mod lines;
 pub mod operations;
 pub mod program;
 pub mod replay;

@@ -1,10 +1,8 @@
 -- What a call of the monitor's operations comes to, case by case. Assumes nothing.
 use Prim.Native.Nat.{ℕ, _%_}
-use mathlib.Core.Path.{_≡_, refl, sym, ap, _∙_}
-use mathlib.Core.Bool.{Bool, true, false}
+use mathlib.Core.Path.{_≡_, refl, ap, _∙_}
 use mathlib.Core.List.{List}
 use lib.ListN.{length}
-use lib.Dec.{eqb}
 use borrow.Author.Tests.{eq-eqb, ne-eqb}
 use Rattle.monitor.specs.declared.state.State.{State as StateCode}
 use Rattle.table.specs.declared.answer.Refusal.{Refusal}
@@ -12,10 +10,10 @@ use Rattle.monitor.specs.declared.answer.Answer as code
 use Rattle.monitor.specs.declared.answer.Answer.the-variants.{Given, Refused, Stopped}
 use Rattle.monitor.specs.declared.answer.Offered as offer
 use Rattle.monitor.specs.declared.answer.Offered.the-variants as variant
-use Rattle.monitor_spec.specs.State.{State, Monitor, Outcome}
+use Rattle.monitor_spec.specs.State.{State, Outcome}
 use Rattle.monitor_spec.specs.Start.{startOf}
 use Rattle.monitor_spec.specs.Feed.{feedOf}
-use Rattle.monitor_spec.specs.Offer.{OfferOutcome, offerOf}
+use Rattle.monitor_spec.specs.Offer.{offerOf}
 use Rattle.monitor_spec.specs.View.{viewOf}
 use Rattle.monitor.specs.Record.{stateOf, monitorOf}
 use Rattle.monitor.specs.Answers.{answerOf, outcome, offeredOf, offerOutcome}
@@ -107,7 +105,7 @@ area-none : (n t : ℕ) → n ≡ 0 → 0 ≡ areaOf n t
 unfolding areaOf
 area-none n t h = rw (eq-eqb n 0 h, areaOf)
 
-area-some : (n t : ℕ) → (n ≡ 0 → ⊥) → t % 2 ≡ areaOf n t
+pub area-some : (n t : ℕ) → (n ≡ 0 → ⊥) → t % 2 ≡ areaOf n t
 unfolding areaOf
 area-some n t h = rw (ne-eqb n 0 h, areaOf)
 

@@ -1,10 +1,9 @@
 -- Records and their words, case by case. Assumes nothing.
 use Prim.Native.Nat.{ℕ}
 use native.Mathlib.Omega.{arith}
-use mathlib.Core.Path.{_≡_, refl, ap, sym, _∙_}
+use mathlib.Core.Path.{_≡_, refl}
 use mathlib.Core.List.{List, [], _∷_}
 use lib.ListN.{length, getD, set}
-use lib.Dec.{eqb}
 use borrow.Author.Tests.{eq-eqb, ne-eqb}
 use Rattle.monitor.specs.declared.state.Verdict.{Verdict as VerdictCode}
 use Rattle.monitor.specs.declared.state.Verdict.the-variants.{Running, Failed}

@@ -18,7 +18,7 @@ use Rattle.monitor_spec.specs.Regular.{Regular}
 use Rattle.monitor_spec.specs.Residual.{Residual, afterAll, run}
 use Rattle.monitor_spec.specs.Slots.{slotsOf}
 use Rattle.monitor_spec.specs.Proper.Laws.{afterAll-proper}
-use Rattle.monitor_spec.specs.Fold.{Step, went, stops, Ended, through}
+use Rattle.monitor_spec.specs.Fold.{went, stops, Ended, through}
 use Rattle.monitor_spec.specs.Fold.Laws.{through-went, through-stops}
 use Rattle.monitor_spec.specs.State.{Verdict, running, failedAt, Monitor, laid}
 use Rattle.monitor_spec.specs.Feed.{counterMost, nextVerdict, takeEvent}

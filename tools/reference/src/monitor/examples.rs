@@ -1,7 +1,7 @@
 // Examples worked by hand from the words of 01: their lines stand here, and are not this
 // implementation's. Tables are hexadecimal.
 //     Example     a table, slots, events, and the line of the program after them
-//     drawings    K1 to K12 and others of 01
+//     drawings    K1 to K12 and others of 01            HEADS    inputs that are cut or loose
 //     readings    tables that tell wrong monitors apart
 //     stress      tables on which a plain search does not end
 
@@ -187,6 +187,23 @@ pub fn stress() -> Vec<Example> {
     ]
 }
 
+// Whole inputs that end within the table or have something wrong with the length number.
+pub const HEADS: [(&str, &str); 13] = [
+    ("", "refused 3 0"),
+    ("80", "refused 3 0"),
+    ("FF FF", "refused 3 0"),
+    ("80 00", "refused 4 0"),
+    ("FF FF 04", "refused 4 0"),
+    ("81 80 01", "refused 2 0"),
+    ("FF FF 03", "refused 2 0"),
+    ("80 80 01", "refused 3 0"),
+    ("10 03 02", "refused 3 2"),
+    ("10 00 00 00", "refused 3 3"),
+    ("00", "refused 3 0"),
+    ("00 01", "refused 3 0"),
+    ("01 03", "refused 3 1"),
+];
+
 pub fn all() -> Vec<Example> {
     [drawings(), readings(), stress()].into_iter().flatten().collect()
 }
@@ -242,20 +259,7 @@ mod tests {
         let mut long: Vec<u8> = [0, 1].repeat(2_500);
         long.push(3);
         assert_eq!(whole(&long), "refused 11 5000");
-        for (input, expected) in [
-            ("", "refused 3 0"),
-            ("80", "refused 3 0"),
-            ("80 00", "refused 4 0"),
-            ("FF FF 04", "refused 4 0"),
-            ("81 80 01", "refused 2 0"),
-            ("FF FF 03", "refused 2 0"),
-            ("80 80 01", "refused 3 0"),
-            ("10 03 02", "refused 3 2"),
-            ("10 00 00 00", "refused 3 3"),
-            ("00", "refused 3 0"),
-            ("00 01", "refused 3 0"),
-            ("01 03", "refused 3 1"),
-        ] {
+        for (input, expected) in HEADS {
             assert_eq!(line(&hex(input)), expected, "{input}");
         }
     }

@@ -7,7 +7,7 @@ mod damaged;
 mod lengths;
 mod limits;
 mod states;
-mod walks;
+pub(crate) mod walks;
 mod worked;
 
 use super::history::{History, FORMAT};

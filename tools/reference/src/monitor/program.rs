@@ -8,13 +8,18 @@ use crate::refusal::*;
 use crate::table::MOST_BYTES;
 
 pub fn line(input: &[u8]) -> String {
-    match judged(input) {
+    line_lent(input, MOST_AREA)
+}
+
+// The same with areas of so many words, which is no matter of the program.
+pub fn line_lent(input: &[u8], area_len: usize) -> String {
+    match judged(input, area_len) {
         Ok(line) => line,
         Err(Refusal { number, place }) => format!("refused {number} {place}"),
     }
 }
 
-fn judged(input: &[u8]) -> Result<String, Refusal> {
+fn judged(input: &[u8], area_len: usize) -> Result<String, Refusal> {
     // "The length number uses 3 and 4 with place 0; a length over 16,384 is 2; input ending
     // within the table is 3, at the number of table bytes there; all before Read."
     let (length, first) = match number_at(input, 0) {
@@ -32,7 +37,7 @@ fn judged(input: &[u8]) -> Result<String, Refusal> {
     let (bytes, events) = rest.split_at(length);
     let table = read(bytes, READ_OUTPUT, WORK);
     let list = &table.output[..table.answer?];
-    let started = start(list, &[vec![0; MOST_AREA], vec![0; MOST_AREA]], WORK);
+    let started = start(list, &[vec![0; area_len], vec![0; area_len]], WORK);
     if let Some(refusal) = started.answer.refusal {
         return Err(refusal);
     }
