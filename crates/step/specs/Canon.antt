@@ -3,15 +3,17 @@
 --     insertSlot, canonFrom     one slot in its place; several, one after the other: ascending, none twice
 --     joined, areaOf            the words of slots; an area that holds them
 --     Slots                     lists of sixteen words
--- The laws are in `Canon/Laws.antt` (areas) and `Canon/Sets.antt` (what comes out depends on the members only).
--- Assumes nothing.
+-- The laws are in `Canon/Compare.antt` (the order of slots), `Canon/Sets.antt` (what comes out is ascending, and depends on
+-- the members only), `Canon/Places.antt` and `Canon/Laws.antt` (areas). Assumes nothing.
 use Prim.Native.Nat.{ℕ, _-_, _*_}
 use mathlib.Core.Path.{_≡_}
 use mathlib.Core.List.{List, [], _∷_, _++_}
 use lib.ListN.{length, replicate}
 use Rattle.step.specs.Slots.{Order, below, same, above, order}
-pub mod Laws
+pub mod Compare
 pub mod Sets
+pub mod Places
+pub mod Laws
 
 abbrev pub byOrder : {A : Type 0} → Order → A → A → A → A
 byOrder below a b c = a

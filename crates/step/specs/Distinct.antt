@@ -1,5 +1,5 @@
--- A leaf's distinct results, by their indices, in the order of first occurrence (01, "Residuals": "A residual already
--- held is not held twice").
+-- A leaf's distinct results, by their indices, in the order of first occurrence: a result that a leaf gives twice is
+-- taken once, before pairs are formed with it.
 --     sameWords             whether two lists of words are equal
 --     window                some words of a list
 --     heldIn, kept          whether one of the indices has this slot; the indices whose slots did not occur before

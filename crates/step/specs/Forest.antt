@@ -1,5 +1,5 @@
 -- Residual trees in reading order, and what the results of a walk are on them.
---     Valid        a residual whose nodes are known terms of the right kinds
+--     Valid        a residual whose nodes are known terms, parallels at its pairs and not at its leaves
 --     afterKept    the residuals after an event, each leaf's repeats dropped
 --     mayMove      whether a residual may take an event: false only where there is no residual after it
 --     Forest       node words that are those of trees, one after the other
@@ -21,7 +21,7 @@ pub mod Laws
 abbrev pub ValidNode : Table → ℕ → ℕ → Type 0
 ValidNode t n m = (m < 16777216) × (n < termCount t) × DigitsBelow (t .alphabet) m
 
--- "one whole residual tree of known STOP, prefix and parallel terms"
+-- "one whole residual tree of known .. terms": at a pair stands a parallel, at a leaf none
 abbrev pub Valid : Table → Residual → Type 0
 Valid t (leaf n m) = ValidNode t n m × (kindOf (termOf t n) ≡ 4 → ⊥)
 Valid t (pair n m l r) = ValidNode t n m × (kindOf (termOf t n) ≡ 4) × Valid t l × Valid t r

@@ -10,6 +10,7 @@ pub mod Walk
 pub mod Forest
 pub mod Course
 pub mod Takes
+pub mod Only
 pub mod Prepared
 pub mod Stepped
 pub mod Canon

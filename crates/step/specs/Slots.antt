@@ -1,6 +1,6 @@
 -- Slots of sixteen words in an area (01, "Residuals": "ascending by first differing word").
 --     Order, order                  how a new slot stands to a held one, word by word
---     seek                          the place of a slot among those held
+--     seek, placeIn                 the place of a slot among those held: from the first on; the last looked at first
 --     gapped, stored                words moved on by sixteen; a slot over the words from a place on
 --     insertAnswer, insertWords     holding one slot more: what is said, and the words afterwards
 -- The laws are in `Slots/Laws.antt` and `Slots/Gap.antt`. Assumes nothing.
@@ -42,6 +42,16 @@ unfoldable pub seek : ℕ → List ℕ → List ℕ → ℕ → Place
 seek zero a b i = At i
 seek (suc n) a b i = placeBy (order 16 a (i * 16) b 0) (At i) (seek n a b (i + 1))
 
+-- the same place where the slots are ascending, but the last is looked at first: slots come mostly ascending
+abbrev pub lastBy : Order → Place → Place → Place
+lastBy below end search = search
+lastBy same end search = Held
+lastBy above end search = end
+
+unfoldable pub placeIn : ℕ → List ℕ → List ℕ → Place
+placeIn zero a b = At 0
+placeIn (suc n) a b = lastBy (order 16 a (n * 16) b 0) (At (suc n)) (seek (suc n) a b 0)
+
 -- the words from p up to n, moved on by sixteen
 unfoldable pub gapped : List ℕ → ℕ → ℕ → List ℕ
 gapped l p n = take (p + 16) l ++ (slice p n l ++ drop (n + 16) l)
@@ -60,7 +70,7 @@ wordsBy Held full l n s = l
 wordsBy (At i) full l n s = cond full l (stored (gapped l (i * 16) n) (i * 16) s 16)
 
 unfoldable pub insertAnswer : List ℕ → ℕ → List ℕ → Inserted
-insertAnswer l count s = answerBy (seek count l s 0) (ltb (length l - count * 16) 16)
+insertAnswer l count s = answerBy (placeIn count l s) (ltb (length l - count * 16) 16)
 
 unfoldable pub insertWords : List ℕ → ℕ → List ℕ → List ℕ
-insertWords l count s = wordsBy (seek count l s 0) (ltb (length l - count * 16) 16) l (count * 16) s
+insertWords l count s = wordsBy (placeIn count l s) (ltb (length l - count * 16) 16) l (count * 16) s

@@ -48,7 +48,7 @@ kindAt t w = kindOf (termOf t (termOfWord w))
 unfoldable pub holdsAt : Table → ℕ → ℕ → Bool
 holdsAt t e w = inSet t (termOf t (termOfWord w)) (memoryOfWord w) e
 
--- "known STOP, prefix and parallel terms"; "memory is below A"
+-- "known .. terms", of whatever kind; "memory is below A"
 pub record KnownWord (t : Table) (w : ℕ) : Type 0 where
   pub within : termOfWord w < termCount t
   pub digits : DigitsBelow (t .alphabet) (memoryOfWord w)

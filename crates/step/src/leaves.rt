@@ -65,7 +65,8 @@ fn found(
     false
 }
 
-// Keeps the indices of a term's distinct residuals from `at` on; gives how many.
+// Keeps the indices of a term's distinct residuals from `at` on; gives how many. The first is kept
+// without a look at it: mostly it is the only one.
 pub fn distinct(
     list: &[u16],
     work: &[u64],
@@ -84,8 +85,12 @@ pub fn distinct(
         (length (resolved (tableIn (now (list .entry))) n m))) ⌝ }
 {
     let c = index::branches(list, work, n);
-    let mut k = 0;
-    let mut i = 0;
+    if c == 0 {
+        return 0;
+    }
+    store[at] = 0;
+    let mut k = 1;
+    let mut i = 1;
     while i < c {
         let s = result(list, work, bound, n, m, i);
         if found(list, work, bound, n, m, store, at, k, s) {

@@ -2,6 +2,7 @@
 // sixteen words in an area, ascending. The definitions are in `specs/`; `specs/Lib.antt` lists them
 // in reading order, and `specs/Claims.antt` says what `step_set`'s promise comes to.
 mod leaves;
+mod only;
 mod resolve;
 mod slots;
 mod starts;
@@ -10,12 +11,7 @@ mod takes;
 mod walk;
 mod words;
 
-pub use resolve::resolve_definition;
-pub use resolve::resolve_term;
 pub use slots::Held;
-pub use slots::Inserted;
-pub use slots::insert;
-pub use slots::put;
 pub use starts::resolve_set;
 pub use steps::step_set;
 pub use takes::takes_at;

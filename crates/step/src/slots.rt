@@ -4,17 +4,18 @@
 ghost use mathlib.Core.Path.{_≡_};
 ghost use Prim.Native.Nat.{ℕ, _+_, _*_, _≤_};
 ghost use lib.ListN.{length};
-ghost use Rattle.step.specs.Slots.{seek, gapped, stored, insertAnswer, insertWords};
+ghost use Rattle.step.specs.Slots.{seek, placeIn, gapped, stored, insertAnswer};
+ghost use Rattle.step.specs.Slots.{insertWords};
 ghost use Rattle.step.specs.Holding.{putOne, Gave};
 
 // Where a slot belongs among those held, ascending: it is held already, or its place.
-pub enum Place {
+enum Place {
     Held,
     At(usize),
 }
 
 // The search: slot by slot, each left at its first differing word.
-pub fn find_place(area: &[u64], count: usize, slot: &[u64]) -> Place
+fn find_place(area: &[u64], count: usize, slot: &[u64]) -> Place
     requires { ⌜ (count * 16 ≤ length (now area)) × (length (now slot) ≡ 16) ⌝ }
     ensures { λ r. ⌜ r ≡ seek count (now (area .entry)) (now (slot .entry)) 0 ⌝ }
 {
@@ -36,6 +37,31 @@ pub fn find_place(area: &[u64], count: usize, slot: &[u64]) -> Place
         return Place::Held;
     }
     Place::At(i)
+}
+
+// The place of a slot among those held, ascending: slots come mostly ascending, so the last is
+// looked at before the search.
+fn place_of(area: &[u64], count: usize, slot: &[u64]) -> Place
+    requires { ⌜ (count * 16 ≤ length (now area)) × (length (now slot) ≡ 16) ⌝ }
+    ensures { λ r. ⌜ r ≡ placeIn count (now (area .entry)) (now (slot .entry)) ⌝ }
+{
+    if count == 0 {
+        return Place::At(0);
+    }
+    let p = (count - 1) * 16;
+    let mut j = 0;
+    while j < 16 {
+        let held = area[p + j];
+        let new = slot[j];
+        if held < new {
+            return Place::At(count);
+        }
+        if new < held {
+            return find_place(area, count, slot);
+        }
+        j += 1;
+    }
+    Place::Held
 }
 
 // Moves the words from p up to n on by sixteen.
@@ -62,20 +88,20 @@ fn store(area: &mut [u64], p: usize, slot: &[u64])
 }
 
 // A slot was held already, is held now, or is new and has no room.
-pub enum Inserted {
+enum Inserted {
     Held,
     New,
     Full,
 }
 
 // Holds a slot, unless it is held already or there is no room.
-pub fn insert(area: &mut [u64], count: usize, slot: &[u64]) -> Inserted
+fn insert(area: &mut [u64], count: usize, slot: &[u64]) -> Inserted
     requires { ⌜ (count * 16 ≤ length (now area)) × (length (now slot) ≡ 16) ⌝ }
     ensures answer { λ r. ⌜ r ≡ insertAnswer (now (area .entry)) count (now (slot .entry)) ⌝ }
     ensures words { λ _.
         ⌜ now (area .exit) ≡ insertWords (now (area .entry)) count (now (slot .entry)) ⌝ }
 {
-    match find_place(area, count, slot) {
+    match place_of(area, count, slot) {
         Place::Held => Inserted::Held,
         Place::At(i) => {
             let n = count * 16;

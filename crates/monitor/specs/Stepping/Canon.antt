@@ -17,8 +17,7 @@ use Rattle.table.specs.Rules.{Rules}
 use Rattle.step.specs.Slots as slots
 use Rattle.step.specs.Walk.{onto}
 use Rattle.step.specs.Canon.{byOrder, insertSlot, canonFrom, joined, areaOf}
-use Rattle.step.specs.Canon.Laws.{stepOrder, order-step}
-use Rattle.step.specs.Canon.Sets.{order-tail}
+use Rattle.step.specs.Canon.Compare.{stepOrder, order-step, order-tail}
 use Rattle.step.specs.Successors as words
 use Rattle.monitor_spec.specs.Regular.Laws.{regular}
 use Rattle.monitor_spec.specs.Residual.{Residual}

@@ -89,7 +89,7 @@ module _ (t : Table) (rules : Rules t) where
   unfolding words.canon
   first-holds n h =
       rw (← area-low n [], ← first-slots, ← area-low n (words.canon (resolvedBelow t (count t) (last t))))
-      (put-canon n [] (words.slotsOf (resolvedBelow t (count t) (last t))) tt
+      (put-canon n [] (words.slotsOf (resolvedBelow t (count t) (last t))) tt tt
       (slots-of-slots (resolvedBelow t (count t) (last t))) (omega arith) (rw first-slots h))
 
   pub first-exceeds : (n : ℕ) → n < length (slotsOf (residualsOf t []))
@@ -97,5 +97,5 @@ module _ (t : Table) (rules : Rules t) where
   unfolding words.canon
   first-exceeds n h =
       rw (← area-low n [])
-      (put-exceeded-canon n [] (words.slotsOf (resolvedBelow t (count t) (last t))) tt
+      (put-exceeded-canon n [] (words.slotsOf (resolvedBelow t (count t) (last t))) tt tt
       (slots-of-slots (resolvedBelow t (count t) (last t))) (omega arith) (rw first-slots h))

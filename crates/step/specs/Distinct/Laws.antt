@@ -3,7 +3,7 @@
 --     length-window, at-window, window-none, window-cons     some words of a list
 --     held-none, -here, -on                    looking for a slot among those kept
 --     kept-held, kept-new, kept-below, kept-few              the indices kept
---     head-first, head-held, head-new          the loop of `distinct`
+--     head-none, -first, -held, -new, -done    the loop of `distinct`
 -- Assumes nothing.
 use Prim.Native.Nat.{ℕ, zero, suc, _+_, _<_, _≤_}
 use native.Mathlib.Omega.{arith}
@@ -183,9 +183,26 @@ resolves-empty t b n m i s h = record {
 
 -- ---- distinct's loop
 
-pub head-first : (t : Table) (n m : ℕ) (old : List ℕ) (at : ℕ) → Stored old old at 0 (kept (slotAt t n m) 0)
+pub head-none : (f : ℕ → List ℕ) (old : List ℕ) (at c : ℕ) → c ≡ 0 → Stored old old at 0 (kept f c)
 unfolding kept
-head-first t n m old at = record { before = refl; number = refl; here = window-none at old }
+head-none f old at c e = rw e (record { before = refl; number = refl; here = window-none at old })
+
+-- the first is kept, whatever it is
+pub head-first : (f : ℕ → List ℕ) (old : List ℕ) (at : ℕ) → at < length old
+    → Stored (set old at 0) (set old at 0) at 1 (kept f 1)
+unfolding kept keep heldIn window
+head-first f old at h =
+    let z : at + 0 ≡ at = omega arith in
+    record { before = refl; number = refl; here = rw z at (snoc-window old at 0 0 (omega arith)) }
+
+pub head-done : (old new : List ℕ) (at r : ℕ) (ks : List ℕ) → Stored (set old at 0) new at r ks
+    → Stored old new at r ks
+head-done old new at r ks h =
+    record {
+      before = h .before ∙ take-set-le at old at 0 (omega arith);
+      number = h .number;
+      here = h .here;
+    }
 
 module _ (t : Table) (n m : ℕ) (old new : List ℕ) (at k i : ℕ) (h : Stored old new at k (kept (slotAt t n m) i)) where
   module _ (s : List ℕ) (es : s ≡ slotAt t n m i) (b : Bool) (eb : b ≡ heldIn (slotAt t n m) (window at k new) s)

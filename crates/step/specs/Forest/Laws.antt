@@ -151,12 +151,12 @@ module _ (t : Table) (e : ℕ) where
 
   -- ---- a tree that takes the event
 
-  kept-both : (n m : ℕ) (l r : Residual) → inSet t (termOf t n) m e ≡ true → afterKept t e (pair n m l r)
+  pub kept-both : (n m : ℕ) (l r : Residual) → inSet t (termOf t n) m e ≡ true → afterKept t e (pair n m l r)
       ≡ pairs n m (afterKept t e l) (afterKept t e r)
   unfolding afterKept
   kept-both n m l r h = rw (h, afterKept)
 
-  kept-either : (n m : ℕ) (l r : Residual) → inSet t (termOf t n) m e ≡ false
+  pub kept-either : (n m : ℕ) (l r : Residual) → inSet t (termOf t n) m e ≡ false
       → afterKept t e (pair n m l r) ≡ pairs n m (afterKept t e l) (r ∷ []) ++ pairs n m (l ∷ []) (afterKept t e r)
   unfolding afterKept
   kept-either n m l r h = rw (h, afterKept)
@@ -221,7 +221,7 @@ module _ (t : Table) (e : ℕ) where
 
 -- ---- a tree that cannot take the event
 
-pairs-nil : (n m : ℕ) (ls : List Residual) → pairs n m ls [] ≡ []
+pub pairs-nil : (n m : ℕ) (ls : List Residual) → pairs n m ls [] ≡ []
 unfolding pairs
 pairs-nil n m [] = refl
 pairs-nil n m (l ∷ ls) = pairs-nil n m ls

@@ -10,7 +10,7 @@ use mathlib.Core.Bool.{Bool, true, false}
 use mathlib.Core.List.{List, [], _∷_, _++_}
 use lib.ListN.{length}
 use borrow.Author.Tests.{ltb-false}
-use Rattle.step.specs.Slots.{insertAnswer, insertWords, answerBy, seek}
+use Rattle.step.specs.Slots.{insertAnswer, insertWords, answerBy, placeIn}
 use Rattle.step.specs.declared.slots.Inserted.{Inserted}
 use Rattle.step.specs.declared.slots.Inserted.the-variants as ins
 use Rattle.step.specs.declared.slots.Held.{Held}
@@ -69,7 +69,7 @@ new-by (place.At i) false e = refl
 
 new-room : (l : List ℕ) (c : ℕ) (s : List ℕ) → ins.New ≡ insertAnswer l c s → c * 16 + 16 ≤ length l
 unfolding insertAnswer
-new-room l c s e = omega (arith, ltb-false (length l - c * 16) 16 (new-by (seek c l s 0) _ e))
+new-room l c s e = omega (arith, ltb-false (length l - c * 16) 16 (new-by (placeIn c l s) _ e))
 
 module _ (l : List ℕ) (c : ℕ) (s : List ℕ) (a : Inserted) (x : List ℕ) (ea : a ≡ insertAnswer l c s)
     (ex : x ≡ insertWords l c s) (same : length x ≡ length l) (h : c * 16 ≤ length l) where

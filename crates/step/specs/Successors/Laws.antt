@@ -71,12 +71,12 @@ module _ (t : Table) (e : ℕ) (src : List ℕ) (rs : List Residual) (h : Holds 
       ≡ said (Count (length (canonFrom [] (slotsOf (allKept t e rs)))))
       (areaOf most (canonFrom [] (slotsOf (allKept t e rs))))
   step-holds k =
-      given ∙ put-canon most [] (slotsOf (allKept t e rs)) tt (slots-of-slots (allKept t e rs)) (omega arith) k
+      given ∙ put-canon most [] (slotsOf (allKept t e rs)) tt tt (slots-of-slots (allKept t e rs)) (omega arith) k
 
   pub step-exceeds : most < length (canonFrom [] (slotsOf (allKept t e rs)))
       → (putAll (replicate (most * 16) 0) 0 (gathered t e src (length rs) 0)) .held ≡ Exceeded
   step-exceeds k =
-      ap (λ o. o .held) given ∙ put-exceeded-canon most [] (slotsOf (allKept t e rs)) tt
+      ap (λ o. o .held) given ∙ put-exceeded-canon most [] (slotsOf (allKept t e rs)) tt tt
       (slots-of-slots (allKept t e rs)) (omega arith) k
 
 -- ---- the same with the repeats

@@ -91,7 +91,7 @@ module _ {t : Table} {area : List ℕ} (k : ℕ) (s : TreeAt t area k) where
   tree-split : drop k area ≡ getD area k 0 ∷ drop (k + 1) area
   tree-split = drop-cons area k 0 tree-in ∙ rw add-one
 
-  first-word : {x : ℕ} {xs : List ℕ} → drop k area ≡ (x ∷ xs) → (getD area k 0 ≡ x) × (drop (k + 1) area ≡ xs)
+  pub first-word : {x : ℕ} {xs : List ℕ} → drop k area ≡ (x ∷ xs) → (getD area k 0 ≡ x) × (drop (k + 1) area ≡ xs)
   first-word g = let w = sym tree-split ∙ g in (cc, cc)
 
   known-by : (r : Residual) (ws : List ℕ) → drop k area ≡ words r ++ ws → Valid t r → KnownWord t (getD area k 0)
@@ -102,16 +102,17 @@ module _ {t : Table} {area : List ℕ} (k : ℕ) (s : TreeAt t area k) where
   pub tree-known : KnownWord t (getD area k 0)
   tree-known = known-by (s .tree) (s .tail) (s .spelt) (s .valid)
 
-  pub record Sides : Type 0 where
+  pub record Sides (whole : Residual) : Type 0 where
     pub l : Residual
     pub r : Residual
     pub tail : List ℕ
+    pub size : length (words whole) ≡ suc (length (words l) + length (words r))
     pub spelt : drop (k + 1) area ≡ words l ++ (words r ++ tail)
     pub left : Valid t l
     pub right : Valid t r
 
   sides-by : (r : Residual) (ws : List ℕ) → drop k area ≡ words r ++ ws → Valid t r → kindAt t (getD area k 0) ≡ 4
-      → Sides
+      → Sides r
   unfolding words
   sides-by (leaf n m) ws g v q =
       absurd (v .1 (sym (kind-of-node n m (v .0 .0) t) ∙ ap (kindAt t) (sym (first-word g .0)) ∙ q))
@@ -119,17 +120,18 @@ module _ {t : Table} {area : List ℕ} (k : ℕ) (s : TreeAt t area k) where
     l = l;
     r = r;
     tail = ws;
+    size = ap suc (length-append (words l) (words r));
     spelt = first-word g .1 ∙ append-assoc (words l) (words r) ws;
     left = v .2;
     right = v .3;
   }
 
-  skipped : (a b : List ℕ) → drop (k + 1) area ≡ a ++ b → drop (k + 1 + length a) area ≡ b
+  pub skipped : (a b : List ℕ) → drop (k + 1) area ≡ a ++ b → drop (k + 1 + length a) area ≡ b
   skipped a b g =
       sym (drop-drop (length a) (k + 1) area) ∙ ap (drop (length a)) g ∙ drop-at a b (length a) refl
 
   module _ (q : kindAt t (getD area k 0) ≡ 4) where
-    sides : Sides
+    pub sides : Sides (s .tree)
     sides = sides-by (s .tree) (s .tail) (s .spelt) (s .valid) q
 
     pub tree-left : TreeAt t area (k + 1)

@@ -1,8 +1,8 @@
 -- `step::leaves::distinct` meets its contract: the first k indices stored are those kept of the first i. Assumes
 -- nothing.
-use Prim.Native.Nat.{_≤_, _-_}
+use Prim.Native.Nat.{_+_, _≤_, _-_}
 use native.Mathlib.Omega.{arith}
-use mathlib.Core.Path.{_≡_, refl}
+use mathlib.Core.Path.{_≡_, refl, _∙_}
 use lib.ListN.{length, length-set}
 use borrow.Author.Needs.{needs}
 use denote.Ref.{now}
@@ -10,7 +10,8 @@ use Rattle.table.specs.Index.{tableIn}
 use Rattle.index.proofs.branches.Reads as branches-reads
 use Rattle.step.specs.Residual.{resolved}
 use Rattle.step.specs.Distinct.{slotAt, kept, Stored}
-use Rattle.step.specs.Distinct.Laws.{branches-exact, head-first, head-held, head-new, indices-below}
+use Rattle.step.specs.Distinct.Laws.{branches-exact, head-none, head-first, head-held, head-new, head-done}
+use Rattle.step.specs.Distinct.Laws.{indices-below}
 use Rattle.step.proofs.leaves.distinct.Statement.{statement}
 use Rattle.step.proofs.leaves.distinct.Tie as tie
 use Rattle.step.proofs.leaves.distinct.Reads as reads
@@ -21,7 +22,7 @@ use Rattle.step.proofs.leaves.result.Reads as result-reads
 abbrev Inv-loop : tie.InvT-loop
 Inv-loop list work bound n m store₀ at c k₀ i₀ store k i =
     (i ≤ c) × (c ≡ length (resolved (tableIn list) n m)) × (c ≤ 256) × (length store ≡ length store₀) × (k ≤ i)
-    × Stored store₀ store at k (kept (slotAt (tableIn list) n m) i)
+    × Stored store₀ store at k (kept (slotAt (tableIn list) n m) i) × (at + 256 ≤ length store)
 
 abbrev μ-loop : tie.MeasureT-loop
 μ-loop list work bound n m store₀ at c k₀ i₀ store k i = c - i
@@ -29,20 +30,41 @@ abbrev μ-loop : tie.MeasureT-loop
 branches-requires : tie.Need-branches-requires Inv-loop μ-loop
 branches-requires c κs = (c .before .before .before .pre .0, c .before .before .before .pre .1 .0 .within)
 
+-- there is no residual
+returns : tie.Need-returns Inv-loop μ-loop
+returns c =
+    let at-start = c .before .before .before .before .before in
+    let q = branches-exact _ _ _ (at-start .args .m) _ (at-start .pre .1 .0) (c .before .branches .ensures .0) in
+    head-none _ _ _ _ (omega (arith, q .0))
+
+mul-store : tie.Need-mul-store Inv-loop μ-loop
+mul-store c = search needs
+
+slice-write-store : tie.Need-slice-write-store Inv-loop μ-loop
+slice-write-store c = search needs
+
 loop-holds : tie.Need-loop-holds Inv-loop μ-loop
 loop-holds c =
-    let at-start = c .before .before .before .before in
-    let q = branches-exact _ _ _ (at-start .args .m) _ (at-start .pre .1 .0) (c .branches .ensures .0) in
-    (omega arith, q .0, q .1, refl, omega arith, head-first _ _ _ _ _)
+    let at-start = c .before .before .before .before .before in
+    let q = branches-exact _ _ _ (at-start .args .m) _ (at-start .pre .1 .0) (c .before .branches .ensures .0) in
+    let room = at-start .pre .1 .1 in (
+      omega arith,
+      q .0,
+      q .1,
+      refl,
+      omega arith,
+      head-first _ (now (at-start .args .store)) (at-start .args .at) (omega (arith, room)),
+      simp length-set room,
+    )
 
 result-requires : tie.Need-result-requires Inv-loop μ-loop
 result-requires c κs =
-    let at-start = c .before .before .before .before .before .before in
+    let at-start = c .before .before .before .before .before .before .before in
     (at-start .pre .0, ((at-start .pre .1 .0, omega (arith, c .before .loop .inv .1))))
 
 found-requires : tie.Need-found-requires Inv-loop μ-loop
 found-requires c κs =
-    let at-start = c .before .before .before .before .before .before .before .before in (
+    let at-start = c .before .before .before .before .before .before .before .before .before in (
       at-start .pre .0,
       ((
         at-start .pre .1 .0,
@@ -68,17 +90,18 @@ loop-again c = (
   c .before .before .before .before .before .loop .inv .3,
   omega arith,
   head-held _ _ _ _ _ _ _ _ (c .before .before .before .before .before .loop .inv .5) _
-      (c .before .before .before .result .ensures) _ (c .before .found .ensures) (c .if1 .taken),
+      (c .before .before .before .result .ensures) _ (c .before .found .ensures) (c .if2 .taken),
+  c .before .before .before .before .before .loop .inv .6,
 )
 
 add-store : tie.Need-add-store Inv-loop μ-loop
 add-store c = search needs
 
-mul-store : tie.Need-mul-store Inv-loop μ-loop
-mul-store c = search needs
+mul-store-2 : tie.Need-mul-store-2 Inv-loop μ-loop
+mul-store-2 c = search needs
 
-slice-write-store : tie.Need-slice-write-store Inv-loop μ-loop
-slice-write-store c = search needs
+slice-write-store-2 : tie.Need-slice-write-store-2 Inv-loop μ-loop
+slice-write-store-2 c = search needs
 
 add-k : tie.Need-add-k Inv-loop μ-loop
 add-k c = search needs
@@ -94,21 +117,25 @@ loop-again-2 c = (
   omega arith,
   c .before .before .before .before .before .loop .inv .1,
   c .before .before .before .before .before .loop .inv .2,
-  simp length-set (c .before .before .before .before .before .loop .inv .3),
+  length-set (c .before .before .before .before .before .loop .store) _ _
+      ∙ c .before .before .before .before .before .loop .inv .3,
   omega arith,
   head-new _ _ _ _ _ _ _ _ (c .before .before .before .before .before .loop .inv .5) _
-      (c .before .before .before .result .ensures) _ (c .before .found .ensures) (c .if1 .left) (omega arith),
+      (c .before .before .before .result .ensures) _ (c .before .found .ensures) (c .if2 .left) (omega arith),
+  simp length-set (c .before .before .before .before .before .loop .inv .6),
 )
 
 same-length : tie.Need-same-length Inv-loop μ-loop
-same-length c = search needs
+same-length c =
+    let at-start = c .before .before .before .before .before .before .before in
+    c .before .loop .inv .3 ∙ length-set (now (at-start .args .store)) _ _
 
-returns : tie.Need-returns Inv-loop μ-loop
-returns c =
-    let at-start = c .before .before .before .before .before .before in
+returns-2 : tie.Need-returns-2 Inv-loop μ-loop
+returns-2 c =
+    let at-start = c .before .before .before .before .before .before .before in
     let e : c .before .loop .i
     ≡ length (resolved (tableIn (now (at-start .args .list))) (at-start .args .n) (at-start .args .m)) = omega
-    (arith, c .before .loop .inv .1) in rw e at (c .before .loop .inv .5)
+    (arith, c .before .loop .inv .1) in head-done _ _ _ _ _ (rw e at (c .before .loop .inv .5))
 
 pub distinct-spec : {M : Type 1} → statement M
 distinct-spec =
@@ -117,6 +144,9 @@ distinct-spec =
     Inv-loop
     μ-loop
     branches-requires
+    returns
+    mul-store
+    slice-write-store
     loop-holds
     result-requires
     found-requires
@@ -124,11 +154,11 @@ distinct-spec =
     loop-less
     loop-again
     add-store
-    mul-store
-    slice-write-store
+    mul-store-2
+    slice-write-store-2
     add-k
     add-i-2
     loop-less-2
     loop-again-2
     same-length
-    returns)
+    returns-2)

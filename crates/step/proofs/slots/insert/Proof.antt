@@ -4,26 +4,26 @@ use mathlib.Core.Path.{_≡_, sym, _∙_}
 use borrow.Author.Needs.{needs}
 use denote.Ref.{now}
 use Rattle.step.specs.declared.slots.Place.the-variants.{At}
-use Rattle.step.specs.Slots.{seek}
-use Rattle.step.specs.Slots.Laws.{seek-bound, insert-held, insert-full, insert-new}
+use Rattle.step.specs.Slots.{placeIn}
+use Rattle.step.specs.Slots.Laws.{place-bound, insert-held, insert-full, insert-new}
 use Rattle.step.proofs.slots.insert.Statement.{statement}
 use Rattle.step.proofs.slots.insert.Tie as tie
 use Rattle.step.proofs.slots.insert.Reads as reads
 use Rattle.step.proofs.slots.insert.Lts as lts
-use Rattle.step.proofs.slots.find_place.Reads as find-place-reads
+use Rattle.step.proofs.slots.place_of.Reads as place-of-reads
 use Rattle.step.proofs.slots.open_gap.Reads as open-gap-reads
 use Rattle.step.proofs.slots.store.Reads as store-reads
 
 -- the place that was found, where it is known that there is room
 found : (q : tie.Else1) →
     At (q .before .before .i .given .0 .0)
-    ≡ seek (q .before .before .before .before .before .before .before .before .args .count)
+    ≡ placeIn (q .before .before .before .before .before .before .before .before .args .count)
     (now (q .before .before .before .before .before .before .before .before .args .area))
-    (now (q .before .before .before .before .before .before .before .before .args .slot)) 0
-found q = sym (q .before .before .i .given .1) ∙ q .before .before .before .before .find-place .ensures
+    (now (q .before .before .before .before .before .before .before .before .args .slot))
+found q = sym (q .before .before .i .given .1) ∙ q .before .before .before .before .place-of .ensures
 
-find-place-requires : tie.Need-find-place-requires
-find-place-requires c κs = search needs
+place-of-requires : tie.Need-place-of-requires
+place-of-requires c κs = search needs
 
 enum-told : tie.Need-enum-told
 enum-told c = search needs
@@ -42,23 +42,23 @@ same-length c = search needs
 
 returns : tie.Need-returns
 returns c =
-    insert-full _ _ _ (sym (c .before .before .i .given .1) ∙ c .before .before .before .before .find-place .ensures)
+    insert-full _ _ _ (sym (c .before .before .i .given .1) ∙ c .before .before .before .before .place-of .ensures)
     (c .if1 .taken)
 
 mul-p : tie.Need-mul-p
-mul-p c = omega (arith, seek-bound _ _ _ _ _ (found c))
+mul-p c = omega (arith, place-bound _ _ _ _ (found c))
 
 open-gap-requires : tie.Need-open-gap-requires
-open-gap-requires c κs = omega (arith, seek-bound _ _ _ _ _ (found (c .before)))
+open-gap-requires c κs = omega (arith, place-bound _ _ _ _ (found (c .before)))
 
 store-requires : tie.Need-store-requires
-store-requires c κs = omega (arith, seek-bound _ _ _ _ _ (found (c .before .before .before .before .before)))
+store-requires c κs = omega (arith, place-bound _ _ _ _ (found (c .before .before .before .before .before)))
 
 same-length-2 : tie.Need-same-length-2
 same-length-2 c = search needs
 
 returns-2 : tie.Need-returns-2
-returns-2 c = insert-held _ _ _ (sym (c .enum-told .given .1) ∙ c .before .before .find-place .ensures)
+returns-2 c = insert-held _ _ _ (sym (c .enum-told .given .1) ∙ c .before .before .place-of .ensures)
 
 same-length-3 : tie.Need-same-length-3
 same-length-3 c = search needs
@@ -73,7 +73,7 @@ pub insert-spec : {M : Type 1} → statement M
 insert-spec =
     tie.close
     (tie.spec
-    find-place-requires
+    place-of-requires
     enum-told
     enum-known-i
     mul-n

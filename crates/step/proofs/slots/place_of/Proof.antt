@@ -1,0 +1,113 @@
+-- `step::slots::place_of` meets its contract: the order of the words from j on is that of the last slot. The measure is
+-- what is left of its words. Assumes nothing.
+use Prim.Native.Nat.{_+_, _-_, _*_, _≤_, _<_}
+use native.Mathlib.Omega.{arith}
+use mathlib.Core.Path.{_≡_, refl, sym, _∙_}
+use borrow.Author.Needs.{needs}
+use Rattle.step.specs.Slots.{order}
+use Rattle.step.specs.Slots.Laws.{order-none, order-below, order-above, order-on, place-none, place-held}
+use Rattle.step.specs.Slots.Laws.{place-end, place-search}
+use Rattle.step.proofs.slots.place_of.Statement.{statement}
+use Rattle.step.proofs.slots.place_of.Tie as tie
+use Rattle.step.proofs.slots.place_of.Reads as reads
+use Rattle.step.proofs.slots.place_of.Lts as lts
+use Rattle.step.proofs.slots.find_place.Reads as find-place-reads
+
+abbrev Inv-loop : tie.InvT-loop
+Inv-loop area count slot p j₀ j =
+    (j ≤ 16) × (0 < count) × (p ≡ (count - 1) * 16) × (order (16 - j) area (p + j) slot j ≡ order 16 area p slot 0)
+
+abbrev μ-loop : tie.MeasureT-loop
+μ-loop area count slot p j₀ j = 16 - j
+
+returns : tie.Need-returns Inv-loop μ-loop
+returns c = place-none _ _ _ (omega arith)
+
+sub-p : tie.Need-sub-p Inv-loop μ-loop
+sub-p c = search needs
+
+mul-p : tie.Need-mul-p Inv-loop μ-loop
+mul-p c = search needs
+
+loop-holds : tie.Need-loop-holds Inv-loop μ-loop
+loop-holds c = (
+  omega arith,
+  omega arith,
+  omega arith,
+  let e : (c .before .before .before .args .count - 1) * 16 + 0
+      ≡ (c .before .before .before .args .count - 1) * 16 = omega arith in rw e,
+)
+
+add-held : tie.Need-add-held Inv-loop μ-loop
+add-held c = search needs
+
+mul-held : tie.Need-mul-held Inv-loop μ-loop
+mul-held c = search needs
+
+shared-slice-read-held : tie.Need-shared-slice-read-held Inv-loop μ-loop
+shared-slice-read-held c = search needs
+
+mul-new : tie.Need-mul-new Inv-loop μ-loop
+mul-new c = search needs
+
+shared-slice-read-new : tie.Need-shared-slice-read-new Inv-loop μ-loop
+shared-slice-read-new c = search needs
+
+returns-2 : tie.Need-returns-2 Inv-loop μ-loop
+returns-2 c =
+    let k = c .before .before .before .before .loop in
+    place-end _ _ _ _ (omega arith) (k .inv .2)
+    (sym (k .inv .3) ∙ order-above _ _ _ _ _ (omega arith) (c .if2 .taken))
+
+find-place-requires : tie.Need-find-place-requires Inv-loop μ-loop
+find-place-requires c κs = search needs
+
+returns-3 : tie.Need-returns-3 Inv-loop μ-loop
+returns-3 c =
+    let k = c .before .before .before .before .before .before .loop in
+    c .find-place .ensures
+    ∙ place-search _ _ _ _ (omega arith) (k .inv .2)
+    (sym (k .inv .3) ∙ order-below _ _ _ _ _ (omega arith) (c .before .if3 .taken))
+
+add-j : tie.Need-add-j Inv-loop μ-loop
+add-j c = search needs
+
+loop-less : tie.Need-loop-less Inv-loop μ-loop
+loop-less c = search needs
+
+loop-again : tie.Need-loop-again Inv-loop μ-loop
+loop-again c =
+    let k = c .before .before .before .before .before .loop in (
+      omega arith,
+      k .inv .1,
+      k .inv .2,
+      order-on _ _ _ _ _ _ _ (omega arith) (omega arith) (c .if3 .left) (c .before .if2 .left) ∙ k .inv .3,
+    )
+
+returns-4 : tie.Need-returns-4 Inv-loop μ-loop
+returns-4 c =
+    let k = c .before .loop in
+    place-held _ _ _ _ (omega arith) (k .inv .2) (sym (k .inv .3) ∙ order-none _ _ _ _ _ (omega arith))
+
+pub place-of-spec : {M : Type 1} → statement M
+place-of-spec =
+    tie.close
+    (tie.spec
+    Inv-loop
+    μ-loop
+    returns
+    sub-p
+    mul-p
+    loop-holds
+    add-held
+    mul-held
+    shared-slice-read-held
+    mul-new
+    shared-slice-read-new
+    returns-2
+    find-place-requires
+    returns-3
+    add-j
+    loop-less
+    loop-again
+    returns-4)
