@@ -147,9 +147,9 @@ uint32_t cspe_offer(const uint16_t *list, size_t list_length, const uint64_t *re
 /*
  * View: where the residuals stand. It takes no table and never refuses.
  *     record, area0, area1    the monitor, which is only read
- * It returns how many words the residuals' slots are, from the beginning of area *area, which is 0 or 1. After a
- * failure, and where the record's residuals are more than that area has room for, and where the record is not of
- * CSPE_RECORD_WORDS words, it returns 0 and *area is 0.
+ * It returns how many words the residuals' slots are; they begin area *area, which is 0 or 1. It returns 0, and *area is
+ * 0, after a failure, where the record holds no residual or more than that area has room for, and where record is not
+ * of CSPE_RECORD_WORDS words.
  */
 size_t cspe_view(const uint64_t *record, size_t record_length, const uint64_t *area0, size_t area0_length,
                  const uint64_t *area1, size_t area1_length, uint64_t *area);

@@ -1,5 +1,6 @@
 -- A proof of each claim of `specs/Claims.antt`. Assumes nothing.
 use Prim.Native.Nat.{ℕ}
+use native.Mathlib.Omega.{arith}
 use mathlib.Core.Path.{_≡_, ap, sym, subst, _∙_}
 use mathlib.Core.List.{List, []}
 use mathlib.Core.Bool.{true}
@@ -11,10 +12,10 @@ use Rattle.monitor_spec.specs.Part.Numbers.{number-at}
 use Rattle.monitor_spec.specs.Regular.{Regular}
 use Rattle.monitor_spec.specs.Regular.Laws.{regular}
 use Rattle.monitor_spec.specs.Residual.Traces.{traces-run, traces-definition}
-use Rattle.monitor_spec.specs.Residual.{Residual}
+use Rattle.monitor_spec.specs.Residual.{Residual, residualsOf}
 use Rattle.monitor_spec.specs.Residual.Calls.{resolveDef-body}
-use Rattle.monitor_spec.specs.Residual.Counts.{resolve-length}
-use Rattle.monitor_spec.specs.Slots.Canonical.{slots-sorted, in-slots}
+use Rattle.monitor_spec.specs.Residual.Counts.{resolve-length, residuals-few}
+use Rattle.monitor_spec.specs.Slots.Canonical.{slots-sorted, in-slots, slots-few}
 use Rattle.monitor_spec.specs.Valid.{slotResidual, validSlot}
 use Rattle.monitor_spec.specs.Valid.Laws.{valid-proper, proper-valid}
 use Rattle.monitor_spec.specs.Valid.Residuals.{read-back}
@@ -22,7 +23,7 @@ use Rattle.monitor_spec.specs.State.{Monitor, areasMeasured, workMeasure
 use Rattle.monitor_spec.specs.Consistent.{consistent}
 use Rattle.monitor_spec.specs.Consistent.Reading.{consistent-laid}
 use Rattle.monitor_spec.specs.Consistent.Laws.{laid-still}
-use Rattle.monitor_spec.specs.Joined.{joined}
+use Rattle.monitor_spec.specs.Joined.{residualCount, joined}
 use Rattle.monitor_spec.specs.Expected.{monitorAfter}
 use Rattle.monitor_spec.specs.Stops.{JudgesOne}
 use Rattle.monitor_spec.specs.Expected.Steps.{Fed}
@@ -32,7 +33,7 @@ use Rattle.monitor_spec.specs.Claims.{ResidualsAreTraces, DefinitionsAre
 use Rattle.monitor_spec.specs.Claims.{CallsResolve, SlotsTell, SlotsOnce, ValidExactly, ConsistentExactly}
 use Rattle.monitor_spec.specs.Claims.{StartRefusedExactly, StartGives, StartAnswers, StartBuffers, StartExceeds}
 use Rattle.monitor_spec.specs.Claims.{FeedRefusedExactly, FeedStopsExactly, FeedGivesExactly, FeedBuffers}
-use Rattle.monitor_spec.specs.Claims.{OfferRefusedExactly, OfferBits, OfferBuffers}
+use Rattle.monitor_spec.specs.Claims.{StartFits, OfferRefusedExactly, OfferBits, OfferBuffers}
 use Rattle.monitor_spec.specs.Claims.{Judges, Answers, Histories, OffersTraces, ViewsResiduals, FeedKeeps}
 use Rattle.monitor_spec.specs.Claims.{Examples, Cases, Buffers}
 use Rattle.monitor_spec.proofs.Endings.{T-true, true-T}
@@ -100,6 +101,13 @@ consistent-exactly t rules m a =
 pub resolves-branches : ResolvesBranches
 unfolding ResolvesBranches
 resolves-branches t rules n m p e = resolve-length t rules m (number-at t n p e .stands)
+
+pub start-fits : StartFits
+unfolding StartFits residualCount
+start-fits t rules =
+    let a = slots-few (residualsOf t []) in
+    let b = residuals-few t rules in
+    omega arith
 
 pub start-refused-exactly : StartRefusedExactly
 unfolding StartRefusedExactly

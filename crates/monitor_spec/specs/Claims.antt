@@ -3,7 +3,7 @@
 --     ResidualsAreTraces      of every list of residual trees
 --     DefinitionsAreTraces    from every definition;  LastIsTraces: from the last
 --     CallsResolve            a call resolves to what the body does
---     ResolvesBranches        resolving lists as many residuals as the term has branches
+--     ResolvesBranches        resolving lists as many residuals as the term has branches;  StartFits: 256 at Start
 --     SlotsTell               a slot tells its residual;  SlotsOnce: slots ascend, each once
 --     ValidExactly            the valid slots are those of proper residuals
 --     ConsistentExactly       the consistent monitors are those laid out of proper residuals
@@ -90,6 +90,10 @@ ResolvesBranches =
     (t : Table) → Rules t → (n : ℕ) (m : Memory) (p : Table.Term) → termAt t n ≡ some p
     → length (resolve t n m) ≡ branches t p
 
+-- 01, "Openings": "Each body .. has at most 256": with 256 slots Start is never refused with 13
+unfoldable pub StartFits : Type 0
+StartFits = (t : Table) → Rules t → residualCount t [] ≤ 256
+
 -- 01, "Residuals": "Two residuals are equal when their words are."
 unfoldable pub SlotsTell : Type 0
 SlotsTell = (t : Table) → Rules t → (r q : Residual) → Proper t r → Proper t q → slotOf r ≡ slotOf q → r ≡ q
@@ -103,8 +107,7 @@ SlotsOnce =
 -- 01, "Disturbed": "A valid slot is one whole residual tree .."
 unfoldable pub ValidExactly : Type 0
 ValidExactly =
-    (t : Table) → Rules t → (w : List ℕ)
-    → T (validSlot t w) ↔ ((r : Residual) × (slotOf r ≡ w) × Proper t r)
+    (t : Table) → Rules t → (w : List ℕ) → T (validSlot t w) ↔ ((r : Residual) × (slotOf r ≡ w) × Proper t r)
 
 -- 01, "Disturbed", on areas of the right lengths
 unfoldable pub ConsistentExactly : Type 0
@@ -176,8 +179,7 @@ unfoldable pub OfferBuffers : Type 0
 OfferBuffers =
     (l : List ℕ) (m : Monitor) (w : List ℕ)
     → WorkLeft (m .area0) (m .area1) w (offerOf l m w .work)
-    × (offerOf l m w .area0 ≡ m .area0)
-    × (offerOf l m w .area1 ≡ m .area1)
+    × (offerOf l m w .area0 ≡ m .area0) × (offerOf l m w .area1 ≡ m .area1)
 
 -- 01: "crowded: residuals .. at Start, exceed the slots", place 0, when refusal 1 is not met
 unfoldable pub StartExceeds : Type 0

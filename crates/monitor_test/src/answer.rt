@@ -1,90 +1,150 @@
-// Answers as numbers, in the order of the file, and what a call leaves in the lent areas
-// (01, "Operations", "When the monitor declines").
-//     answer_of      of Start and Feed: NUMBER PLACE HAS TAKEN COUNT FAILED AT
-//     offered_of     of Offer: NUMBER PLACE MASK
-//     next           what is lent to the next call: the record that was handed back, if any
-//     judge          an answer, areas and work area held to what is stored
+// An answer and what a call leaves in the lent areas, held to what is stored (01, "Operations",
+// "When the monitor declines").
+//     judge            of Start and Feed: NUMBER PLACE HAS TAKEN COUNT FAILED AT DIGEST KEPT
+//     judge_offered    of Offer: NUMBER PLACE MASK DIGEST KEPT
+//     judge_part       of View: AREA LENGTH
 use crate::areas;
+use crate::lent::Done;
 use crate::lent::Lent;
 use crate::lent::Outcome;
 use crate::lent::Record;
+use crate::lent::malformed;
+use crate::lent::no_record;
+use crate::lent::record_of;
 use crate::lent::with_record;
 use monitor::Answer;
 use monitor::Offered;
-use monitor::State;
-use monitor::Verdict;
-use table::Refusal;
 
-fn given(number: u64, place: u64, s: State) -> [u64; 7] {
-    let verdict = s.verdict;
-    match verdict {
-        Verdict::Running => [number, place, 1, s.taken, s.count, 0, 0],
-        Verdict::Failed(at) => [number, place, 1, s.taken, s.count, 1, at],
-    }
+// An answer as the file has it: `has` is 1 if there is a record.
+struct Fields {
+    number: u64,
+    place: u64,
+    has: u64,
+    record: Record,
 }
 
-pub fn answer_of(answer: Answer) -> [u64; 7] {
-    match answer {
-        Answer::Given(s) => given(0, 0, s),
-        Answer::Refused(r) => [r.number as u64, r.place as u64, 0, 0, 0, 0, 0],
-        Answer::Stopped(r, s) => given(r.number as u64, r.place as u64, s),
-    }
-}
-
-pub fn offered_of(answer: Offered) -> [u64; 3] {
-    match answer {
-        Offered::Offers(mask) => [0, 0, mask],
-        Offered::Refused(r) => [r.number as u64, r.place as u64, 0],
-    }
-}
-
-pub fn next(answer: [u64; 7], l: Lent) -> Lent {
-    if answer[2] == 0 {
-        return l;
-    }
-    let record = Record {
-        taken: answer[3],
-        count: answer[4],
-        failed: answer[5],
-        at: answer[6],
-    };
-    with_record(l, record)
-}
-
-pub fn outcome_of(right: bool) -> Outcome {
+fn outcome_of(right: bool) -> Outcome {
     if right {
         return Outcome::Right;
     }
     Outcome::Wrong
 }
 
-// `DIGEST KEPT`
-fn lent_right(area0: &[u64], area1: &[u64], work: &[u64], digest: u64, kept: u64) -> bool {
-    if areas::digest(areas::digest(1, area0), area1) != digest {
+fn fields_of(answer: Answer) -> Fields {
+    match answer {
+        Answer::Given(state) => Fields {
+            number: 0,
+            place: 0,
+            has: 1,
+            record: record_of(state),
+        },
+        Answer::Refused(refusal) => Fields {
+            number: refusal.number as u64,
+            place: refusal.place as u64,
+            has: 0,
+            record: no_record(),
+        },
+        Answer::Stopped(refusal, state) => Fields {
+            number: refusal.number as u64,
+            place: refusal.place as u64,
+            has: 1,
+            record: record_of(state),
+        },
+    }
+}
+
+// What is lent to the next call.
+fn next_lent(f: Fields, l: Lent) -> Lent {
+    if f.has == 0 {
+        return l;
+    }
+    with_record(l, f.record)
+}
+
+// The stored numbers begin with the answer's.
+fn answer_right(f: Fields, stored: &[u64]) -> bool {
+    let r = f.record;
+    let answer = [f.number, f.place, f.has, r.taken, r.count, r.failed, r.at];
+    areas::begins(stored, &answer)
+}
+
+fn offered_right(answer: Offered, stored: &[u64]) -> bool {
+    match answer {
+        Offered::Offers(mask) => areas::begins(stored, &[0, 0, mask]),
+        Offered::Refused(refusal) => {
+            let answer = [refusal.number as u64, refusal.place as u64, 0];
+            areas::begins(stored, &answer)
+        }
+    }
+}
+
+// `DIGEST KEPT`: the areas, and the work area.
+fn lent_right(area0: &[u64], area1: &[u64], work: &[u64], stored: &[u64]) -> bool {
+    if stored.len() != 2 {
         return false;
     }
-    if kept == 0 {
-        return areas::are_zero(work);
+    if areas::digest(areas::digest(1, area0), area1) != stored[0] {
+        return false;
     }
-    areas::are_junk(work)
+    if stored[1] == 1 {
+        return areas::are_junk(work, u64::MAX);
+    }
+    areas::are_zero(work)
 }
 
 pub fn judge(
-    answer: &[u64],
+    answer: Answer,
+    area0: &[u64],
+    area1: &[u64],
+    work: &[u64],
+    l: Lent,
+    stored: &[u64],
+) -> Done {
+    if stored.len() != 9 {
+        return malformed(l);
+    }
+    let f = fields_of(answer);
+    let lent = next_lent(f, l);
+    if !answer_right(f, stored) {
+        return Done {
+            outcome: Outcome::Wrong,
+            lent,
+        };
+    }
+    let from = 7;
+    let right = lent_right(area0, area1, work, &stored[from..]);
+    Done {
+        outcome: outcome_of(right),
+        lent,
+    }
+}
+
+pub fn judge_offered(
+    answer: Offered,
     area0: &[u64],
     area1: &[u64],
     work: &[u64],
     stored: &[u64],
 ) -> Outcome {
-    let n = answer.len();
-    if stored.len() <= n {
+    if stored.len() != 5 {
         return Outcome::Malformed;
     }
-    if stored.len() - n != 2 {
-        return Outcome::Malformed;
-    }
-    if !areas::begins(stored, answer) {
+    if !offered_right(answer, stored) {
         return Outcome::Wrong;
     }
-    outcome_of(lent_right(area0, area1, work, stored[n], stored[n + 1]))
+    let from = 3;
+    outcome_of(lent_right(area0, area1, work, &stored[from..]))
+}
+
+pub fn judge_part(part: &[u64], area0: &[u64], area1: &[u64], stored: &[u64]) -> Outcome {
+    if stored.len() != 2 {
+        return Outcome::Malformed;
+    }
+    if part.len() as u64 != stored[1] {
+        return Outcome::Wrong;
+    }
+    if stored[0] == 0 {
+        return outcome_of(areas::begins(area0, part));
+    }
+    outcome_of(areas::begins(area1, part))
 }

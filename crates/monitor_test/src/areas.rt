@@ -1,18 +1,17 @@
 // Words in lent areas.
-//     numbers, list, words, work, events  buffers as long as any that the file asks for
-//     memory                              list, area 0 and area 1, each at its place in lent.rt
-//     clear, fill                         zeros; junk that counts down from 2^64 - 1
+//     long_numbers .. events              buffers as long as any that the file asks for
+//     clear, fill                         zeros; junk, no word of it 0
 //     are_zero, are_junk                  whether there are zeros, or that junk
-//     put_numbers, put_bytes, copy        numbers put into another buffer, where they fit
+//     put_numbers, put_bytes, put_words   numbers put at a buffer's beginning, where they fit
 //     begins                              whether an area begins with these words
 //     digest                              one number for all words
 ghost use mathlib.Core.Path.{_≡_};
 ghost use lib.ListN.{length};
 
-pub fn memory() -> [u64; 28852]
-    ensures { λ r. ⌜ 28852 ≡ length r ⌝ }
+pub fn long_numbers() -> [u64; 16500]
+    ensures { λ r. ⌜ 16500 ≡ length r ⌝ }
 {
-    [0; 28852]
+    [0; 16500]
 }
 
 pub fn numbers() -> [u64; 5101]
@@ -45,8 +44,13 @@ pub fn events() -> [u8; 5100]
     [0; 5100]
 }
 
-fn junk(i: usize) -> u64 {
-    u64::MAX - i as u64
+// Word i of junk that counts down from a word.
+fn junk(first: u64, i: usize) -> u64 {
+    let n = i as u64;
+    if first < n {
+        return 1;
+    }
+    first - n
 }
 
 pub fn clear(area: &mut [u64]) {
@@ -57,10 +61,10 @@ pub fn clear(area: &mut [u64]) {
     }
 }
 
-pub fn fill(area: &mut [u64]) {
+pub fn fill(area: &mut [u64], first: u64) {
     let mut i = 0;
     while i < area.len() {
-        area[i] = junk(i);
+        area[i] = junk(first, i);
         i += 1;
     }
 }
@@ -76,10 +80,10 @@ pub fn are_zero(area: &[u64]) -> bool {
     true
 }
 
-pub fn are_junk(area: &[u64]) -> bool {
+pub fn are_junk(area: &[u64], first: u64) -> bool {
     let mut i = 0;
     while i < area.len() {
-        if area[i] != junk(i) {
+        if area[i] != junk(first, i) {
             return false;
         }
         i += 1;
@@ -119,23 +123,13 @@ pub fn put_bytes(numbers: &[u64], bytes: &mut [u8]) -> bool {
     true
 }
 
-// Puts n words of an area, from a place on, into another, at a place.
-pub fn copy(source: &[u64], from: usize, area: &mut [u64], to: usize, n: usize) -> bool {
-    if source.len() < from {
-        return false;
-    }
-    if source.len() - from < n {
-        return false;
-    }
-    if area.len() < to {
-        return false;
-    }
-    if area.len() - to < n {
+pub fn put_words(numbers: &[u64], area: &mut [u64]) -> bool {
+    if area.len() < numbers.len() {
         return false;
     }
     let mut i = 0;
-    while i < n {
-        area[to + i] = source[from + i];
+    while i < numbers.len() {
+        area[i] = numbers[i];
         i += 1;
     }
     true

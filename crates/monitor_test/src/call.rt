@@ -1,16 +1,24 @@
-// One call, with a work area full of junk, held to its stored answer.
+// One call, with a work area full of junk.
 //     call      the call of a letter
-use crate::answer::answer_of;
 use crate::answer::judge;
-use crate::answer::next;
-use crate::answer::offered_of;
-use crate::answer::outcome_of;
+use crate::answer::judge_offered;
+use crate::answer::judge_part;
 use crate::areas;
 use crate::lent::Done;
 use crate::lent::Lent;
-use crate::lent::Outcome;
 use crate::lent::malformed;
 use crate::lent::state_of;
+
+// The length of the work area; none is above 8,300, so 8,301 stands for all above.
+fn work_length(numbers: &[u64]) -> usize {
+    if numbers.len() == 0 {
+        return 8301;
+    }
+    if 8300 < numbers[0] {
+        return 8301;
+    }
+    numbers[0] as usize
+}
 
 fn start(
     list: &[u16],
@@ -20,16 +28,47 @@ fn start(
     l: Lent,
     stored: &[u64],
 ) -> Done {
-    let answer = answer_of(monitor::start(list, area0, area1, work));
-    let outcome = judge(&answer, area0, area1, work, stored);
-    Done {
-        outcome,
-        lent: next(answer, l),
-    }
+    areas::fill(work, u64::MAX);
+    let answer = monitor::start(list, area0, area1, work);
+    judge(answer, area0, area1, work, l, stored)
 }
 
-// Feed of the events that these numbers are.
+// `s WORK`
+fn try_start(
+    numbers: &[u64],
+    list: &[u16],
+    area0: &mut [u64],
+    area1: &mut [u64],
+    l: Lent,
+    stored: &[u64],
+) -> Done {
+    if numbers.len() != 1 {
+        return malformed(l);
+    }
+    let n = work_length(numbers);
+    if 8300 < n {
+        return malformed(l);
+    }
+    let mut work = areas::work();
+    start(list, area0, area1, &mut work[..n], l, stored)
+}
+
 fn feed(
+    list: &[u16],
+    area0: &mut [u64],
+    area1: &mut [u64],
+    events: &[u8],
+    work: &mut [u64],
+    l: Lent,
+    stored: &[u64],
+) -> Done {
+    areas::fill(work, u64::MAX);
+    let answer = monitor::feed(list, state_of(l), area0, area1, events, work);
+    judge(answer, area0, area1, work, l, stored)
+}
+
+// The events' numbers.
+fn feed_numbers(
     numbers: &[u64],
     list: &[u16],
     area0: &mut [u64],
@@ -38,21 +77,44 @@ fn feed(
     l: Lent,
     stored: &[u64],
 ) -> Done {
-    let mut events = areas::events();
-    let n = numbers.len();
-    if 5100 < n {
+    let count = numbers.len();
+    if 5100 < count {
         return malformed(l);
     }
+    let mut events = areas::events();
     if !areas::put_bytes(numbers, &mut events) {
         return malformed(l);
     }
-    let state = state_of(l);
-    let answer = answer_of(monitor::feed(list, state, area0, area1, &events[..n], work));
-    let outcome = judge(&answer, area0, area1, work, stored);
-    Done {
-        outcome,
-        lent: next(answer, l),
+    feed(list, area0, area1, &events[..count], work, l, stored)
+}
+
+// `f WORK e e ..`
+fn try_feed(
+    numbers: &[u64],
+    list: &[u16],
+    area0: &mut [u64],
+    area1: &mut [u64],
+    l: Lent,
+    stored: &[u64],
+) -> Done {
+    if numbers.len() < 1 {
+        return malformed(l);
     }
+    let n = work_length(numbers);
+    if 8300 < n {
+        return malformed(l);
+    }
+    let mut work = areas::work();
+    let one = 1;
+    feed_numbers(
+        &numbers[one..],
+        list,
+        area0,
+        area1,
+        &mut work[..n],
+        l,
+        stored,
+    )
 }
 
 fn offer(
@@ -63,52 +125,53 @@ fn offer(
     l: Lent,
     stored: &[u64],
 ) -> Done {
-    let answer = offered_of(monitor::offer(list, state_of(l), area0, area1, work));
-    let outcome = judge(&answer, area0, area1, work, stored);
-    Done { outcome, lent: l }
+    areas::fill(work, u64::MAX);
+    let answer = monitor::offer(list, state_of(l), area0, area1, work);
+    Done {
+        outcome: judge_offered(answer, area0, area1, work, stored),
+        lent: l,
+    }
 }
 
-// `AREA LENGTH`: the part that was handed back.
-fn judge_part(part: &[u64], area0: &[u64], area1: &[u64], stored: &[u64]) -> Outcome {
-    if stored.len() != 2 {
-        return Outcome::Malformed;
-    }
-    if part.len() as u64 != stored[1] {
-        return Outcome::Wrong;
-    }
-    if stored[0] == 0 {
-        return outcome_of(areas::begins(area0, part));
-    }
-    outcome_of(areas::begins(area1, part))
-}
-
-fn view<'a>(area0: &'a [u64], area1: &'a [u64], l: Lent, stored: &[u64]) -> Done {
-    let part = monitor::view(state_of(l), area0, area1);
-    let outcome = judge_part(part, area0, area1, stored);
-    Done { outcome, lent: l }
-}
-
-// The call of a letter that has a work area; `numbers` are the events.
-fn with_work(
-    kind: u8,
+// `o WORK`
+fn try_offer(
     numbers: &[u64],
     list: &[u16],
-    area0: &mut [u64],
-    area1: &mut [u64],
-    work: &mut [u64],
+    area0: &[u64],
+    area1: &[u64],
     l: Lent,
     stored: &[u64],
 ) -> Done {
-    areas::fill(work);
-    match kind {
-        b's' => start(list, area0, area1, work, l, stored),
-        b'f' => feed(numbers, list, area0, area1, work, l, stored),
-        b'o' => offer(list, area0, area1, work, l, stored),
-        _ => malformed(l),
+    if numbers.len() != 1 {
+        return malformed(l);
+    }
+    let n = work_length(numbers);
+    if 8300 < n {
+        return malformed(l);
+    }
+    let mut work = areas::work();
+    offer(list, area0, area1, &mut work[..n], l, stored)
+}
+
+// `v`
+fn try_view<'a>(
+    numbers: &[u64],
+    area0: &'a [u64],
+    area1: &'a [u64],
+    l: Lent,
+    stored: &[u64],
+) -> Done {
+    if numbers.len() != 0 {
+        return malformed(l);
+    }
+    let part = monitor::view(state_of(l), area0, area1);
+    Done {
+        outcome: judge_part(part, area0, area1, stored),
+        lent: l,
     }
 }
 
-// The call of a letter: `s WORK`, `f WORK e e ..`, `o WORK` or `v`.
+// The call of a letter; `numbers` stand before `=`, `stored` after it.
 pub fn call(
     kind: u8,
     numbers: &[u64],
@@ -118,26 +181,11 @@ pub fn call(
     l: Lent,
     stored: &[u64],
 ) -> Done {
-    if kind == b'v' {
-        return view(area0, area1, l, stored);
+    match kind {
+        b's' => try_start(numbers, list, area0, area1, l, stored),
+        b'f' => try_feed(numbers, list, area0, area1, l, stored),
+        b'o' => try_offer(numbers, list, area0, area1, l, stored),
+        b'v' => try_view(numbers, area0, area1, l, stored),
+        _ => malformed(l),
     }
-    if numbers.len() < 1 {
-        return malformed(l);
-    }
-    if 8300 < numbers[0] {
-        return malformed(l);
-    }
-    let n = numbers[0] as usize;
-    let first = 1;
-    let mut work = areas::work();
-    with_work(
-        kind,
-        &numbers[first..],
-        list,
-        area0,
-        area1,
-        &mut work[..n],
-        l,
-        stored,
-    )
 }

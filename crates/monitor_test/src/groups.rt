@@ -66,6 +66,11 @@ fn with_tally(r: Run, tally: Tally) -> Run {
     Run { tally, lent }
 }
 
+// The next line is longer than the buffer.
+pub fn too_long(r: Run) -> Run {
+    with_tally(r, malformed(next_line(r.tally)))
+}
+
 // One more, as far as any file goes.
 fn more(n: u64) -> u64 {
     if n < 1000000000 { n + 1 } else { n }
@@ -139,12 +144,18 @@ fn counted(t: Tally, o: Outcome) -> Tally {
     }
 }
 
-pub fn take_line(line: &[u8], memory: &mut [u64], r: Run) -> Run {
+pub fn take_line(
+    line: &[u8],
+    list: &mut [u16],
+    area0: &mut [u64],
+    area1: &mut [u64],
+    r: Run,
+) -> Run {
     let t = next_line(r.tally);
     if byte_at(line, 0) == b'#' {
         return with_tally(r, take_comment(line, t));
     }
-    let done = line::take_line(line, memory, r.lent);
+    let done = line::take_line(line, list, area0, area1, r.lent);
     let outcome = done.outcome;
     let lent = done.lent;
     Run {
@@ -154,7 +165,14 @@ pub fn take_line(line: &[u8], memory: &mut [u64], r: Run) -> Run {
 }
 
 // Each line of the text's first n bytes that has its line feed, up to one that is malformed.
-pub fn take_lines(text: &[u8], n: usize, memory: &mut [u64], first: Run) -> Taken
+pub fn take_lines(
+    text: &[u8],
+    n: usize,
+    list: &mut [u16],
+    area0: &mut [u64],
+    area1: &mut [u64],
+    first: Run,
+) -> Taken
     requires { ⌜ n ≤ length (now text) ⌝ }
     ensures { λ r. ⌜ r .next ≤ n ⌝ }
 {
@@ -165,7 +183,7 @@ pub fn take_lines(text: &[u8], n: usize, memory: &mut [u64], first: Run) -> Take
         if end == n {
             return Taken { run: r, next: at };
         }
-        r = take_line(&text[at..end], memory, r);
+        r = take_line(&text[at..end], list, area0, area1, r);
         at = end + 1;
         if is_malformed(r) {
             return Taken { run: r, next: at };

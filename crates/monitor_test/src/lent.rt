@@ -1,9 +1,8 @@
-// What the calls of a history are lent: a number list, two areas and a record. The words of the
-// first three stand in one memory: the list at 0, area 0 at 16,500, and area 1 at 24,692, which is
-// 8,192 words after it, so that junk which counts down in one goes on in the other.
-//     Lent      how many words of these are lent, and the record
-//     Done      what came of a line, and what is lent after it
-//     change    what a line changes in record and areas
+// What the calls of a history are lent: a number list, two areas and a record. The list and the
+// areas are the beginnings of three buffers.
+//     Lent                   the lengths of these, and the record
+//     Done                   what came of a line, and what is lent after it
+//     change_list, change    what a line changes
 use crate::areas;
 use monitor::State;
 use monitor::Verdict;
@@ -23,6 +22,7 @@ pub struct Lent {
     pub record: Record,
 }
 
+// What came of a line.
 pub enum Outcome {
     Changed,
     Right,
@@ -30,6 +30,7 @@ pub enum Outcome {
     Malformed,
 }
 
+// What came of a line, and what is lent after it.
 pub struct Done {
     pub outcome: Outcome,
     pub lent: Lent,
@@ -69,19 +70,27 @@ pub fn state_of(l: Lent) -> State {
     }
 }
 
-pub fn with_record(l: Lent, record: Record) -> Lent {
-    Lent {
-        numbers: l.numbers,
-        length0: l.length0,
-        length1: l.length1,
-        record,
+pub fn record_of(s: State) -> Record {
+    let verdict = s.verdict;
+    match verdict {
+        Verdict::Running => Record {
+            taken: s.taken,
+            count: s.count,
+            failed: 0,
+            at: 0,
+        },
+        Verdict::Failed(place) => Record {
+            taken: s.taken,
+            count: s.count,
+            failed: 1,
+            at: place,
+        },
     }
 }
 
-pub fn with_numbers(l: Lent, numbers: usize) -> Lent {
-    let record = l.record;
+pub fn with_record(l: Lent, record: Record) -> Lent {
     Lent {
-        numbers,
+        numbers: l.numbers,
         length0: l.length0,
         length1: l.length1,
         record,
@@ -95,34 +104,46 @@ pub fn malformed(l: Lent) -> Done {
     }
 }
 
-pub fn changed(l: Lent) -> Done {
+fn changed(l: Lent) -> Done {
     Done {
         outcome: Outcome::Changed,
         lent: l,
     }
 }
 
-// All words of both areas.
-fn refill(kind: u64, memory: &mut [u64]) {
-    let from = 16500;
-    if memory.len() < from {
-        return;
+// `t n n ..` and `u n n ..`: the number list.
+pub fn change_list(numbers: &[u64], list: &mut [u16], l: Lent) -> Done {
+    if !areas::put_numbers(numbers, list) {
+        return malformed(l);
     }
+    let record = l.record;
+    changed(Lent {
+        numbers: numbers.len(),
+        length0: l.length0,
+        length1: l.length1,
+        record,
+    })
+}
+
+// All words of both buffers.
+fn refill(kind: u64, area0: &mut [u64], area1: &mut [u64]) {
     if kind == 0 {
-        areas::clear(&mut memory[from..]);
+        areas::clear(area0);
+        areas::clear(area1);
         return;
     }
     if kind == 1 {
-        areas::fill(&mut memory[from..]);
+        areas::fill(area0, u64::MAX);
+        areas::fill(area1, u64::MAX - 8192);
     }
 }
 
 // `a LENGTH0 LENGTH1 FILL`: the areas.
-fn change_areas(numbers: &[u64], memory: &mut [u64], l: Lent) -> Done {
+fn change_areas(numbers: &[u64], area0: &mut [u64], area1: &mut [u64], l: Lent) -> Done {
     if numbers.len() != 3 {
         return malformed(l);
     }
-    refill(numbers[2], memory);
+    refill(numbers[2], area0, area1);
     let record = l.record;
     changed(Lent {
         numbers: l.numbers,
@@ -146,30 +167,42 @@ fn change_record(numbers: &[u64], l: Lent) -> Done {
     changed(with_record(l, record))
 }
 
-// `x AREA INDEX w w ..`: words.
-fn change_words(numbers: &[u64], memory: &mut [u64], l: Lent) -> Done {
+// `x AREA INDEX w w ..`: words of a buffer.
+fn change_words(numbers: &[u64], area: &mut [u64], l: Lent) -> Done {
     if numbers.len() < 2 {
         return malformed(l);
     }
-    if 1 < numbers[0] {
+    let from = numbers[1] as usize;
+    if area.len() < from {
         return malformed(l);
     }
-    if 4160 < numbers[1] {
-        return malformed(l);
-    }
-    let to = (16500 + 8192 * numbers[0] + numbers[1]) as usize;
-    if !areas::copy(numbers, 2, memory, to, numbers.len() - 2) {
+    let first = 2;
+    if !areas::put_words(&numbers[first..], &mut area[from..]) {
         return malformed(l);
     }
     changed(l)
 }
 
-// The change of a letter.
-pub fn change(kind: u8, numbers: &[u64], memory: &mut [u64], l: Lent) -> Done {
-    match kind {
-        b'a' => change_areas(numbers, memory, l),
-        b'r' => change_record(numbers, l),
-        b'x' => change_words(numbers, memory, l),
-        _ => malformed(l),
+fn first_or_0(numbers: &[u64]) -> u64 {
+    if numbers.len() == 0 {
+        return 0;
     }
+    numbers[0]
+}
+
+// The change of a letter, but for the number list's.
+pub fn change(kind: u8, numbers: &[u64], area0: &mut [u64], area1: &mut [u64], l: Lent) -> Done {
+    if kind == b'a' {
+        return change_areas(numbers, area0, area1, l);
+    }
+    if kind == b'r' {
+        return change_record(numbers, l);
+    }
+    if kind != b'x' {
+        return malformed(l);
+    }
+    if first_or_0(numbers) == 0 {
+        return change_words(numbers, area0, l);
+    }
+    change_words(numbers, area1, l)
 }

@@ -1,6 +1,6 @@
 // Lines and numbers of a text.
 //     line_end       where a line ends          byte_at         a byte, or 0 past the end
-//     after          past a byte                take_numbers    numbers, a space before each
+//     after          past a byte                take_numbers    numbers below 2^64
 //     starts_with    whether a line begins so
 ghost use Prim.Native.Nat.{_≤_};
 ghost use lib.ListN.{length};

@@ -1,5 +1,6 @@
 -- Resolving lists as many residuals as the term has branches (01, "Openings").
 --     resolveDef-length    of a definition's body;  resolve-length: of the term of a number, with whatever memory
+--     residuals-few        at Start there are 256 at most
 -- That there are none exactly for a doomed term is the table layer's `Doom/Branches.antt`. Assumes nothing.
 use Prim.Native.Nat.{ℕ, zero, suc, _+_, _*_, _≤_, _<_}
 use native.Mathlib.Omega.{arith}
@@ -7,16 +8,18 @@ use native.Mathlib.Nat.{suc-mul, zero-mul}
 use mathlib.Core.Path.{_≡_, refl, ap, ap₂, sym, _∙_}
 use mathlib.Core.List.{List, [], _∷_, map, flatMap}
 use lib.ListN.{length, length-append, length-map}
-use Rattle.table.specs.Table.{Table, Term, stop, fail, prefix, choice, par, call, size, bodyOf, bodyNumber}
+use Rattle.numbers.specs.Every.{All}
+use Rattle.table.specs.Table.{Table, Definition, Term, stop, fail, prefix, choice, par, call, size, bodyOf, bodyNumber}
 use Rattle.table.specs.Memory.{Memory, noMemory}
 use Rattle.table.specs.Branches.{branchesWith, bodyIn, branches}
 use Rattle.table.specs.Rules.Laws.{no-wrong}
 use Rattle.table.specs.Equations.{branches-call}
 use Rattle.table.specs.Rules.{Rules}
-use Rattle.meaning.specs.Figure1.{count, body, plain, Guarded}
+use Rattle.meaning.specs.Figure1.{count, last, body, plain, Guarded}
 use Rattle.monitor_spec.specs.Part.{Stands}
 use Rattle.monitor_spec.specs.Part.Numbers.{at-number}
-use Rattle.monitor_spec.specs.Residual.{Residual, pair, pairs, resolveIn, resolveDef, resolve}
+use Rattle.monitor_spec.specs.Residual.{Residual, pair, pairs, resolveIn, resolveDef, resolve, run}
+use Rattle.monitor_spec.specs.Residual.{fromDefinition, residualsOf}
 use Rattle.monitor_spec.specs.Residual.Resolve.{resolve-at, number-guarded}
 use Rattle.monitor_spec.specs.Regular.Laws.{regular}
 
@@ -83,3 +86,20 @@ module _ (t : Table) (rules : Rules t) where
       (λ d h. resolveDef-length (count t) d h (omega arith)) p
       (number-guarded t (regular t rules) s) n m
       ∙ branches-with p
+
+  body-few : (ds : List Definition) (d : ℕ) → All (λ x. branches t (x .body) ≤ 256) ds → d < length ds
+      → branches t (bodyIn ds d) ≤ 256
+  unfolding bodyIn
+  body-few [] d h k = absurd (omega arith)
+  body-few (x ∷ ds) zero h k = h .0
+  body-few (x ∷ ds) (suc d) h k = body-few ds d (h .1) (omega arith)
+
+  pub residuals-few : length (residualsOf t []) ≤ 256
+  unfolding residualsOf fromDefinition run count
+  residuals-few =
+      let b = rules .fields .definitions-least in
+      let i : last t < count t = omega arith in
+      let a = resolveDef-length (count t) (last t) i (omega arith) in
+      let c = branches-call t (no-wrong t rules) (last t) i in
+      let e = body-few (t .definitions) (last t) (rules .branches-bodies) i in
+      omega arith

@@ -5,7 +5,7 @@ use native.Mathlib.Omega.{arith}
 use mathlib.Core.Path.{_≡_, refl, ap₂, sym, _∙_}
 use mathlib.Core.List.{List, [], _∷_, _++_, map}
 use mathlib.Core.Logic.{_↔_, _⊎_, inl, inr, ⊎-elim}
-use lib.ListN.{length}
+use lib.ListN.{length, length-map}
 use Rattle.numbers.specs.Every.{All, all-imp}
 use Rattle.meaning.specs.Some.{Any, any-append-left, any-append-right, any-append-cases}
 use Rattle.monitor_spec.specs.Residual.{Residual}
@@ -164,7 +164,16 @@ unfolding canon
 canon-grows [] l = omega arith
 canon-grows (s ∷ k) l = let a = canon-grows k l in let b = insert-length s (canon (k ++ l)) .0 in omega arith
 
+canon-few : (l : List (List ℕ)) → length (canon l) ≤ length l
+unfolding canon
+canon-few [] = omega arith
+canon-few (s ∷ l) = let a = canon-few l in let b = insert-length s (canon l) .1 in omega arith
+
 -- ---- the slots of residuals
+
+pub slots-few : (rs : List Residual) → length (slotsOf rs) ≤ length rs
+unfolding slotsOf
+slots-few rs = let a = canon-few (map slotOf rs) in omega (arith, length-map rs slotOf)
 
 sorted-of : (l : List (List ℕ)) → Ascending l → Sorted l
 sorted-of [] h = tt

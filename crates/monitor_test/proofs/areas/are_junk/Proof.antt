@@ -7,10 +7,10 @@ use Rattle.monitor_test.proofs.areas.are_junk.Statement.{statement}
 use Rattle.monitor_test.proofs.areas.are_junk.Tie as tie
 
 abbrev Inv-loop : tie.InvT-loop
-Inv-loop area i₀ i = Unit {0}
+Inv-loop area first i₀ i = Unit {0}
 
 abbrev μ-loop : tie.MeasureT-loop
-μ-loop area i₀ i = length area - i
+μ-loop area first i₀ i = length area - i
 
 loop-holds : tie.Need-loop-holds Inv-loop μ-loop
 loop-holds c = search needs

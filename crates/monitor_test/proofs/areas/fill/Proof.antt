@@ -8,10 +8,10 @@ use Rattle.monitor_test.proofs.areas.fill.Statement.{statement}
 use Rattle.monitor_test.proofs.areas.fill.Tie as tie
 
 abbrev Inv-loop : tie.InvT-loop
-Inv-loop area₀ i₀ area i = length area ≡ length area₀
+Inv-loop area₀ first i₀ area i = length area ≡ length area₀
 
 abbrev μ-loop : tie.MeasureT-loop
-μ-loop area₀ i₀ area i = length area₀ - i
+μ-loop area₀ first i₀ area i = length area₀ - i
 
 loop-holds : tie.Need-loop-holds Inv-loop μ-loop
 loop-holds c = search needs

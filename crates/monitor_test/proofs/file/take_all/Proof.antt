@@ -1,5 +1,5 @@
--- `monitor_test::file::take_all` is safe and ends. Buffer and memory keep their lengths; the measure is the number of
--- turns left. Assumes nothing.
+-- `monitor_test::file::take_all` is safe and ends. The buffers keep their lengths; the measure is the number of turns
+-- left. Assumes nothing.
 use mathlib.Core.Path.{_≡_}
 use borrow.Author.Needs.{needs}
 use lib.ListN.{length}
@@ -7,10 +7,12 @@ use Rattle.monitor_test.proofs.file.take_all.Statement.{statement}
 use Rattle.monitor_test.proofs.file.take_all.Tie as tie
 
 abbrev Inv-loop : tie.InvT-loop
-Inv-loop fd buffer₀ memory₀ s₀ turns₀ buffer memory s turns = (length buffer ≡ length buffer₀) × (length memory ≡ length memory₀)
+Inv-loop fd buffer₀ list₀ area0₀ area1₀ s₀ turns₀ buffer list area0 area1 s turns =
+    (length buffer ≡ length buffer₀) × (length list ≡ length list₀)
+    × (length area0 ≡ length area0₀) × (length area1 ≡ length area1₀)
 
 abbrev μ-loop : tie.MeasureT-loop
-μ-loop fd buffer₀ memory₀ s₀ turns₀ buffer memory s turns = turns
+μ-loop fd buffer₀ list₀ area0₀ area1₀ s₀ turns₀ buffer list area0 area1 s turns = turns
 
 new-requires : tie.Need-new-requires Inv-loop μ-loop
 new-requires c κs = search needs
@@ -27,6 +29,12 @@ same-length c = search needs
 same-length-2 : tie.Need-same-length-2 Inv-loop μ-loop
 same-length-2 c = search needs
 
+same-length-3 : tie.Need-same-length-3 Inv-loop μ-loop
+same-length-3 c = search needs
+
+same-length-4 : tie.Need-same-length-4 Inv-loop μ-loop
+same-length-4 c = search needs
+
 returns : tie.Need-returns Inv-loop μ-loop
 returns c = search needs
 
@@ -39,11 +47,17 @@ loop-less c = search needs
 loop-again : tie.Need-loop-again Inv-loop μ-loop
 loop-again c = search needs
 
-same-length-3 : tie.Need-same-length-3 Inv-loop μ-loop
-same-length-3 c = search needs
+same-length-5 : tie.Need-same-length-5 Inv-loop μ-loop
+same-length-5 c = search needs
 
-same-length-4 : tie.Need-same-length-4 Inv-loop μ-loop
-same-length-4 c = search needs
+same-length-6 : tie.Need-same-length-6 Inv-loop μ-loop
+same-length-6 c = search needs
+
+same-length-7 : tie.Need-same-length-7 Inv-loop μ-loop
+same-length-7 c = search needs
+
+same-length-8 : tie.Need-same-length-8 Inv-loop μ-loop
+same-length-8 c = search needs
 
 returns-2 : tie.Need-returns-2 Inv-loop μ-loop
 returns-2 c = search needs
@@ -59,10 +73,14 @@ take-all-spec =
     turn-requires
     same-length
     same-length-2
+    same-length-3
+    same-length-4
     returns
     sub-turns
     loop-less
     loop-again
-    same-length-3
-    same-length-4
+    same-length-5
+    same-length-6
+    same-length-7
+    same-length-8
     returns-2)

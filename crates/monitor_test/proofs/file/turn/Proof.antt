@@ -5,6 +5,9 @@ use lib.Seq.{length-take-le}
 use Rattle.monitor_test.proofs.file.turn.Statement.{statement}
 use Rattle.monitor_test.proofs.file.turn.Tie as tie
 
+too-long-requires : tie.Need-too-long-requires
+too-long-requires c κs = search needs
+
 returns : tie.Need-returns
 returns c = search needs
 
@@ -35,6 +38,12 @@ same-length c = search needs
 same-length-2 : tie.Need-same-length-2
 same-length-2 c = search needs
 
+same-length-3 : tie.Need-same-length-3
+same-length-3 c = search needs
+
+same-length-4 : tie.Need-same-length-4
+same-length-4 c = search needs
+
 returns-2 : tie.Need-returns-2
 returns-2 c = search needs
 
@@ -44,11 +53,17 @@ add-take-filled c = search needs
 take-filled-requires : tie.Need-take-filled-requires
 take-filled-requires c κs = search needs
 
-same-length-3 : tie.Need-same-length-3
-same-length-3 c = search needs
+same-length-5 : tie.Need-same-length-5
+same-length-5 c = search needs
 
-same-length-4 : tie.Need-same-length-4
-same-length-4 c = search needs
+same-length-6 : tie.Need-same-length-6
+same-length-6 c = search needs
+
+same-length-7 : tie.Need-same-length-7
+same-length-7 c = search needs
+
+same-length-8 : tie.Need-same-length-8
+same-length-8 c = search needs
 
 returns-3 : tie.Need-returns-3
 returns-3 c = search needs
@@ -57,6 +72,7 @@ pub turn-spec : {M : Type 1} → statement M
 turn-spec =
     tie.close
     (tie.spec
+    too-long-requires
     returns
     sub-read-full
     part-read-full-start
@@ -67,9 +83,13 @@ turn-spec =
     take-last-requires
     same-length
     same-length-2
+    same-length-3
+    same-length-4
     returns-2
     add-take-filled
     take-filled-requires
-    same-length-3
-    same-length-4
+    same-length-5
+    same-length-6
+    same-length-7
+    same-length-8
     returns-3)

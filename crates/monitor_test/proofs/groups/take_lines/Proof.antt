@@ -1,5 +1,5 @@
--- `monitor_test::groups::take_lines` meets its contract. The place stays within the n bytes, and the memory keeps its
--- length; the measure is what is left of the bytes. Assumes nothing.
+-- `monitor_test::groups::take_lines` meets its contract. The place stays within the n bytes, and the buffers keep
+-- their lengths; the measure is what is left of the bytes. Assumes nothing.
 use Prim.Native.Nat.{_-_, _≤_}
 use mathlib.Core.Path.{_≡_}
 use borrow.Author.Needs.{needs}
@@ -8,10 +8,12 @@ use Rattle.monitor_test.proofs.groups.take_lines.Statement.{statement}
 use Rattle.monitor_test.proofs.groups.take_lines.Tie as tie
 
 abbrev Inv-loop : tie.InvT-loop
-Inv-loop text n memory₀ r₀ at₀ memory r at = (at ≤ n) × (length memory ≡ length memory₀)
+Inv-loop text n list₀ area0₀ area1₀ r₀ at₀ list area0 area1 r at =
+    (at ≤ n) × (length list ≡ length list₀)
+    × (length area0 ≡ length area0₀) × (length area1 ≡ length area1₀)
 
 abbrev μ-loop : tie.MeasureT-loop
-μ-loop text n memory₀ r₀ at₀ memory r at = n - at
+μ-loop text n list₀ area0₀ area1₀ r₀ at₀ list area0 area1 r at = n - at
 
 loop-holds : tie.Need-loop-holds Inv-loop μ-loop
 loop-holds c = search needs
@@ -21,6 +23,12 @@ line-end-requires c κs = search needs
 
 same-length : tie.Need-same-length Inv-loop μ-loop
 same-length c = search needs
+
+same-length-2 : tie.Need-same-length-2 Inv-loop μ-loop
+same-length-2 c = search needs
+
+same-length-3 : tie.Need-same-length-3 Inv-loop μ-loop
+same-length-3 c = search needs
 
 returns : tie.Need-returns Inv-loop μ-loop
 returns c = search needs
@@ -43,8 +51,14 @@ add-at c = search needs
 is-malformed-requires : tie.Need-is-malformed-requires Inv-loop μ-loop
 is-malformed-requires c κs = search needs
 
-same-length-2 : tie.Need-same-length-2 Inv-loop μ-loop
-same-length-2 c = search needs
+same-length-4 : tie.Need-same-length-4 Inv-loop μ-loop
+same-length-4 c = search needs
+
+same-length-5 : tie.Need-same-length-5 Inv-loop μ-loop
+same-length-5 c = search needs
+
+same-length-6 : tie.Need-same-length-6 Inv-loop μ-loop
+same-length-6 c = search needs
 
 returns-2 : tie.Need-returns-2 Inv-loop μ-loop
 returns-2 c = search needs
@@ -55,8 +69,14 @@ loop-less c = search needs
 loop-again : tie.Need-loop-again Inv-loop μ-loop
 loop-again c = search needs
 
-same-length-3 : tie.Need-same-length-3 Inv-loop μ-loop
-same-length-3 c = search needs
+same-length-7 : tie.Need-same-length-7 Inv-loop μ-loop
+same-length-7 c = search needs
+
+same-length-8 : tie.Need-same-length-8 Inv-loop μ-loop
+same-length-8 c = search needs
+
+same-length-9 : tie.Need-same-length-9 Inv-loop μ-loop
+same-length-9 c = search needs
 
 returns-3 : tie.Need-returns-3 Inv-loop μ-loop
 returns-3 c = search needs
@@ -70,6 +90,8 @@ take-lines-spec =
     loop-holds
     line-end-requires
     same-length
+    same-length-2
+    same-length-3
     returns
     sub-take-line
     part-take-line-start
@@ -77,9 +99,13 @@ take-lines-spec =
     take-line-requires
     add-at
     is-malformed-requires
-    same-length-2
+    same-length-4
+    same-length-5
+    same-length-6
     returns-2
     loop-less
     loop-again
-    same-length-3
+    same-length-7
+    same-length-8
+    same-length-9
     returns-3)

@@ -23,32 +23,23 @@ malformed-requires-2 c κs = search needs
 returns-2 : tie.Need-returns-2
 returns-2 c = search needs
 
-words-requires : tie.Need-words-requires
-words-requires c κs = search needs
-
-words-requires-2 : tie.Need-words-requires-2
-words-requires-2 c κs = search needs
-
 byte-at-requires : tie.Need-byte-at-requires
 byte-at-requires c κs = search needs
-
-slice-aggregate-lend : tie.Need-slice-aggregate-lend
-slice-aggregate-lend c = search needs
-
-slice-aggregate-lend-2 : tie.Need-slice-aggregate-lend-2
-slice-aggregate-lend-2 c = search needs
 
 array-share-prefix-stored : tie.Need-array-share-prefix-stored
 array-share-prefix-stored c = search needs
 
-slice-aggregate-lend-3 : tie.Need-slice-aggregate-lend-3
-slice-aggregate-lend-3 c = sym (length-take-le _ _ (search needs))
+slice-aggregate-lend : tie.Need-slice-aggregate-lend
+slice-aggregate-lend c = sym (length-take-le _ _ (search needs))
 
 lend-requires : tie.Need-lend-requires
 lend-requires c κs = search needs
 
 same-length : tie.Need-same-length
 same-length c = search needs
+
+same-length-2 : tie.Need-same-length-2
+same-length-2 c = search needs
 
 returns-3 : tie.Need-returns-3
 returns-3 c = search needs
@@ -63,13 +54,10 @@ take-call-spec =
     returns
     malformed-requires-2
     returns-2
-    words-requires
-    words-requires-2
     byte-at-requires
-    slice-aggregate-lend
-    slice-aggregate-lend-2
     array-share-prefix-stored
-    slice-aggregate-lend-3
+    slice-aggregate-lend
     lend-requires
     same-length
+    same-length-2
     returns-3)

@@ -20,50 +20,23 @@ malformed-requires c κs = search needs
 returns : tie.Need-returns
 returns c = search needs
 
-byte-at-requires : tie.Need-byte-at-requires
-byte-at-requires c κs = search needs
-
 array-share-prefix-numbers : tie.Need-array-share-prefix-numbers
 array-share-prefix-numbers c = search needs
 
-slice-aggregate-change : tie.Need-slice-aggregate-change
-slice-aggregate-change c = sym (length-take-le _ _ (search needs))
+slice-aggregate-take-rest : tie.Need-slice-aggregate-take-rest
+slice-aggregate-take-rest c = sym (length-take-le _ _ (search needs))
 
-change-requires : tie.Need-change-requires
-change-requires c κs = search needs
+take-rest-requires : tie.Need-take-rest-requires
+take-rest-requires c κs = search needs
 
 same-length : tie.Need-same-length
 same-length c = search needs
 
-returns-2 : tie.Need-returns-2
-returns-2 c = search needs
-
-after-requires : tie.Need-after-requires
-after-requires c κs = search needs
-
-after-requires-2 : tie.Need-after-requires-2
-after-requires-2 c κs = search needs
-
-malformed-requires-2 : tie.Need-malformed-requires-2
-malformed-requires-2 c κs = search needs
-
-returns-3 : tie.Need-returns-3
-returns-3 c = search needs
-
-array-share-prefix-numbers-2 : tie.Need-array-share-prefix-numbers-2
-array-share-prefix-numbers-2 c = search needs
-
-slice-aggregate-take-call : tie.Need-slice-aggregate-take-call
-slice-aggregate-take-call c = sym (length-take-le _ _ (search needs))
-
-take-call-requires : tie.Need-take-call-requires
-take-call-requires c κs = search needs
-
 same-length-2 : tie.Need-same-length-2
 same-length-2 c = search needs
 
-returns-4 : tie.Need-returns-4
-returns-4 c = search needs
+returns-2 : tie.Need-returns-2
+returns-2 c = search needs
 
 pub take-other-spec : {M : Type 1} → statement M
 take-other-spec =
@@ -74,18 +47,9 @@ take-other-spec =
     take-numbers-requires
     malformed-requires
     returns
-    byte-at-requires
     array-share-prefix-numbers
-    slice-aggregate-change
-    change-requires
+    slice-aggregate-take-rest
+    take-rest-requires
     same-length
-    returns-2
-    after-requires
-    after-requires-2
-    malformed-requires-2
-    returns-3
-    array-share-prefix-numbers-2
-    slice-aggregate-take-call
-    take-call-requires
     same-length-2
-    returns-4)
+    returns-2)

@@ -1,0 +1,75 @@
+-- `monitor_test::call::try_feed` is safe and ends. Assumes nothing.
+use mathlib.Core.Path.{sym}
+use borrow.Author.Needs.{needs}
+use lib.Seq.{length-take-le}
+use Rattle.monitor_test.proofs.call.try_feed.Statement.{statement}
+use Rattle.monitor_test.proofs.call.try_feed.Tie as tie
+
+malformed-requires : tie.Need-malformed-requires
+malformed-requires c κs = search needs
+
+returns : tie.Need-returns
+returns c = search needs
+
+work-length-requires : tie.Need-work-length-requires
+work-length-requires c κs = search needs
+
+malformed-requires-2 : tie.Need-malformed-requires-2
+malformed-requires-2 c κs = search needs
+
+returns-2 : tie.Need-returns-2
+returns-2 c = search needs
+
+work-requires : tie.Need-work-requires
+work-requires c κs = search needs
+
+mul-feed-numbers : tie.Need-mul-feed-numbers
+mul-feed-numbers c = search needs
+
+sub-feed-numbers : tie.Need-sub-feed-numbers
+sub-feed-numbers c = search needs
+
+part-feed-numbers-start : tie.Need-part-feed-numbers-start
+part-feed-numbers-start c = search needs
+
+part-feed-numbers-end : tie.Need-part-feed-numbers-end
+part-feed-numbers-end c = search needs
+
+array-borrow-prefix-work : tie.Need-array-borrow-prefix-work
+array-borrow-prefix-work c = search needs
+
+slice-aggregate-feed-numbers : tie.Need-slice-aggregate-feed-numbers
+slice-aggregate-feed-numbers c = sym (length-take-le _ _ (search needs))
+
+feed-numbers-requires : tie.Need-feed-numbers-requires
+feed-numbers-requires c κs = search needs
+
+same-length : tie.Need-same-length
+same-length c = search needs
+
+same-length-2 : tie.Need-same-length-2
+same-length-2 c = search needs
+
+returns-3 : tie.Need-returns-3
+returns-3 c = search needs
+
+pub try-feed-spec : {M : Type 1} → statement M
+try-feed-spec =
+    tie.close
+    (tie.spec
+    malformed-requires
+    returns
+    work-length-requires
+    malformed-requires-2
+    returns-2
+    work-requires
+    mul-feed-numbers
+    sub-feed-numbers
+    part-feed-numbers-start
+    part-feed-numbers-end
+    array-borrow-prefix-work
+    slice-aggregate-feed-numbers
+    feed-numbers-requires
+    same-length
+    same-length-2
+    returns-3)
