@@ -22,7 +22,7 @@ use Rattle.monitor_spec.proofs.Forms.{refused-same, refused-given, refu
 module _ (l : List ℕ) (m : Monitor) (es w : List ℕ) where
   -- ---- the whole outcome
 
-  on-1 : (Lent l m w → ⊥) → feedOf l m es w ≡ refusing 1 0 m w
+  pub on-1 : (Lent l m w → ⊥) → feedOf l m es w ≡ refusing 1 0 m w
   unfolding feedOf
   on-1 x = rw (unmeasured-in (m .area0) (m .area1) w x, feedOf)
 

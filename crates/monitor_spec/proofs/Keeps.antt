@@ -2,7 +2,7 @@
 -- Assumes nothing.
 use mathlib.Core.Path.{_≡_, refl, ap, _∙_}
 use Prim.Native.Nat.{ℕ}
-use mathlib.Core.Bool.{Bool, true, false, _&&_}
+use mathlib.Core.Bool.{Bool, true, false}
 use mathlib.Core.List.{List}
 use lib.ListN.{length}
 use Rattle.table.specs.Table.{Table}
@@ -13,42 +13,29 @@ use Rattle.monitor_spec.specs.Valid.Laws.{and-split}
 use Rattle.monitor_spec.specs.State.{Monitor, Outcome, areasMeasured, workMeasured}
 use Rattle.monitor_spec.specs.Consistent.{consistent}
 use Rattle.monitor_spec.specs.Consistent.Laws.{feed-keeps}
-use Rattle.monitor_spec.specs.Feed.{takeEvent, endingOf, refusing, feedAccepted, feedJudged, feedOf}
+use Rattle.monitor_spec.specs.Feed.{takeEvent, feedOf}
 use Rattle.monitor_spec.specs.Joined.{Call}
 use Rattle.monitor_spec.specs.History.{callOn}
 use Rattle.monitor_spec.specs.History.Laws.{afterwards, after-ending, after-refusing}
+use Rattle.monitor_spec.proofs.Gate.{lent, measured-out, unmeasured-out, held-out}
+use Rattle.monitor_spec.proofs.Feeds.{on-1, on-open}
 
 module _ (l ns : List ℕ) (t : Table) (says : judgeList l ≡ accepted ns t) (regular : Regular t) (m : Monitor)
     (es w : List ℕ) where
-  feed-wrong : (areasMeasured (m .area0) (m .area1) && workMeasured w) ≡ false → feedOf l m es w ≡ refusing 1 0 m w
-  unfolding feedOf
-  feed-wrong e = rw (e, feedOf)
-
-  feed-judged : (areasMeasured (m .area0) (m .area1) && workMeasured w) ≡ true
-      → feedOf l m es w ≡ feedAccepted t m es w
-  unfolding feedOf feedJudged
-  feed-judged e = rw (e, says, feedOf)
-
-  feed-through : consistent t m ≡ true → feedAccepted t m es w ≡ endingOf (length w) (through (takeEvent t) m 0 es)
-  unfolding feedAccepted
-  feed-through c = rw (c, feedAccepted)
-
-  feed-right : (areasMeasured (m .area0) (m .area1) && workMeasured w) ≡ true → consistent t m ≡ true
-      → feedOf l m es w ≡ endingOf (length w) (through (takeEvent t) m 0 es)
-  feed-right e c = feed-judged e ∙ feed-through c
-
-  pub keeps : consistent t m ≡ true → consistent t (afterwards m (feedOf l m es w)) ≡ true
-  keeps c = by (areasMeasured (m .area0) (m .area1) && workMeasured w) refl
+  keeps : consistent t m ≡ true → consistent t (afterwards m (feedOf l m es w)) ≡ true
+  keeps c = by (lent (m .area0) (m .area1) w) refl
     where
-      by : (b : Bool) → (areasMeasured (m .area0) (m .area1) && workMeasured w) ≡ b
-          → consistent t (afterwards m (feedOf l m es w)) ≡ true
+      by : (b : Bool) → lent (m .area0) (m .area1) w ≡ b → consistent t (afterwards m (feedOf l m es w)) ≡ true
       by true e =
           let (a, _) = and-split (areasMeasured (m .area0) (m .area1)) (workMeasured w) e in
-          ap (λ (o : Outcome). consistent t (afterwards m o)) (feed-right e c)
+          let x = measured-out (m .area0) (m .area1) w e in
+          ap (λ (o : Outcome). consistent t (afterwards m o))
+          (on-open l m es w x ns t says (held-out l m w x ns t says c))
           ∙ ap (consistent t) (after-ending m (length w) (through (takeEvent t) m 0 es))
           ∙ feed-keeps t regular m a c es
       by false e =
-          ap (λ (o : Outcome). consistent t (afterwards m o)) (feed-wrong e)
+          ap (λ (o : Outcome). consistent t (afterwards m o))
+          (on-1 l m es w (unmeasured-out (m .area0) (m .area1) w e))
           ∙ ap (consistent t) (after-refusing m w)
           ∙ c
 

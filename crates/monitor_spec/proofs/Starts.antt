@@ -38,7 +38,7 @@ begun-verdict [] = ap (nextVerdict running 0) slots-none ∙ next-none 0
 begun-verdict (r ∷ rs) = next-some 0 (slotsOf (r ∷ rs)) (slots-some r rs)
 
 -- the table layer's refusals are 2 to 9
-refused-low : (l : List ℕ) (n p : ℕ) → Refused l n p → n ≤ 9
+pub refused-low : (l : List ℕ) (n p : ℕ) → Refused l n p → n ≤ 9
 refused-low l n p (too-long e x) = omega arith
 refused-low l n p (truncated-list e x) = omega arith
 refused-low l n p (out-of-range e x) = omega arith

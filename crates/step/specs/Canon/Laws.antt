@@ -2,15 +2,15 @@
 --     put-slot                          holding one: what is held, or that there is no room
 --     put-canon, put-exceeded-canon     holding several: what is held, and when there is no room
 -- Assumes nothing.
-use Prim.Native.Nat.{ℕ, zero, suc, _+_, _-_, _*_, _<_, _≤_}
+use Prim.Native.Nat.{ℕ, suc, _+_, _-_, _*_, _<_, _≤_}
 use native.Mathlib.Omega.{arith}
 use native.Mathlib.Decide.{decLt}
 use mathlib.Core.Path.{_≡_, refl, ap, sym, _∙_}
 use mathlib.Core.Bool.{true, false}
 use mathlib.Core.List.{List, [], _∷_, _++_, append-assoc}
-use lib.ListN.{length, getD, take, drop, replicate, length-append, length-replicate, List·getD-append}
+use lib.ListN.{length, take, drop, replicate, length-append, length-replicate}
 use lib.ListN.{replicate-append-replicate}
-use lib.Seq.{length-take-le, take-take, drop-drop, getD-append-add, take-at, drop-at, take-append-le, take-all}
+use lib.Seq.{length-take-le, take-take, drop-drop, take-at, drop-at, take-append-le, take-all}
 use lib.Dec.{ltb}
 use borrow.Author.Tests.{lt-ltb, le-ltb}
 use Rattle.step.specs.Slots.{Order, below, same, above, order, placeIn, gapped, stored, insertAnswer}

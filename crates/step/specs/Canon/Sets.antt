@@ -2,15 +2,11 @@
 --     Mem, AllAbove, Sorted                     a member of a list; ascending slots
 --     insert-slots, insert-sorted, canon-members     one slot more; equal members, equal slots
 -- Assumes nothing.
-use Prim.Native.Nat.{ℕ, zero, suc, _+_, _<_, _≤_}
-use native.Mathlib.Omega.{arith}
-use native.Mathlib.Decide.{decLt}
-use native.Mathlib.Numerals.{add-one}
+use Prim.Native.Nat.{ℕ}
 use mathlib.Core.Path.{_≡_, refl, ap, sym, _∙_}
 use mathlib.Core.Logic.{_⊎_, inl, inr}
 use mathlib.Core.List.{List, [], _∷_}
-use lib.ListN.{length, getD}
-use borrow.Author.Tests.{lt-ltb, le-ltb}
+use lib.ListN.{length}
 use Rattle.step.specs.Slots.{Order, below, same, above, order}
 use Rattle.step.specs.Canon.{byOrder, insertSlot, canonFrom, Slots}
 use Rattle.step.specs.Canon.Compare.{cmp, order-cmp, above-same, below-above, cmp-same, cmp-refl, cmp-trans}

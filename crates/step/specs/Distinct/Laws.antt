@@ -19,7 +19,7 @@ use Rattle.table.specs.Branches.{branches}
 use Rattle.table.specs.Branches.Capped.{capped}
 use Rattle.table.specs.Node.{termOf}
 use Rattle.step.specs.Residual.Resolved.{length-resolved}
-use Rattle.step.specs.Residual.{words, resolved, Resolves}
+use Rattle.step.specs.Residual.{resolved, Resolves}
 use Rattle.step.specs.Distinct.{sameWords, window, heldIn, keep, kept, empty, slotAt, Resolvable, Indices}
 use Rattle.step.specs.Distinct.{Stored}
 
