@@ -3,13 +3,8 @@
 --     insertSlot, canonFrom     one slot in its place; several, one after the other: ascending, none twice
 --     joined, areaOf            the words of slots; an area that holds them
 --     Slots                     lists of sixteen words
-<<<<<<< ours
 -- The laws are in `Canon/Compare.antt` (the order of slots), `Canon/Sets.antt` (what comes out is ascending, and
 -- depends on the members only), `Canon/Places.antt` and `Canon/Laws.antt` (areas). Assumes nothing.
-=======
--- The laws are in `Canon/Compare.antt` (the order of slots), `Canon/Sets.antt` (what comes out is ascending, and depends on
--- the members only), `Canon/Places.antt` and `Canon/Laws.antt` (areas). Assumes nothing.
->>>>>>> theirs
 use Prim.Native.Nat.{ℕ, _-_, _*_}
 use mathlib.Core.Path.{_≡_}
 use mathlib.Core.List.{List, [], _∷_, _++_}

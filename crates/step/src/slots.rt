@@ -49,28 +49,17 @@ fn place_of(area: &[u64], count: usize, slot: &[u64]) -> Place
         return Place::At(0);
     }
     let p = (count - 1) * 16;
-<<<<<<< ours
     let mut k = 0;
     while k < 16 {
         let held = area[p + k];
         let new = slot[k];
-=======
-    let mut j = 0;
-    while j < 16 {
-        let held = area[p + j];
-        let new = slot[j];
->>>>>>> theirs
         if held < new {
             return Place::At(count);
         }
         if new < held {
             return find_place(area, count, slot);
         }
-<<<<<<< ours
         k += 1;
-=======
-        j += 1;
->>>>>>> theirs
     }
     Place::Held
 }

@@ -1,16 +1,8 @@
-<<<<<<< ours
 -- `step::slots::place_of` meets its contract: the order of the words from k on is that of the last slot. The measure is
 -- what is left of its words. Assumes nothing.
 use Prim.Native.Nat.{_+_, _-_, _*_, _≤_, _<_}
 use native.Mathlib.Omega.{arith}
 use mathlib.Core.Path.{_≡_, sym, _∙_}
-=======
--- `step::slots::place_of` meets its contract: the order of the words from j on is that of the last slot. The measure is
--- what is left of its words. Assumes nothing.
-use Prim.Native.Nat.{_+_, _-_, _*_, _≤_, _<_}
-use native.Mathlib.Omega.{arith}
-use mathlib.Core.Path.{_≡_, refl, sym, _∙_}
->>>>>>> theirs
 use borrow.Author.Needs.{needs}
 use Rattle.step.specs.Slots.{order}
 use Rattle.step.specs.Slots.Laws.{order-none, order-below, order-above, order-on, place-none, place-held}
@@ -22,19 +14,11 @@ use Rattle.step.proofs.slots.place_of.Lts as lts
 use Rattle.step.proofs.slots.find_place.Reads as find-place-reads
 
 abbrev Inv-loop : tie.InvT-loop
-<<<<<<< ours
 Inv-loop area count slot p k₀ k =
     (k ≤ 16) × (0 < count) × (p ≡ (count - 1) * 16) × (order (16 - k) area (p + k) slot k ≡ order 16 area p slot 0)
 
 abbrev μ-loop : tie.MeasureT-loop
 μ-loop area count slot p k₀ k = 16 - k
-=======
-Inv-loop area count slot p j₀ j =
-    (j ≤ 16) × (0 < count) × (p ≡ (count - 1) * 16) × (order (16 - j) area (p + j) slot j ≡ order 16 area p slot 0)
-
-abbrev μ-loop : tie.MeasureT-loop
-μ-loop area count slot p j₀ j = 16 - j
->>>>>>> theirs
 
 returns : tie.Need-returns Inv-loop μ-loop
 returns c = place-none _ _ _ (omega arith)
@@ -71,22 +55,15 @@ shared-slice-read-new c = search needs
 
 returns-2 : tie.Need-returns-2 Inv-loop μ-loop
 returns-2 c =
-<<<<<<< ours
     let at-loop = c .before .before .before .before .loop in
     place-end _ _ _ _ (omega arith) (at-loop .inv .2)
     (sym (at-loop .inv .3) ∙ order-above _ _ _ _ _ (omega arith) (c .if2 .taken))
-=======
-    let k = c .before .before .before .before .loop in
-    place-end _ _ _ _ (omega arith) (k .inv .2)
-    (sym (k .inv .3) ∙ order-above _ _ _ _ _ (omega arith) (c .if2 .taken))
->>>>>>> theirs
 
 find-place-requires : tie.Need-find-place-requires Inv-loop μ-loop
 find-place-requires c κs = search needs
 
 returns-3 : tie.Need-returns-3 Inv-loop μ-loop
 returns-3 c =
-<<<<<<< ours
     let at-loop = c .before .before .before .before .before .before .loop in
     c .find-place .ensures
     ∙ place-search _ _ _ _ (omega arith) (at-loop .inv .2)
@@ -94,45 +71,23 @@ returns-3 c =
 
 add-k : tie.Need-add-k Inv-loop μ-loop
 add-k c = search needs
-=======
-    let k = c .before .before .before .before .before .before .loop in
-    c .find-place .ensures
-    ∙ place-search _ _ _ _ (omega arith) (k .inv .2)
-    (sym (k .inv .3) ∙ order-below _ _ _ _ _ (omega arith) (c .before .if3 .taken))
-
-add-j : tie.Need-add-j Inv-loop μ-loop
-add-j c = search needs
->>>>>>> theirs
 
 loop-less : tie.Need-loop-less Inv-loop μ-loop
 loop-less c = search needs
 
 loop-again : tie.Need-loop-again Inv-loop μ-loop
 loop-again c =
-<<<<<<< ours
     let at-loop = c .before .before .before .before .before .loop in (
       omega arith,
       at-loop .inv .1,
       at-loop .inv .2,
       order-on _ _ _ _ _ _ _ (omega arith) (omega arith) (c .if3 .left) (c .before .if2 .left) ∙ at-loop .inv .3,
-=======
-    let k = c .before .before .before .before .before .loop in (
-      omega arith,
-      k .inv .1,
-      k .inv .2,
-      order-on _ _ _ _ _ _ _ (omega arith) (omega arith) (c .if3 .left) (c .before .if2 .left) ∙ k .inv .3,
->>>>>>> theirs
     )
 
 returns-4 : tie.Need-returns-4 Inv-loop μ-loop
 returns-4 c =
-<<<<<<< ours
     let at-loop = c .before .loop in
     place-held _ _ _ _ (omega arith) (at-loop .inv .2) (sym (at-loop .inv .3) ∙ order-none _ _ _ _ _ (omega arith))
-=======
-    let k = c .before .loop in
-    place-held _ _ _ _ (omega arith) (k .inv .2) (sym (k .inv .3) ∙ order-none _ _ _ _ _ (omega arith))
->>>>>>> theirs
 
 pub place-of-spec : {M : Type 1} → statement M
 place-of-spec =
@@ -152,11 +107,7 @@ place-of-spec =
     returns-2
     find-place-requires
     returns-3
-<<<<<<< ours
     add-k
-=======
-    add-j
->>>>>>> theirs
     loop-less
     loop-again
     returns-4)
