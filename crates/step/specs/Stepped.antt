@@ -2,14 +2,19 @@
 --     slotNodes              the node words of the i-th slot of an area
 --     gathered               the slots of all results of n residuals, from the i-th on
 --     SoundSlot, Source      what a step asks of the area it starts from
--- The laws are in `Stepped/Laws.antt`. Assumes nothing.
+--     StepsOne, steppedOne   one residual: what its step asks, and what it gives
+-- The laws are in `Stepped/One.antt` (one residual) and `Stepped/Laws.antt` (a set). Assumes nothing.
 use Prim.Native.Nat.{ℕ, zero, suc, _+_, _*_, _<_, _≤_}
+use mathlib.Core.Path.{_≡_}
 use mathlib.Core.List.{List, [], _++_}
 use lib.ListN.{length, getD}
 use Rattle.table.specs.Table.{Table}
 use Rattle.step.specs.Distinct.{window, empty}
+use Rattle.step.specs.Residual.{Residual, words}
 use Rattle.step.specs.Walk.{room, results, onto}
-use Rattle.step.specs.Forest.{Forest}
+use Rattle.step.specs.Holding.{Outcome, putAll}
+use Rattle.step.specs.Forest.{Valid}
+pub mod One
 pub mod Laws
 
 unfoldable pub slotNodes : List ℕ → ℕ → List ℕ
@@ -19,13 +24,27 @@ unfoldable pub gathered : Table → ℕ → List ℕ → ℕ → ℕ → List (L
 gathered t e src zero i = []
 gathered t e src (suc n) i = onto empty (results t e (slotNodes src i) 1) ++ gathered t e src n (i + 1)
 
--- the i-th slot holds known trees whose results fit a slot
+-- the i-th slot holds one known tree, whose results fit a slot
 pub record SoundSlot (t : Table) (e : ℕ) (src : List ℕ) (i : ℕ) : Type 0 where
   pub few : getD src (i * 16) 0 ≤ 15
-  pub forest : Forest t (slotNodes src i)
+  pub tree : Residual
+  pub spelt : slotNodes src i ≡ words tree
+  pub valid : Valid t tree
   pub room : room t e (slotNodes src i) ≤ 15
 
 pub record Source (t : Table) (e : ℕ) (src : List ℕ) (n : ℕ) : Type 0 where
   pub room : n * 16 ≤ length src
   pub event : e < 64
   pub slots : (i : ℕ) → i < n → SoundSlot t e src i
+
+pub record StepsOne (t : Table) (bound e : ℕ) (src : List ℕ) (i : ℕ) (store dst : List ℕ) (c : ℕ) : Type 0 where
+  pub event : e < 64
+  pub whole : bound ≡ length (t .definitions)
+  pub inside : i * 16 + 16 ≤ length src
+  pub slot : SoundSlot t e src i
+  pub size : length store ≡ 4112
+  pub held : c * 16 ≤ length dst
+
+-- the results of the i-th residual, held
+unfoldable pub steppedOne : Table → ℕ → List ℕ → ℕ → List ℕ → ℕ → Outcome
+steppedOne t e src i dst c = putAll dst c (onto empty (results t e (slotNodes src i) 1))

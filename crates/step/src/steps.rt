@@ -2,7 +2,11 @@
 // definitions are in `specs/Prepared.antt` and `specs/Stepped.antt`; `specs/Claims.antt` says what
 // they come to.
 use crate::leaves::distinct;
+use crate::only::Way;
+use crate::only::only_at;
+use crate::only::rebuild;
 use crate::slots::Held;
+use crate::slots::put;
 use crate::walk::walk;
 use crate::words::holds_at;
 use crate::words::kind_at;
@@ -17,7 +21,7 @@ ghost use Rattle.step.specs.Distinct.{window};
 ghost use Rattle.step.specs.Holding.{putAll, Gave};
 ghost use Rattle.step.specs.Course.{nodeCount, Ready};
 ghost use Rattle.step.specs.Prepared.{Sound, Filled};
-ghost use Rattle.step.specs.Stepped.{gathered, Source};
+ghost use Rattle.step.specs.Stepped.{gathered, Source, StepsOne, steppedOne};
 
 // Fills node k's part of the store: the number of its results and their indices.
 fn prepare_node(list: &[u16], work: &[u64], bound: usize, e: u64, store: &mut [u64], k: usize)
@@ -72,6 +76,61 @@ fn load(src: &[u64], p: usize, store: &mut [u64])
     }
 }
 
+// Holds all results of the i-th residual of an area in another: those of each leaf are prepared in
+// the store.
+fn step_many(
+    list: &[u16],
+    work: &[u64],
+    bound: usize,
+    e: u64,
+    src: &[u64],
+    i: usize,
+    store: &mut [u64],
+    dst: &mut [u64],
+    c: usize,
+) -> Held
+    requires { ⌜ Indexed (now list) (now work) ⌝ }
+    requires { ⌜ StepsOne (tableIn (now list)) bound e (now src) i (now store) (now dst) c ⌝ }
+    ensures { λ r.
+        ⌜ Gave (steppedOne (tableIn (now (list .entry))) e (now (src .entry)) i (now (dst .entry)) c)
+        r (now (dst .exit)) ⌝ }
+{
+    load(src, i * 16, store);
+    prepare(list, work, bound, e, store);
+    walk(list, work, store, bound, e, 1, 1, [0u64; 16], dst, c)
+}
+
+// The same; a residual that has no result or one needs no store.
+fn step_one(
+    list: &[u16],
+    work: &[u64],
+    bound: usize,
+    e: u64,
+    src: &[u64],
+    i: usize,
+    store: &mut [u64],
+    dst: &mut [u64],
+    c: usize,
+) -> Held
+    requires { ⌜ Indexed (now list) (now work) ⌝ }
+    requires { ⌜ StepsOne (tableIn (now list)) bound e (now src) i (now store) (now dst) c ⌝ }
+    ensures { λ r.
+        ⌜ Gave (steppedOne (tableIn (now (list .entry))) e (now (src .entry)) i (now (dst .entry)) c)
+        r (now (dst .exit)) ⌝ }
+{
+    let at = i * 16;
+    let tree = only_at(list, work, src, at + 1, e);
+    let way = tree.way;
+    match way {
+        Way::Still => Held::Count(c),
+        Way::One(marks) => {
+            let n = src[at] as usize;
+            put(dst, c, rebuild(list, work, bound, e, src, at + 1, n, marks))
+        }
+        Way::Many => step_many(list, work, bound, e, src, i, store, dst, c),
+    }
+}
+
 // Holds all results of the n residuals of an area in another, after event e. The store is for this
 // function's own use; any words may be in it.
 pub fn step_set(
@@ -95,9 +154,7 @@ pub fn step_set(
     let mut c = 0;
     let mut i = 0;
     while i < n {
-        load(src, i * 16, store);
-        prepare(list, work, bound, e, store);
-        match walk(list, work, store, bound, e, 1, 1, [0u64; 16], dst, c) {
+        match step_one(list, work, bound, e, src, i, store, dst, c) {
             Held::Count(d) => {
                 c = d;
                 i += 1;

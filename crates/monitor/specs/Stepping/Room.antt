@@ -99,7 +99,6 @@ module _ (t : Table) (rules : Rules t) (e : ℕ) (small : e < t .alphabet) where
 
   pub sound-slot : (area : List ℕ) (i : ℕ) (r : Residual) → Proper t r → SlotAt area (i * 16) r
       → SoundSlot t e area i
-  unfolding wordsAll
   sound-slot area i r p s =
       let c = slot-count area (i * 16) r s in
       let k = nodes-most t (regular t rules) r p in
@@ -107,10 +106,8 @@ module _ (t : Table) (rules : Rules t) (e : ℕ) (small : e < t .alphabet) where
       let h = p .1 .1 in
       record {
         few = omega arith;
-        forest = record {
-          trees = low r ∷ [];
-          spelt = slot-tree area i r s ∙ sym (append-nil (step.words (low r)));
-          valid = (valid-low t rules r p, tt);
-        };
+        tree = low r;
+        spelt = slot-tree area i r s;
+        valid = valid-low t rules r p;
         room = rw (slot-tree area i r s) (omega arith);
       }
