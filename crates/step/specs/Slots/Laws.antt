@@ -100,7 +100,8 @@ module _ (a b : List ℕ) where
   pub place-bound : (n j : ℕ) → At j ≡ placeIn n a b → j ≤ n
   unfolding placeIn
   place-bound zero j e = let h : j ≡ 0 = cc in omega arith
-  place-bound (suc n) j e = last-bound (order 16 a (n * 16) b 0) (suc n) j _ (λ h. omega (arith, seek-bound (suc n) 0 j h)) e
+  place-bound (suc n) j e =
+      last-bound (order 16 a (n * 16) b 0) (suc n) j _ (λ h. omega (arith, seek-bound (suc n) 0 j h)) e
 
 -- insertion, by the place found
 module _ (l s : List ℕ) (count : ℕ) where
