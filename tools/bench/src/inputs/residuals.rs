@@ -1,0 +1,166 @@
+// Many residuals at a time, and residuals that remember events.
+
+use super::*;
+use reference::random::Random;
+
+pub fn inputs() -> Vec<Input> {
+    vec![
+        cycle(
+            "a hundred trees",
+            "six lanes of the same three events, over {}; 60 to 90 residuals, six leaves each",
+            same_lanes(),
+            vec![0, 0, 0, 0, 1, 1],
+            vec![2, 0, 1],
+        ),
+        cycle(
+            "a hundred leaves",
+            "25 loops of four events, each at its four places; 100 residuals, one leaf each",
+            phases(),
+            vec![0, 0, 0, 0],
+            vec![0, 0, 0, 0],
+        ),
+        cycle(
+            "remembered",
+            "A = 64; each event one of a row by an event up to four back; one residual, one leaf",
+            remembered(),
+            vec![],
+            recalled(),
+        ),
+        cycle(
+            "remembered by two",
+            "two such lanes, over {}, taking turns at random; one residual, two leaves",
+            remembered_by_two(),
+            vec![],
+            recalled_by_two(),
+        ),
+    ]
+}
+
+// Six times {0} -> {1} -> {2} -> and again. With two lanes at each place there are 90 ways.
+fn same_lanes() -> Vec<u16> {
+    let mut sets: Vec<Set> = (0..3).map(|e| Set::Plain(vec![e])).collect();
+    sets.push(Set::Plain(vec![]));
+    let definitions = vec![
+        definition(0, chain(&[0, 1, 2], Term::Call(0))),
+        definition(1, beside(plain(3), (0..6).map(|_| Term::Call(0)).collect())),
+    ];
+    Table { alphabet: 3, sets, definitions }.list()
+}
+
+// 25 loops of four events {0}; the start chooses a loop and a delay of 0 to 3 events.
+fn phases() -> Vec<u16> {
+    let sets = vec![Set::Plain(vec![0])];
+    let mut definitions = Vec::new();
+    let mut starts = Vec::new();
+    for i in 0..25 {
+        definitions.push(definition(0, chain(&[0, 0, 0, 0], Term::Call(i))));
+        for delay in 0..4 {
+            starts.push(chain(&vec![0; delay], Term::Call(i)));
+        }
+    }
+    definitions.push(definition(0, balanced(starts)));
+    Table { alphabet: 1, sets, definitions }.list()
+}
+
+// A choice of these, nested as little as can be.
+fn balanced(mut terms: Vec<Term>) -> Term {
+    if terms.len() == 1 {
+        return terms.remove(0);
+    }
+    let right = terms.split_off(terms.len() / 2);
+    choice(balanced(terms), balanced(right))
+}
+
+// Set `of` by the event that the k-th enclosing prefix took.
+fn by(of: u16, k: u16) -> SetReference {
+    SetReference { set: of, parameter: Some(k) }
+}
+
+const MARKS: u16 = 64;
+
+// All; row v is v alone; row v is the four events after v.
+fn mark_sets() -> Vec<Set> {
+    let after = |v: u16| {
+        let mut row: Row = (1..5).map(|i| (v + i) % MARKS).collect();
+        row.sort();
+        row
+    };
+    vec![
+        Set::Plain((0..MARKS).collect()),
+        Set::Rows((0..MARKS).map(|v| vec![v]).collect()),
+        Set::Rows((0..MARKS).map(after).collect()),
+    ]
+}
+
+// x in all, y after x, x again, y again, one after x, and again
+fn recalling(call: u16) -> Term {
+    let last = prefix(by(2, 3), Term::Call(call));
+    prefix(plain(0), prefix(by(2, 0), prefix(by(1, 1), prefix(by(1, 1), last))))
+}
+
+fn remembered() -> Vec<u16> {
+    let definitions = vec![definition(0, recalling(0))];
+    Table { alphabet: MARKS, sets: mark_sets(), definitions }.list()
+}
+
+fn recalled() -> Vec<u8> {
+    let mut random = Random::new(3);
+    (0..1_000).flat_map(|_| round(&mut random)).collect()
+}
+
+fn round(random: &mut Random) -> [u8; 5] {
+    let marks = MARKS as usize;
+    let x = random.below(marks);
+    let mut after = || (x + random.between(1, 4)) % marks;
+    let (y, last) = (after(), after());
+    [x, y, x, y, last].map(|e| e as u8)
+}
+
+// All events of one lane are below 32, those of the other are not.
+fn remembered_by_two() -> Vec<u16> {
+    let mut sets = mark_sets();
+    sets.push(Set::Plain(vec![]));
+    let half = |low: u16| {
+        let row = |v: u16| -> Row { (low..low + 32).filter(|e| (e + v) % 8 < 2).collect() };
+        Set::Rows((0..MARKS).map(row).collect())
+    };
+    sets.extend([Set::Plain((0..32).collect()), Set::Plain((32..64).collect())]);
+    sets.extend([half(0), half(32)]);
+    let lane = |i: u16| {
+        let own = prefix(by(6 + i, 3), Term::Call(i));
+        let own = prefix(by(6 + i, 0), prefix(by(1, 1), prefix(by(1, 1), own)));
+        definition(0, prefix(plain(4 + i), own))
+    };
+    let both = beside(plain(3), vec![Term::Call(0), Term::Call(1)]);
+    let definitions = vec![lane(0), lane(1), definition(1, both)];
+    Table { alphabet: MARKS, sets, definitions }.list()
+}
+
+fn recalled_by_two() -> Vec<u8> {
+    let mut random = Random::new(4);
+    let mut rounds: [Vec<u8>; 2] = [Vec::new(), Vec::new()];
+    for (lane, events) in rounds.iter_mut().enumerate() {
+        let low = 32 * lane;
+        for _ in 0..1_000 {
+            let x = random.between(low, low + 31);
+            let mut own = || loop {
+                let e = random.between(low, low + 31);
+                if (e + x) % 8 < 2 {
+                    return e;
+                }
+            };
+            let (y, last) = (own(), own());
+            events.extend([x, y, x, y, last].map(|e| e as u8));
+        }
+    }
+    // taking turns at random
+    let [mut a, mut b] = rounds.map(|events| events.into_iter());
+    let mut events = Vec::new();
+    loop {
+        let (first, second) = if random.once_in(2) { (&mut a, &mut b) } else { (&mut b, &mut a) };
+        match first.next().or_else(|| second.next()) {
+            Some(event) => events.push(event),
+            None => return events,
+        }
+    }
+}

@@ -1,0 +1,19 @@
+// Events per second of monitors (document 01, "Operations": Start and Feed), side by side on the
+// same inputs.
+//     monitor     what a monitor is here: Start and Feed on lent areas
+//     plain       one in plain Rust, written for speed
+//     proved      the proved monitor, through the static library
+//     naive       the reference of tools/reference, as one of these
+//     inputs      tables with events to feed
+//     replay      whether a monitor answers as the reference, call by call
+//     measure     events per second
+//     report      the table in Markdown
+
+pub mod inputs;
+pub mod measure;
+pub mod monitor;
+pub mod naive;
+pub mod plain;
+pub mod proved;
+pub mod replay;
+pub mod report;

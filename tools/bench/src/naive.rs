@@ -1,0 +1,45 @@
+// The reference as a monitor: it makes its areas anew, which are then copied to the lent ones.
+
+use crate::monitor::*;
+use reference::monitor::operations as naive;
+use reference::monitor::state::Record as NaiveRecord;
+
+pub struct Naive;
+
+impl Monitor for Naive {
+    fn name(&self) -> &str {
+        "reference"
+    }
+
+    fn start(&self, list: &[u16], lent: Lent) -> Answer {
+        let areas = [lent.area0.to_vec(), lent.area1.to_vec()];
+        given(naive::start(list, &areas, lent.work.len()), lent)
+    }
+
+    fn feed(&self, list: &[u16], record: Record, lent: Lent, events: &[u8]) -> Answer {
+        let areas = [lent.area0.to_vec(), lent.area1.to_vec()];
+        let Record { taken, count, failed } = record;
+        let record = NaiveRecord { taken, count, failed };
+        given(naive::feed(list, record, &areas, events, lent.work.len()), lent)
+    }
+}
+
+fn given(outcome: naive::Outcome<naive::Answer>, lent: Lent) -> Answer {
+    lent.area0.copy_from_slice(&outcome.areas[0]);
+    lent.area1.copy_from_slice(&outcome.areas[1]);
+    if !outcome.work_kept {
+        lent.work.fill(0);
+    }
+    let refusal = outcome.answer.refusal.map(|r| Refusal { number: r.number, place: r.place });
+    let record = outcome.answer.record.map(|NaiveRecord { taken, count, failed }| Record {
+        taken,
+        count,
+        failed,
+    });
+    match (refusal, record) {
+        (None, Some(record)) => Answer::Given(record),
+        (Some(refusal), None) => Answer::Refused(refusal),
+        (Some(refusal), Some(record)) => Answer::Stopped(refusal, record),
+        (None, None) => unreachable!("a record or a refusal"),
+    }
+}

@@ -1,0 +1,118 @@
+// Refusals 7, 8, 9 and 2 of a parsed table.
+
+use super::index::*;
+use super::parse::parse;
+use super::refusal;
+use crate::monitor::{Refusal, WORK};
+
+const MOST_BYTES: usize = 16_384;
+
+pub fn judge(list: &[u16], work: &mut [u64; WORK]) -> Result<(), Refusal> {
+    parse(list, work)?;
+    references(work)?;
+    widths(work)?;
+    branches(work)?;
+    let bytes: usize = list.iter().map(|&n| bytes_of(n)).sum();
+    if bytes > MOST_BYTES {
+        return Err(refusal(2, 0));
+    }
+    Ok(())
+}
+
+fn bytes_of(number: u16) -> usize {
+    1 + (number >= 1 << 7) as usize + (number >= 1 << 14) as usize
+}
+
+fn references(work: &[u64; WORK]) -> Result<(), Refusal> {
+    let definitions = work[DEFINITIONS] as usize;
+    for n in 0..work[COUNT] as usize {
+        let term = Term(work[TERMS + n]);
+        let place = work[REACH + n] as usize;
+        if term.kind() == CALL {
+            if !call_fits(work, term, definitions) {
+                return Err(refusal(7, place + 1));
+            }
+        } else if term.parameter() > term.prefixes() {
+            return Err(refusal(7, place + 2));
+        }
+    }
+    Ok(())
+}
+
+fn call_fits(work: &[u64; WORK], term: Term, definitions: usize) -> bool {
+    let called = term.target();
+    if called >= definitions {
+        return false;
+    }
+    let own = work[LEVELS + term.own()];
+    let level = work[LEVELS + called];
+    level + term.under_parallel() as u64 <= own && (term.prefixes() > 0 || called < term.own())
+}
+
+// The widths (01: hands) of the levels, lowest first; then the reach of each term.
+fn widths(work: &mut [u64; WORK]) -> Result<(), Refusal> {
+    let mut of_level = [0; 8];
+    for level in 0..8 {
+        for d in 0..work[DEFINITIONS] as usize {
+            if work[LEVELS + d] == level as u64 {
+                let body = work[BODIES + d] as usize;
+                let end = work[BODIES + d + 1] as usize;
+                let mut calls = of_level;
+                calls[level] = 1;
+                for n in (body..end).rev() {
+                    work[REACH + n] = width(work, n, &calls);
+                }
+                of_level[level] = of_level[level].max(work[REACH + body]);
+            }
+        }
+        if of_level[level] > 8 {
+            return Err(refusal(8, level));
+        }
+    }
+    for n in (0..work[COUNT] as usize).rev() {
+        work[REACH + n] = width(work, n, &of_level);
+    }
+    Ok(())
+}
+
+fn width(work: &[u64; WORK], n: usize, calls: &[u64; 8]) -> u64 {
+    let term = Term(work[TERMS + n]);
+    match term.kind() {
+        PREFIX => work[REACH + n + 1],
+        CHOICE => work[REACH + n + 1].max(work[REACH + term.right()]),
+        PARALLEL => work[REACH + n + 1] + work[REACH + term.right()],
+        CALL => calls[work[LEVELS + term.target()] as usize],
+        _ => 1,
+    }
+}
+
+// The branches (01: openings) of each term: a body's calls that no prefix guards are of lower
+// definitions, so that the bodies are right after a round; the calls behind prefixes after another.
+fn branches(work: &mut [u64; WORK]) -> Result<(), Refusal> {
+    let terms = work[COUNT] as usize;
+    for d in 0..work[DEFINITIONS] as usize {
+        for n in (work[BODIES + d] as usize..work[BODIES + d + 1] as usize).rev() {
+            work[BRANCHES + n] = branches_of(work, n);
+        }
+    }
+    for n in (0..terms).rev() {
+        work[BRANCHES + n] = branches_of(work, n);
+    }
+    for n in 0..terms {
+        if Term(work[TERMS + n]).entry() && work[BRANCHES + n] > 256 {
+            return Err(refusal(9, n));
+        }
+    }
+    Ok(())
+}
+
+fn branches_of(work: &[u64; WORK], n: usize) -> u64 {
+    let term = Term(work[TERMS + n]);
+    match term.kind() {
+        FAIL => 0,
+        CHOICE => 257.min(work[BRANCHES + n + 1] + work[BRANCHES + term.right()]),
+        PARALLEL => 257.min(work[BRANCHES + n + 1] * work[BRANCHES + term.right()]),
+        CALL => work[BRANCHES + work[BODIES + term.target()] as usize],
+        _ => 1,
+    }
+}

@@ -1,0 +1,74 @@
+// The proved monitor, through the static library for C.
+
+use crate::monitor::*;
+
+#[path = "../../../examples/rust/src/cspe/library.rs"]
+#[allow(dead_code)]
+mod library;
+
+pub struct Proved;
+
+impl Monitor for Proved {
+    fn name(&self) -> &str {
+        "proved"
+    }
+
+    fn start(&self, list: &[u16], lent: Lent) -> Answer {
+        let mut record = [0; 4];
+        let mut place = 0;
+        // each pointer is that of a slice and goes with its length; no two slices overlap
+        let number = unsafe {
+            library::cspe_start(
+                list.as_ptr(),
+                list.len(),
+                record.as_mut_ptr(),
+                record.len(),
+                lent.area0.as_mut_ptr(),
+                lent.area0.len(),
+                lent.area1.as_mut_ptr(),
+                lent.area1.len(),
+                lent.work.as_mut_ptr(),
+                lent.work.len(),
+                &mut place,
+            )
+        };
+        given(number, place, record, false)
+    }
+
+    fn feed(&self, list: &[u16], record: Record, lent: Lent, events: &[u8]) -> Answer {
+        let Record { taken, count, failed } = record;
+        let mut record = [taken, count, failed.is_some() as u64, failed.unwrap_or(0)];
+        let mut place = 0;
+        // as above
+        let number = unsafe {
+            library::cspe_feed(
+                list.as_ptr(),
+                list.len(),
+                record.as_mut_ptr(),
+                record.len(),
+                lent.area0.as_mut_ptr(),
+                lent.area0.len(),
+                lent.area1.as_mut_ptr(),
+                lent.area1.len(),
+                events.as_ptr(),
+                events.len(),
+                lent.work.as_mut_ptr(),
+                lent.work.len(),
+                &mut place,
+            )
+        };
+        given(number, place, record, true)
+    }
+}
+
+// The answer by the refusal's number: 0 has a record; 11 to 13 of Feed have both.
+fn given(number: u32, place: u64, words: [u64; 4], feeding: bool) -> Answer {
+    let [taken, count, failed, at] = words;
+    let record = Record { taken, count, failed: (failed != 0).then_some(at) };
+    let refusal = Refusal { number: number as u8, place: place as usize };
+    match number {
+        0 => Answer::Given(record),
+        11..=13 if feeding => Answer::Stopped(refusal, record),
+        _ => Answer::Refused(refusal),
+    }
+}
