@@ -1,6 +1,7 @@
 -- What the functions on heads, pieces and lines promise, by the ways out of their code.
 --     cut-over, cut-missing, cut-there               by the length number and the bytes after it
 --     head-value, head-truncated, head-malformed     by what is read at the input's start
+--     head-within                                    the parts lie within the input
 --     state-running, state-failed                    the line of a record, by its verdict
 --     course-given, course-refused, course-stopped   what a piece leaves, by Feed's answer
 --     end-going, end-over                            the line at the input's end, by what the last piece left
@@ -82,6 +83,11 @@ module _ (s : List ℕ) (x : Reading) (found : x ≡ readAt s 0) where
   pub head-malformed : x ≡ Malformed → HeadSaid s (Wrong (record { number = 4; place = 0 }))
   unfolding headOf headBy
   head-malformed e = ap headBy (malformed-read s 0 (sym e ∙ found))
+
+-- ---- the parts lie within the input
+
+pub head-within : (s : List ℕ) (h : head.Head) → HeadSaid s h → (x y : ℕ) → h ≡ Parts x y → (x ≤ y) × (y ≤ length s)
+head-within s h says x y k = let p = subst (HeadIs (headOf s) s) k says in (p .order, p .within)
 
 -- ---- the record's line
 

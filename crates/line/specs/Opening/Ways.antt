@@ -42,6 +42,7 @@ use Rattle.line.specs.Pieces.{Course, going, over, fed, fedBy, pieceOf, 
 use Rattle.line.specs.Pieces.{feedFront, concludeOf, throughPieces, piecesOf}
 use Rattle.line.specs.Pieces.Joined.{pieces-whole}
 use Rattle.line.specs.Answers.{lineSaid, HeadIs, HeadSaid}
+use Rattle.line.specs.Answers.Laws.{head-within}
 use Rattle.line.specs.Opening.{lentFit, lent, refusedBy, Fresh, Starts, Begun, Reads, Began, Unfit, Declined}
 use Rattle.line.specs.Opening.{Opens, lentLine}
 use Rattle.line.specs.Opening.Laws.{fed-fresh, start-work, start-stops, read-right, read-declined, fed-work}
@@ -171,9 +172,6 @@ module _ (s l a b w : List ℕ) where
           unfit = λ f. true-false fit f;
         }
 
-    pub parts-within : (x y : ℕ) → h ≡ Parts x y → (x ≤ y) × (y ≤ length s)
-    parts-within x y k = let p = told-head (Parts x y) k in (p .order, p .within)
-
     pub opens-parts : (x y : ℕ) → h ≡ Parts x y → (r : Opened) (l' a' b' w' : List ℕ)
         → Reads (take (y - x) (drop x s)) y r l' a' b' w' → Opens s l a b w r l' a' b' w'
     unfolding frontOf frontHead
@@ -189,7 +187,7 @@ module _ (s l a b w : List ℕ) where
               front = front ∙ d .front (drop y s)
                   ∙ ap (λ (n : ℕ). record { course = going (take count l') (monitorOf st a' b'); events = drop n s })
                   (sym e);
-              within = let z = parts-within x y k in omega arith;
+              within = let z = head-within s h says x y k in omega arith;
               few = d .few;
               work = d .work;
             }

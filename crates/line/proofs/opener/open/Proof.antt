@@ -3,7 +3,8 @@
 use native.Mathlib.Omega.{arith}
 use mathlib.Core.Path.{sym, _∙_}
 use borrow.Author.Tests.{not-true, not-false}
-use Rattle.line.specs.Opening.Ways.{lent-out, opens-unfit, parts-within, opens-parts, opens-wrong}
+use Rattle.line.specs.Answers.Laws.{head-within}
+use Rattle.line.specs.Opening.Ways.{lent-out, opens-unfit, opens-parts, opens-wrong}
 use borrow.Author.Needs.{needs}
 use Rattle.line.proofs.opener.open.Statement.{statement}
 use Rattle.line.proofs.opener.open.Tie as tie
@@ -28,37 +29,19 @@ enum-known-from c = search needs
 sub-open-table : tie.Need-sub-open-table
 sub-open-table c =
     let at-from = c .before in
-    let at-head = at-from .before .before in
-    let at-if1 = at-head .before in
-    let at-lent-fit = at-if1 .before in
-    let args = at-lent-fit .before .before .before .before .before .before .args in
-    let fit = sym (at-lent-fit .lent-fit .ensures) ∙ not-false _ (at-if1 .if1 .left) in
-    let within = parts-within (args .input .now) (args .list .now) (args .area0 .now) (args .area1 .now)
-    (args .work .now) fit _ (at-head .head .ensures) _ _ (at-from .from .given .1) in
+    let within = head-within _ _ (at-from .before .before .head .ensures) _ _ (at-from .from .given .1) in
     omega arith
 
 part-open-table-start : tie.Need-part-open-table-start
 part-open-table-start c =
     let at-from = c .before in
-    let at-head = at-from .before .before in
-    let at-if1 = at-head .before in
-    let at-lent-fit = at-if1 .before in
-    let args = at-lent-fit .before .before .before .before .before .before .args in
-    let fit = sym (at-lent-fit .lent-fit .ensures) ∙ not-false _ (at-if1 .if1 .left) in
-    let within = parts-within (args .input .now) (args .list .now) (args .area0 .now) (args .area1 .now)
-    (args .work .now) fit _ (at-head .head .ensures) _ _ (at-from .from .given .1) in
+    let within = head-within _ _ (at-from .before .before .head .ensures) _ _ (at-from .from .given .1) in
     omega arith
 
 part-open-table-end : tie.Need-part-open-table-end
 part-open-table-end c =
     let at-from = c .before in
-    let at-head = at-from .before .before in
-    let at-if1 = at-head .before in
-    let at-lent-fit = at-if1 .before in
-    let args = at-lent-fit .before .before .before .before .before .before .args in
-    let fit = sym (at-lent-fit .lent-fit .ensures) ∙ not-false _ (at-if1 .if1 .left) in
-    let within = parts-within (args .input .now) (args .list .now) (args .area0 .now) (args .area1 .now)
-    (args .work .now) fit _ (at-head .head .ensures) _ _ (at-from .from .given .1) in
+    let within = head-within _ _ (at-from .before .before .head .ensures) _ _ (at-from .from .given .1) in
     omega arith
 
 open-table-requires : tie.Need-open-table-requires

@@ -1,0 +1,94 @@
+// An input with fewer slots than the program has: by Read, Start and Feed themselves.
+//     slots_right      held to its stored line
+use crate::trial::Stored;
+use crate::trial::same;
+use crate::trial::same_refusal;
+use cases::fill_numbers;
+use cases::fill_words;
+use line::Head;
+use monitor::Answer;
+use monitor::State;
+
+// Feed's answer as a line.
+fn feed_right(
+    list: &[u16],
+    state: State,
+    area0: &mut [u64],
+    area1: &mut [u64],
+    events: &[u8],
+    work: &mut [u64],
+    s: Stored,
+) -> bool {
+    match monitor::feed(list, state, area0, area1, events, work) {
+        Answer::Given(last) => same(line::conclude(last), s),
+        Answer::Refused(r) => same_refusal(r, s),
+        Answer::Stopped(r, _) => same_refusal(r, s),
+    }
+}
+
+fn start_right(
+    list: &[u16],
+    area0: &mut [u64],
+    area1: &mut [u64],
+    events: &[u8],
+    work: &mut [u64],
+    s: Stored,
+) -> bool {
+    match monitor::start(list, area0, area1, work) {
+        Answer::Given(state) => feed_right(list, state, area0, area1, events, work, s),
+        Answer::Refused(r) => same_refusal(r, s),
+        Answer::Stopped(r, _) => same_refusal(r, s),
+    }
+}
+
+fn read_right(
+    bytes: &[u8],
+    events: &[u8],
+    area0: &mut [u64],
+    area1: &mut [u64],
+    work: &mut [u64],
+    s: Stored,
+) -> bool {
+    let mut list = [0u16; 16384];
+    fill_numbers(&mut list);
+    match table::read(bytes, &mut list, work) {
+        table::Answer::Count(n) => {
+            if 16384 < n {
+                return false;
+            }
+            start_right(&list[..n], area0, area1, events, work, s)
+        }
+        table::Answer::Refused(r) => same_refusal(r, s),
+    }
+}
+
+// The table and the events of an input, by its head.
+fn parts_right(
+    input: &[u8],
+    area0: &mut [u64],
+    area1: &mut [u64],
+    work: &mut [u64],
+    s: Stored,
+) -> bool {
+    fill_words(area0);
+    fill_words(area1);
+    fill_words(work);
+    match line::head(input) {
+        Head::Parts(from, to) => {
+            read_right(&input[from..to], &input[to..], area0, area1, work, s)
+        }
+        Head::Wrong(r) => same_refusal(r, s),
+    }
+}
+
+// With areas of so many slots, at most 256.
+pub fn slots_right(input: &[u8], slots: usize, s: Stored) -> bool {
+    if 256 < slots {
+        return false;
+    }
+    let n = slots * 16;
+    let mut area0 = [0u64; 4096];
+    let mut area1 = [0u64; 4096];
+    let mut work = [0u64; 8192];
+    parts_right(input, &mut area0[..n], &mut area1[..n], &mut work, s)
+}
