@@ -1,5 +1,5 @@
 // Node words (document 01, "Residuals": "A node word is term × 2^24 + m0 × 2^18 + m1 × 2^12 +
-// m2 × 2^6 + m3"). Only these functions take one apart.
+// m2 × 2^6 + m3"). Of this crate only these functions take one apart.
 ghost use mathlib.Core.Path.{_≡_};
 ghost use Prim.Native.Nat.{_<_};
 ghost use Rattle.table.specs.Memory.{digit as digitOf};
