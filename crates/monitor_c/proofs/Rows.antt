@@ -1,6 +1,6 @@
 -- The worked examples hold, by computing. Assumes nothing.
 use mathlib.Core.Path.{refl}
-use mathlib.Core.List.{flatMap}
+use mathlib.Core.List.{flatMap, flatten}
 use Rattle.table.specs.Table.{size, sizes, bodyOf, bodyNumber, termIn, termOfDefs, termAt}
 use Rattle.table.specs.Table.{prefixesIn, enclosingIn, enclosing}
 use Rattle.numbers.specs.Number.{listBytes, bytesOf, groups, carry, later, scanWith, readNumber}
@@ -26,7 +26,7 @@ use Rattle.monitor_spec.specs.Residual.{fromDefinition, residualsOf}
 use Rattle.monitor_spec.specs.Slots.{pack, termOf, memoryOf, nodes, slotOf, compareWords, insert, canon, slotsOf}
 use Rattle.monitor_spec.specs.Valid.{joinTrees, plant, plantWord, forest, oneTree, slotResidual, held, digitFits}
 use Rattle.monitor_spec.specs.Valid.{memoryFits, memoriesFit, reachAt, reachSum, validSlot}
-use Rattle.monitor_spec.specs.State.{areasMeasured, workMeasured, slotCount, even, choose, chunks, concat, fill}
+use Rattle.monitor_spec.specs.State.{areasMeasured, workMeasured, slotCount, even, choose, chunks, fill}
 use Rattle.monitor_spec.specs.Consistent.{every, allZero, ascendsFrom, ascends, verdictFits, recordFits, areaFits}
 use Rattle.monitor_spec.specs.Consistent.{consistent}
 use Rattle.monitor_spec.specs.Fold.{through}
@@ -58,7 +58,7 @@ unfolding flatMap size sizes bodyOf bodyNumber termIn termOfDefs termAt prefixes
     pack termOf memoryOf nodes slotOf compareWords insert canon slotsOf
     joinTrees plant plantWord forest oneTree slotResidual held digitFits memoryFits memoriesFit reachAt reachSum
     validSlot
-    areasMeasured workMeasured slotCount even choose chunks concat fill
+    areasMeasured workMeasured slotCount even choose chunks flatten fill
     every allZero ascendsFrom ascends verdictFits recordFits areaFits consistent through
     presentSlots nextSlots nextVerdict taking takeEvent endingOf refusing feedAccepted feedJudged feedOf
     startAccepted startJudged startOf
