@@ -59,7 +59,10 @@ joined (One a) Still false n = One (a * 2)
 joined (One a) (One b) true n = One (a * 2 + b * 2 ^ n)
 joined (One a) (One b) false n = Many
 joined (One a) Many h n = Many
-joined Many b h n = Many
+joined Many Still true n = Still
+joined Many Still false n = Many
+joined Many (One b) h n = Many
+joined Many Many h n = Many
 
 unfoldable pub wayOf : Table → ℕ → Residual → Way
 wayOf t e (leaf n m) = leafWay t e (nodeWord n m)

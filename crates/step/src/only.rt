@@ -87,7 +87,16 @@ fn pair_way(left: Way, right: Way, held: bool, n: usize) -> Way
             }
             Way::Many => Way::Many,
         },
-        Way::Many => Way::Many,
+        Way::Many => match right {
+            Way::Still => {
+                if held {
+                    return Way::Still;
+                }
+                Way::Many
+            }
+            Way::One(_) => Way::Many,
+            Way::Many => Way::Many,
+        },
     }
 }
 

@@ -241,7 +241,10 @@ module _ (t : Table) (e n m : ℕ) (l r : Residual) (v : m < 16777216) where
       (both z ∙ rw (x .only, y .only))
   pair-became (One a) (One b) false z s x y = tt
   pair-became (One a) Many h z s x y = tt
-  pair-became Many b h z s x y = tt
+  pair-became Many Still true z s x y = still-right z y
+  pair-became Many Still false z s x y = tt
+  pair-became Many (One b) h z s x y = tt
+  pair-became Many Many h z s x y = tt
 
 -- ---- marks
 
@@ -264,7 +267,10 @@ joined-small (One a) Still false p q x y = omega (arith, combined a 0 p q x (pow
 joined-small (One a) (One b) true p q x y = combined a b p q x y
 joined-small (One a) (One b) false p q x y = pow-pos (suc (p + q))
 joined-small (One a) Many h p q x y = pow-pos (suc (p + q))
-joined-small Many b h p q x y = pow-pos (suc (p + q))
+joined-small Many Still true p q x y = pow-pos (suc (p + q))
+joined-small Many Still false p q x y = pow-pos (suc (p + q))
+joined-small Many (One b) h p q x y = pow-pos (suc (p + q))
+joined-small Many Many h p q x y = pow-pos (suc (p + q))
 
 leaf-small : (t : Table) (e w : ℕ) → marksOf (leafWay t e w) < 2
 unfolding leafWay
