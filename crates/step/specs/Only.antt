@@ -4,9 +4,10 @@
 --     rebuilt                       node words, the marked leaves replaced by what follows
 --     Single, Marked                a leaf that has one result; the marked leaves are such
 --     ShortTree, Only               what `only_at` asks and says
+--     Rooted, WayIn                 what `way_of` asks and says
 --     Follows, Rebuilds             what `follow` and `rebuild` ask
--- The laws are in `Only/Laws.antt` (the residual after the event) and `Only/Turns.antt` (the functions of `only.rt`).
--- Assumes nothing.
+-- The laws are in `Only/Marks.antt` (marks and the words rebuilt), `Only/Laws.antt` (the residual after the event),
+-- `Only/Turns.antt` and `Only/Rebuilding.antt` (the functions of `only.rt`). Assumes nothing.
 use Prim.Native.Nat.{ℕ, zero, suc, _+_, _*_, _/_, _%_, _<_, _≤_, _^_}
 use mathlib.Core.Path.{_≡_}
 use mathlib.Core.Bool.{Bool, true, false}
@@ -25,8 +26,10 @@ use Rattle.step.specs.Distinct.{window}
 use Rattle.step.specs.Walk.{option, room}
 use Rattle.step.specs.Forest.{Valid}
 use Rattle.step.specs.Takes.{TreeAt}
+pub mod Marks
 pub mod Laws
 pub mod Turns
+pub mod Rebuilding
 
 -- ---- ways
 
@@ -98,6 +101,14 @@ pub record ShortTree (t : Table) (area : List ℕ) (k : ℕ) : Type 0 where
 pub record Only (t : Table) (e : ℕ) (area : List ℕ) (k : ℕ) (c : WayAt) : Type 0 where
   pub of : (r : Residual) (ws : List ℕ) → drop k area ≡ words r ++ ws → Valid t r → (c .way ≡ wayOf t e r)
       × (c .next ≡ k + length (words r))
+
+pub record Rooted (t : Table) (area : List ℕ) (k n : ℕ) : Type 0 where
+  pub short : ShortTree t area k
+  pub count : n ≡ length (words (short .at .tree))
+
+pub record WayIn (t : Table) (e : ℕ) (area : List ℕ) (k n : ℕ) (v : Way) : Type 0 where
+  pub of : (r : Residual) (ws : List ℕ) → drop k area ≡ words r ++ ws → Valid t r → n ≡ length (words r)
+      → v ≡ wayOf t e r
 
 pub record Follows (t : Table) (bound e w : ℕ) (slot : List ℕ) : Type 0 where
   pub single : Single t e w

@@ -17,7 +17,7 @@ ghost use Rattle.step.specs.Residual.{pushAll};
 ghost use Rattle.step.specs.Distinct.{window, empty};
 ghost use Rattle.step.specs.Walk.{option};
 ghost use Rattle.step.specs.Only.{marksOf, joined, leafWay, ShortTree, Only};
-ghost use Rattle.step.specs.Only.{rebuilt, Follows, Rebuilds};
+ghost use Rattle.step.specs.Only.{Rooted, WayIn, rebuilt, Follows, Rebuilds};
 
 // What becomes of a tree: nothing; one result, with a mark for each leaf that takes the event (the
 // first node's is the lowest bit); or perhaps more.
@@ -101,7 +101,7 @@ fn pair_way(left: Way, right: Way, held: bool, n: usize) -> Way
 }
 
 // The way of the tree whose first node stands at k.
-pub fn only_at(list: &[u16], work: &[u64], area: &[u64], k: usize, e: u64) -> WayAt
+fn only_at(list: &[u16], work: &[u64], area: &[u64], k: usize, e: u64) -> WayAt
     requires { ⌜ Indexed (now list) (now work) ⌝ }
     requires { ⌜ (e < 64) × ShortTree (tableIn (now list)) (now area) k ⌝ }
     ensures { λ r. ⌜ Only (tableIn (now (list .entry))) e (now (area .entry)) k r ⌝ }
@@ -129,17 +129,43 @@ pub fn only_at(list: &[u16], work: &[u64], area: &[u64], k: usize, e: u64) -> Wa
     }
 }
 
-// A slot followed by the only residual of a prefix's follower.
+// The way of the residual with n nodes from k on. Many are one leaf.
+pub fn way_of(list: &[u16], work: &[u64], area: &[u64], k: usize, n: usize, e: u64) -> Way
+    requires { ⌜ Indexed (now list) (now work) ⌝ }
+    requires { ⌜ (e < 64) × Rooted (tableIn (now list)) (now area) k n ⌝ }
+    ensures { λ r. ⌜ WayIn (tableIn (now (list .entry))) e (now (area .entry)) k n r ⌝ }
+{
+    if n == 1 {
+        let w = area[k];
+        if kind_at(list, work, w) == 2 {
+            return leaf_way(list, work, w, e);
+        }
+        return Way::Still;
+    }
+    let tree = only_at(list, work, area, k, e);
+    tree.way
+}
+
+// A slot followed by the only residual of a prefix's follower. Calls are followed to the body that
+// they come to; `b` serves the proof that this ends.
 fn follow(list: &[u16], work: &[u64], bound: usize, e: u64, w: u64, slot: [u64; 16]) -> [u64; 16]
     requires { ⌜ Indexed (now list) (now work) ⌝ }
     requires { ⌜ Follows (tableIn (now list)) bound e w slot ⌝ }
     ensures { λ r. ⌜ r ≡ pushAll slot (option (tableIn (now (list .entry))) e w 0) ⌝ }
 {
-    let n = term_of(w) + 1;
-    let m = remember(e, memory_of(w));
-    match index::kind(list, work, n) {
+    let mut n = term_of(w) + 1;
+    let mut m = remember(e, memory_of(w));
+    let mut b = bound;
+    let mut k = index::kind(list, work, n);
+    while k == 5 {
+        b = index::called(list, work, n);
+        n = index::body(list, work, b);
+        m = 0;
+        k = index::kind(list, work, n);
+    }
+    match k {
         0 | 2 => push(slot, node(n, m)),
-        1 | 3..=18446744073709551615 => resolve_term(list, work, bound, n, m, 0, slot),
+        1 | 3..=18446744073709551615 => resolve_term(list, work, b, n, m, 0, slot),
     }
 }
 

@@ -3,8 +3,8 @@
 // they come to.
 use crate::leaves::distinct;
 use crate::only::Way;
-use crate::only::only_at;
 use crate::only::rebuild;
+use crate::only::way_of;
 use crate::slots::Held;
 use crate::slots::put;
 use crate::walk::walk;
@@ -119,14 +119,10 @@ fn step_one(
         r (now (dst .exit)) ⌝ }
 {
     let at = i * 16;
-    let tree = only_at(list, work, src, at + 1, e);
-    let way = tree.way;
-    match way {
+    let n = src[at] as usize;
+    match way_of(list, work, src, at + 1, n, e) {
         Way::Still => Held::Count(c),
-        Way::One(marks) => {
-            let n = src[at] as usize;
-            put(dst, c, rebuild(list, work, bound, e, src, at + 1, n, marks))
-        }
+        Way::One(marks) => { put(dst, c, rebuild(list, work, bound, e, src, at + 1, n, marks)) }
         Way::Many => step_many(list, work, bound, e, src, i, store, dst, c),
     }
 }

@@ -1,22 +1,19 @@
 -- The residual after the event, by way.
---     rebuilt-append, rebuilt-none     the node words of two trees; where nothing is marked
---     Became, became                   what a way says of the residuals after the event
---     marks-small                      a residual's marks are fewer than its nodes' subsets
+--     way-not-kind, way-not-held, way-held     the way of a leaf
+--     OneResult, Became, became                what a way says of the residuals after the event
 -- Assumes nothing.
-use Prim.Native.Nat.{ℕ, zero, suc, _+_, _*_, _/_, _%_, _<_, _≤_, _^_}
+use Prim.Native.Nat.{ℕ, zero, suc, _+_, _*_, _/_, _%_, _<_, _^_}
 use native.Mathlib.Omega.{arith}
 use native.Mathlib.Numerals.{add-one}
-use native.Mathlib.Nat.{pow-suc, mul-assoc, mul-comm, mul-le-mul-right, suc-mul}
 use mathlib.Core.Path.{_≡_, refl, ap, sym, subst, _∙_}
 use mathlib.Core.Bool.{Bool, true, false}
-use mathlib.Core.List.{List, [], _∷_, _++_, map, append-assoc, append-nil}
-use lib.ListN.{length, length-append}
-use lib.Dec.{eqb}
-use lib.Pow.{pow-add, pow-mono, pow-pos}
+use mathlib.Core.List.{List, [], _∷_, _++_, append-nil}
+use lib.ListN.{length}
+use lib.Pow.{pow-pos}
 use borrow.Author.Tests.{eq-eqb, ne-eqb}
-use Rattle.table.specs.Table.{Table, termCount}
+use Rattle.table.specs.Table.{Table}
 use Rattle.table.specs.Branches.{branches}
-use Rattle.table.specs.Node.{termOf, kindOf}
+use Rattle.table.specs.Node.{termOf}
 use Rattle.step.specs.declared.only.Way.{Way}
 use Rattle.step.specs.declared.only.Way.the-variants.{Still, One, Many}
 use Rattle.step.specs.Words.{inSet, nodeWord, remember, termOfWord, memoryOfWord, kindAt, holdsAt}
@@ -25,58 +22,12 @@ use Rattle.step.specs.Residual.Resolved.{length-resolved}
 use Rattle.step.specs.Distinct.{kept, keep, heldIn, slotAt}
 use Rattle.step.specs.Walk.{leafKept, option}
 use Rattle.step.specs.Forest.{Valid, afterKept}
-use Rattle.step.specs.Forest.Laws.{term-of-node, memory-of-node, kind-of-node, holds-of-node, kept-both}
-use Rattle.step.specs.Forest.Laws.{kept-either, pairs-nil}
+use Rattle.step.specs.Forest.Laws.{term-of-node, memory-of-node, holds-of-node, kept-both, kept-either}
+use Rattle.step.specs.Forest.Laws.{pairs-nil}
 use Rattle.step.specs.Course.Laws.{kept-yes, kept-not-kind, kept-not-held}
-use Rattle.step.specs.Only.{marksOf, countWay, leafWay, joined, wayOf, grown, rebuilt, Single, Marked}
-
--- ---- node words
-
-module _ (t : Table) (e : ℕ) where
-  pub grown-kept : (w m : ℕ) → m ≡ 0 → grown t e w m ≡ w ∷ []
-  unfolding grown
-  grown-kept w m z = rw (eq-eqb _ _ z, grown)
-
-  pub grown-moved : (w m : ℕ) → (m ≡ 0 → ⊥) → grown t e w m ≡ option t e w 0
-  unfolding grown
-  grown-moved w m z = rw (ne-eqb _ _ z, grown)
-
-  rebuilt-none : (ws : List ℕ) → rebuilt t e ws 0 ≡ ws
-  unfolding rebuilt
-  rebuilt-none [] = refl
-  rebuilt-none (w ∷ ws) = rw (grown-kept w 0 refl, rebuilt-none ws)
-
-  marked-none : (ws : List ℕ) → Marked t e ws 0
-  marked-none [] = tt
-  marked-none (w ∷ ws) = (λ z. absurd (z refl), marked-none ws)
-
-  -- the marks of one list above those of another
-  above : (a b k : ℕ) → ((a + b * 2 ^ suc k) % 2 ≡ a % 2) × ((a + b * 2 ^ suc k) / 2 ≡ a / 2 + b * 2 ^ k)
-  above a b k =
-      let z : b * 2 ^ suc k ≡ 2 * (b * 2 ^ k) = rw (pow-suc 2 k) (sym (mul-assoc b (2 ^ k) 2) ∙ mul-comm (b * 2 ^ k) 2) in
-      (omega (arith, z), omega (arith, z))
-
-  half-small : (a k : ℕ) → a < 2 ^ suc k → a / 2 < 2 ^ k
-  half-small a k h = omega (arith, pow-suc 2 k)
-
-  rebuilt-append : (xs ys : List ℕ) (a b : ℕ) → a < 2 ^ length xs
-      → rebuilt t e (xs ++ ys) (a + b * 2 ^ length xs) ≡ rebuilt t e xs a ++ rebuilt t e ys b
-  unfolding rebuilt
-  rebuilt-append [] ys a b h = let z : a + b * 2 ^ 0 ≡ b = omega arith in rw z
-  rebuilt-append (x ∷ xs) ys a b h =
-      rw (
-        above a b (length xs) .0,
-        above a b (length xs) .1,
-        rebuilt-append xs ys (a / 2) b (half-small a (length xs) h),
-      )
-      (sym (append-assoc (grown t e x (a % 2)) (rebuilt t e xs (a / 2)) (rebuilt t e ys b)))
-
-  marked-append : (xs ys : List ℕ) (a b : ℕ) → a < 2 ^ length xs → Marked t e xs a → Marked t e ys b
-      → Marked t e (xs ++ ys) (a + b * 2 ^ length xs)
-  marked-append [] ys a b h p q = let z : a + b * 2 ^ 0 ≡ b = omega arith in rw z q
-  marked-append (x ∷ xs) ys a b h p q =
-      rw (above a b (length xs) .0, above a b (length xs) .1)
-      (p .0, marked-append xs ys (a / 2) b (half-small a (length xs) h) (p .1) q)
+use Rattle.step.specs.Only.{marksOf, countWay, leafWay, joined, wayOf, rebuilt, Marked}
+use Rattle.step.specs.Only.Marks.{grown-kept, grown-moved, rebuilt-none, rebuilt-append, marked-none}
+use Rattle.step.specs.Only.Marks.{marked-append, above, marks-small}
 
 -- ---- what a way says
 
@@ -245,60 +196,6 @@ module _ (t : Table) (e n m : ℕ) (l r : Residual) (v : m < 16777216) where
   pair-became Many Still false z s x y = tt
   pair-became Many (One b) h z s x y = tt
   pair-became Many Many h z s x y = tt
-
--- ---- marks
-
-combined : (a b p q : ℕ) → a < 2 ^ p → b < 2 ^ q → a * 2 + b * 2 ^ (p + 1) < 2 ^ suc (p + q)
-combined a b p q h k =
-    let x : b * 2 ^ (p + 1) ≡ b * 2 ^ p * 2 = rw (add-one p, pow-suc 2 p) (sym (mul-assoc b (2 ^ p) 2)) in
-    let y : 2 ^ suc (p + q) ≡ 2 ^ q * 2 ^ p * 2 = rw (pow-suc 2 (p + q), pow-add 2 p q, mul-comm (2 ^ p) (2 ^ q)) in
-    let z : suc b * 2 ^ p ≤ 2 ^ q * 2 ^ p = mul-le-mul-right (2 ^ p) k in
-    omega (arith, x, y, z, suc-mul b (2 ^ p))
-
-joined-small : (a b : Way) (h : Bool) (p q : ℕ) → marksOf a < 2 ^ p → marksOf b < 2 ^ q
-    → marksOf (joined a b h (p + 1)) < 2 ^ suc (p + q)
-joined-small Still Still h p q x y = pow-pos (suc (p + q))
-joined-small Still (One b) true p q x y = pow-pos (suc (p + q))
-joined-small Still (One b) false p q x y = omega (arith, combined 0 b p q (pow-pos p) y)
-joined-small Still Many true p q x y = pow-pos (suc (p + q))
-joined-small Still Many false p q x y = pow-pos (suc (p + q))
-joined-small (One a) Still true p q x y = pow-pos (suc (p + q))
-joined-small (One a) Still false p q x y = omega (arith, combined a 0 p q x (pow-pos q))
-joined-small (One a) (One b) true p q x y = combined a b p q x y
-joined-small (One a) (One b) false p q x y = pow-pos (suc (p + q))
-joined-small (One a) Many h p q x y = pow-pos (suc (p + q))
-joined-small Many Still true p q x y = pow-pos (suc (p + q))
-joined-small Many Still false p q x y = pow-pos (suc (p + q))
-joined-small Many (One b) h p q x y = pow-pos (suc (p + q))
-joined-small Many Many h p q x y = pow-pos (suc (p + q))
-
-leaf-small : (t : Table) (e w : ℕ) → marksOf (leafWay t e w) < 2
-unfolding leafWay
-leaf-small t e w = by-tests (eqb (kindAt t w) 2) (holdsAt t e w) (branches t (termOf t (termOfWord w + 1)))
-  where
-    by-tests : (a b : Bool) (c : ℕ)
-        → marksOf
-        (elim a as (λ x. Way) [ true ↦ elim b as (λ x. Way) [ true ↦ countWay c | false ↦ Still ] | false ↦ Still ]) < 2
-    by-tests true true zero = omega arith
-    by-tests true true (suc zero) = omega arith
-    by-tests true true (suc (suc c)) = omega arith
-    by-tests true false c = omega arith
-    by-tests false b c = omega arith
-
-pub marks-small : (t : Table) (e : ℕ) (r : Residual) → marksOf (wayOf t e r) < 2 ^ length (words r)
-unfolding wayOf words
-marks-small t e (leaf n m) = leaf-small t e (nodeWord n m)
-marks-small t e (pair n m l r) =
-    rw (length-append (words l) (words r))
-    (joined-small (wayOf t e l) (wayOf t e r) (holdsAt t e (nodeWord n m)) (length (words l)) (length (words r))
-    (marks-small t e l) (marks-small t e r))
-
--- the marks of a pair fit a word
-pub marks-fit : (t : Table) (e : ℕ) (l r : Residual) → suc (length (words l) + length (words r)) ≤ 15
-    → marksOf (wayOf t e l) * 2 + marksOf (wayOf t e r) * 2 ^ (length (words l) + 1) < 18446744073709551616
-marks-fit t e l r h =
-    let z = combined _ _ (length (words l)) (length (words r)) (marks-small t e l) (marks-small t e r) in
-    omega (arith, z, pow-mono h)
 
 pub became : (t : Table) (e : ℕ) (r : Residual) → Valid t r → Became t e r (wayOf t e r)
 unfolding wayOf

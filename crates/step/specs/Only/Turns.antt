@@ -1,43 +1,33 @@
--- One law per way out of the functions of `only.rt`.
+-- The way of a residual: one law per way out of its functions.
 --     way-none, way-one, way-many        `leaf_way`
 --     pair-left, pair-right, pair-both   `pair_way`
 --     short-left, short-right            where the sides of a pair stand
 --     only-leaf, only-none, only-pair    `only_at`
---     follower-.., node-fits, followed   `follow`
---     Rebuilding, rebuild-..             the loop of `rebuild`
+--     root-leaf, root-tree               `way_of`
 -- Assumes nothing.
-use Prim.Native.Nat.{ℕ, zero, suc, _+_, _-_, _*_, _/_, _%_, _<_, _≤_, _^_}
+use Prim.Native.Nat.{ℕ, zero, suc, _+_, _-_, _*_, _%_, _<_, _≤_, _^_}
 use native.Mathlib.Omega.{arith}
 use native.Mathlib.Nat.{mod-eq-of-lt}
 use mathlib.Core.Path.{_≡_, refl, ap, sym, _∙_}
 use mathlib.Core.Bool.{Bool, true, false}
-use mathlib.Core.List.{List, [], _∷_, _++_, map, append-assoc}
+use mathlib.Core.List.{List, _++_, append-assoc}
 use lib.ListN.{length, getD, drop, length-append}
-use borrow.Author.Tests.{eq-eqb, ne-eqb}
-use Rattle.table.specs.Table.{Table, termCount}
+use Rattle.table.specs.Table.{Table}
 use Rattle.table.specs.Branches.{branches}
 use Rattle.table.specs.Branches.Capped.{capped}
-use Rattle.table.specs.Node.{termOf, kindOf}
+use Rattle.table.specs.Node.{termOf}
 use Rattle.step.specs.declared.only.Way.{Way}
 use Rattle.step.specs.declared.only.Way.the-variants.{Still, One, Many}
 use Rattle.step.specs.declared.only.WayAt.{WayAt}
-use Rattle.step.specs.Words.{nodeWord, remember, termOfWord, memoryOfWord, kindAt, holdsAt, KnownWord}
-use Rattle.step.specs.Words.Laws.{remember-small}
-use Rattle.step.specs.Lawful.{Lawful, follower-in}
-use Rattle.step.specs.Residual.{Residual, leaf, pair, words, resolved, nth, pushed, pushAll, Resolves}
-use Rattle.step.specs.Residual.{resolvedInto}
-use Rattle.step.specs.Residual.Resolved.{length-resolved}
-use Rattle.step.specs.Residual.Into.{length-pushed, head-pushed, length-pushAll, head-pushAll, pushAll-append}
-use Rattle.step.specs.Distinct.{window, empty}
-use Rattle.step.specs.Distinct.Laws.{window-cons, window-none}
-use Rattle.step.specs.Walk.{option, room, leafResults, longest}
+use Rattle.step.specs.Words.{termOfWord, kindAt, holdsAt}
+use Rattle.step.specs.Residual.{Residual, leaf, pair, words}
 use Rattle.step.specs.Forest.{Valid}
 use Rattle.step.specs.Forest.Laws.{kind-of-node}
-use Rattle.step.specs.Course.Laws.{results-yes, words-short}
-use Rattle.step.specs.Takes.Laws.{tree-in, first-word, sides, skipped}
-use Rattle.step.specs.Only.{marksOf, countWay, leafWay, joined, wayOf, rebuilt, Single, Marked, ShortTree, Only}
-use Rattle.step.specs.Only.{Follows, Rebuilds}
-use Rattle.step.specs.Only.Laws.{way-not-kind, way-held, grown-kept, grown-moved, marks-fit}
+use Rattle.step.specs.Course.Laws.{words-positive}
+use Rattle.step.specs.Takes.Laws.{first-word, sides, skipped}
+use Rattle.step.specs.Only.{marksOf, countWay, leafWay, joined, wayOf, ShortTree, Only, Rooted, WayIn}
+use Rattle.step.specs.Only.Marks.{marks-fit}
+use Rattle.step.specs.Only.Laws.{way-not-kind, way-held}
 
 -- ---- leaf_way
 
@@ -175,148 +165,17 @@ module _ {t : Table} {area : List ℕ} (k : ℕ) (s : ShortTree t area k) where
                   omega (arith, ga .1, gb .1, length-append (words l) (words r)),
                 )
 
--- ---- follow
+-- ---- way_of
 
-module _ {t : Table} {bound e w : ℕ} {slot : List ℕ} (law : Lawful t) (f : Follows t bound e w slot) (n mm m : ℕ)
-    (en : n ≡ termOfWord w) (emm : mm ≡ memoryOfWord w) (em : m ≡ remember e mm) where
-  pub follower-known : n + 1 < termCount t
-  unfolding kindAt
-  follower-known = rw en (follower-in t (termOfWord w) (f .single .within) (f .single .kind))
+module _ {t : Table} {area : List ℕ} {k n : ℕ} (s : Rooted t area k n) (e : ℕ) where
+  pub root-leaf : n ≡ 1 → (v : Way) → v ≡ leafWay t e (getD area k 0) → WayIn t e area k n v
+  unfolding words wayOf
+  root-leaf en v ev = record { of = told }
+    where
+      told : (r : Residual) (ws : List ℕ) → drop k area ≡ words r ++ ws → Valid t r → n ≡ length (words r)
+          → v ≡ wayOf t e r
+      told (leaf i m) ws g u h = ev ∙ ap (leafWay t e) (first-word k (s .short .at) g .0)
+      told (pair i m l r) ws g u h = absurd (omega (arith, words-positive l, length-append (words l) (words r)))
 
-  memory-small : m < 16777216
-  unfolding memoryOfWord
-  memory-small = rw (em, emm) (remember-small e _ (f .event) (omega arith))
-
-  pub node-fits : (n + 1 < 1024) × (m < 16777216)
-  node-fits = (omega (arith, law .few, follower-known), memory-small)
-
-  pub follower-resolves : Resolves t bound (n + 1) m 0 slot
-  unfolding option
-  follower-resolves = record {
-    within = follower-known;
-    below = rw (f .whole) (law .named (n + 1) follower-known);
-    known = omega (arith, f .whole);
-    small = rw en (omega (arith, f .single .alone));
-    index = rw (length-resolved t (n + 1) m, en, f .single .alone) (omega arith);
-    memory = memory-small;
-    room = rw (en, em, emm) (f .room);
-    whole = f .size;
-  }
-
-  pub followed : resolvedInto t (n + 1) m 0 slot ≡ pushAll slot (option t e w 0)
-  unfolding resolvedInto option
-  followed = rw (en, em, emm)
-
--- ---- rebuild
-
--- what is left, of which a slot has room
-pub record Rest (t : Table) (e : ℕ) (ws : List ℕ) (m : ℕ) (slot : List ℕ) : Type 0 where
-  pub size : length slot ≡ 16
-  pub room : getD slot 0 0 + room t e ws ≤ 15
-  pub marked : Marked t e ws m
-
-option-fits : (t : Table) (e w : ℕ) → Single t e w → length (option t e w 0) ≤ longest (map words (leafResults t e w))
-unfolding option
-option-fits t e w s =
-    rw (results-yes t e w (eq-eqb _ _ (s .kind)) (s .held))
-    (words-short _ 0
-    (rw (length-resolved t (termOfWord w + 1) (remember e (memoryOfWord w)), s .alone) (omega arith)))
-
-module _ (t : Table) (bound e w : ℕ) (ws : List ℕ) (m : ℕ) (slot : List ℕ) (r : Rest t e (w ∷ ws) m slot) where
-  rest-room : getD slot 0 0 < 15
-  unfolding room
-  rest-room = omega (arith, r .room)
-
-  rest-keep : m % 2 ≡ 0 → Rest t e ws (m / 2) (pushed slot w)
-      × (pushAll (pushed slot w) (rebuilt t e ws (m / 2)) ≡ pushAll slot (rebuilt t e (w ∷ ws) m))
-  unfolding room rebuilt pushAll
-  rest-keep z = (
-    record {
-      size = length-pushed slot w ∙ r .size;
-      room = omega (arith, head-pushed slot w (r .size), r .room);
-      marked = r .marked .1;
-    },
-    rw (z, grown-kept t e w 0 refl),
-  )
-
-  rest-single : (m % 2 ≡ 0 → ⊥) → Single t e w
-  rest-single z = r .marked .0 z
-
-  rest-follows : e < 64 → bound ≡ length (t .definitions) → (m % 2 ≡ 0 → ⊥) → Follows t bound e w slot
-  unfolding room
-  rest-follows he hb z = record {
-    single = rest-single z;
-    event = he;
-    whole = hb;
-    room = omega (arith, r .room, option-fits t e w (rest-single z));
-    size = r .size;
-  }
-
-  rest-follow : (m % 2 ≡ 0 → ⊥) → Rest t e ws (m / 2) (pushAll slot (option t e w 0))
-      × (pushAll (pushAll slot (option t e w 0)) (rebuilt t e ws (m / 2)) ≡ pushAll slot (rebuilt t e (w ∷ ws) m))
-  unfolding room rebuilt
-  rest-follow z = (
-    record {
-      size = length-pushAll slot (option t e w 0) ∙ r .size;
-      room =
-          omega (
-            arith,
-            head-pushAll slot (option t e w 0) (r .size),
-            r .room,
-            option-fits t e w (rest-single z),
-          );
-      marked = r .marked .1;
-    },
-    rw (grown-moved t e w (m % 2) z) (sym (pushAll-append slot (option t e w 0) (rebuilt t e ws (m / 2)))),
-  )
-
--- the loop, at the j-th node
-pub record Rebuilding (t : Table) (e : ℕ) (area : List ℕ) (p n marks : ℕ) (slot : List ℕ) (m j : ℕ) : Type 0 where
-  pub rest : Rest t e (window (p + j) (n - j) area) m slot
-  pub same : pushAll slot (rebuilt t e (window (p + j) (n - j) area) m)
-      ≡ pushAll empty (rebuilt t e (window p n area) marks)
-
-module _ {t : Table} {bound e : ℕ} {area : List ℕ} {p n marks : ℕ} (b : Rebuilds t bound e area p n marks) where
-  pub rebuild-first : Rebuilding t e area p n marks empty marks 0
-  rebuild-first =
-      let z : p + 0 ≡ p = omega arith in
-      let y : n - 0 ≡ n = omega arith in
-      record {
-        rest = rw (z, y) (record { size = refl; room = omega (arith, b .room); marked = b .marked });
-        same = rw (z, y);
-      }
-
-  module _ (slot : List ℕ) (m j : ℕ) (h : j < n) (r : Rebuilding t e area p n marks slot m j) (w : ℕ)
-      (ew : w ≡ getD area (p + j) 0) where
-    node : window (p + j) (n - j) area ≡ w ∷ window (p + (j + 1)) (n - (j + 1)) area
-    node =
-        let z : n - j ≡ suc (n - (j + 1)) = omega arith in
-        let y : p + (j + 1) ≡ p + j + 1 = omega arith in
-        rw (z, y, ew) (window-cons (p + j) (n - (j + 1)) area (omega (arith, b .inside)))
-
-    here : Rest t e (w ∷ window (p + (j + 1)) (n - (j + 1)) area) m slot
-    here = rw node at (r .rest)
-
-    pub rebuild-room : getD slot 0 0 < 15
-    rebuild-room = rest-room t bound e w _ m slot here
-
-    pub rebuild-keep : m % 2 ≡ 0 → Rebuilding t e area p n marks (pushed slot w) (m / 2) (j + 1)
-    rebuild-keep z =
-        let k = rest-keep t bound e w _ m slot here z in
-        record { rest = k .0; same = k .1 ∙ (rw node at (r .same)) }
-
-    pub rebuild-follows : (m % 2 ≡ 0 → ⊥) → Follows t bound e w slot
-    rebuild-follows z = rest-follows t bound e w _ m slot here (b .event) (b .whole) z
-
-    pub rebuild-follow : (m % 2 ≡ 0 → ⊥) → (s : List ℕ) → s ≡ pushAll slot (option t e w 0)
-        → Rebuilding t e area p n marks s (m / 2) (j + 1)
-    rebuild-follow z s es =
-        let k = rest-follow t bound e w _ m slot here z in
-        rw es (record { rest = k .0; same = k .1 ∙ (rw node at (r .same)) })
-
-  pub rebuild-last : (slot : List ℕ) (m j : ℕ) → n ≤ j → Rebuilding t e area p n marks slot m j
-      → slot ≡ pushAll empty (rebuilt t e (window p n area) marks)
-  unfolding rebuilt pushAll
-  rebuild-last slot m j h r =
-      let z : n - j ≡ 0 = omega arith in
-      sym (rw (z, window-none (p + j) area)) ∙ r .same
+  pub root-tree : (a : WayAt) → Only t e area k a → WayIn t e area k n (a .way)
+  root-tree a o = record { of = λ r ws g u h. o .of r ws g u .0 }

@@ -2,13 +2,13 @@
 --     load-next                                          the loop of `load`
 --     step-asks, step-next, step-exceeded, step-end      the loop of `step_set`
 -- Assumes nothing.
-use Prim.Native.Nat.{ℕ, suc, _+_, _-_, _*_, _<_, _≤_}
+use Prim.Native.Nat.{ℕ, suc, _+_, _*_, _<_, _≤_}
 use native.Mathlib.Omega.{arith}
 use native.Mathlib.Numerals.{add-one}
-use mathlib.Core.Path.{_≡_, refl, ap, sym, _∙_}
-use mathlib.Core.List.{List, []}
+use mathlib.Core.Path.{_≡_, sym, _∙_}
+use mathlib.Core.List.{List}
 use lib.ListN.{length, getD, set, take, drop, length-drop}
-use lib.Seq.{take-suc, take-suc-set, getD-drop, getD-take}
+use lib.Seq.{take-suc, take-suc-set, getD-drop}
 use Rattle.table.specs.Table.{Table}
 use Rattle.step.specs.declared.slots.Held.{Held}
 use Rattle.step.specs.declared.slots.Held.the-variants.{Count, Exceeded}

@@ -1,10 +1,10 @@
 -- One residual and one event: one law per way out of `step_one` and `step_many`.
---     slot-short                     the residual's tree stands in its slot
+--     slot-rooted                    the residual's tree stands in its slot
 --     still-one                      it has no result
 --     one-rebuilds, one-done         it has one
 --     loaded-sound, start-place, many-done     it may have more
 -- Assumes nothing.
-use Prim.Native.Nat.{ℕ, _+_, _-_, _*_, _<_, _≤_}
+use Prim.Native.Nat.{ℕ, _+_, _-_, _*_, _≤_}
 use native.Mathlib.Omega.{arith}
 use mathlib.Core.Path.{_≡_, refl, ap, sym, _∙_}
 use mathlib.Core.List.{List, [], _∷_, _++_, map, append-nil}
@@ -12,20 +12,19 @@ use lib.ListN.{length, getD, take, drop, take-append-drop}
 use lib.Seq.{getD-take}
 use Rattle.table.specs.Table.{Table}
 use Rattle.step.specs.declared.slots.Held.{Held}
-use Rattle.step.specs.declared.slots.Held.the-variants.{Count, Exceeded}
+use Rattle.step.specs.declared.slots.Held.the-variants.{Count}
 use Rattle.step.specs.declared.only.Way.{Way}
-use Rattle.step.specs.declared.only.Way.the-variants.{Still, One, Many}
-use Rattle.step.specs.declared.only.WayAt.{WayAt}
-use Rattle.step.specs.Residual.{Residual, words, pushAll}
+use Rattle.step.specs.declared.only.Way.the-variants.{Still, One}
+use Rattle.step.specs.Residual.{words, pushAll}
 use Rattle.step.specs.Distinct.{window, empty}
 use Rattle.step.specs.Distinct.Laws.{at-window, length-window}
-use Rattle.step.specs.Walk.{room, results, onto}
-use Rattle.step.specs.Holding.{said, putOne, putAll, Gave}
+use Rattle.step.specs.Walk.{room, onto}
+use Rattle.step.specs.Holding.{putOne, putAll, Gave}
 use Rattle.step.specs.Holding.Laws.{put-none, put-single}
 use Rattle.step.specs.Forest.{Forest, afterKept, wordsAll}
 use Rattle.step.specs.Course.{nodeCount, nodesFrom, Ready, Place, walked}
-use Rattle.step.specs.Only.{wayOf, rebuilt, ShortTree, Only, Rebuilds}
-use Rattle.step.specs.Only.Laws.{OneResult, Became, became}
+use Rattle.step.specs.Only.{wayOf, rebuilt, Rooted, WayIn, Rebuilds}
+use Rattle.step.specs.Only.Laws.{OneResult, became}
 use Rattle.step.specs.Prepared.{Sound}
 use Rattle.step.specs.Prepared.Laws.{nodes-same, window-of-prefix}
 use Rattle.step.specs.Stepped.{slotNodes, StepsOne, steppedOne}
@@ -50,16 +49,21 @@ module _ {t : Table} {bound e : ℕ} {src : List ℕ} {i : ℕ} {store dst : Lis
       sym (take-append-drop (getD src (i * 16) 0) (drop (i * 16 + 1) src))
       ∙ ap (λ (x : List ℕ). x ++ drop (getD src (i * 16) 0) (drop (i * 16 + 1) src)) (s .slot .spelt)
 
-  pub slot-short : ShortTree t src (i * 16 + 1)
-  unfolding slotNodes
-  slot-short = record {
-    at = record { tree = s .slot .tree; tail = _; spelt = tree-spelt; valid = s .slot .valid };
-    few =
-        let z : getD src (i * 16) 0 ≡ length (words (s .slot .tree)) =
-        sym (length-window (i * 16 + 1) (getD src (i * 16) 0) src (omega (arith, s .slot .few, s .inside)))
-        ∙ ap length (s .slot .spelt) in
-        omega (arith, s .slot .few, z);
-  }
+  module _ (n : ℕ) (en : n ≡ getD src (i * 16) 0) where
+    tree-count : n ≡ length (words (s .slot .tree))
+    unfolding slotNodes
+    tree-count =
+        en ∙ sym (length-window (i * 16 + 1) (getD src (i * 16) 0) src (omega (arith, s .slot .few, s .inside)))
+        ∙ ap length (s .slot .spelt)
+
+    pub slot-rooted : Rooted t src (i * 16 + 1) n
+    slot-rooted = record {
+      short = record {
+        at = record { tree = s .slot .tree; tail = _; spelt = tree-spelt; valid = s .slot .valid };
+        few = omega (arith, s .slot .few, en, tree-count);
+      };
+      count = tree-count;
+    }
 
   after-of : steppedOne t e src i dst c ≡ putAll dst c (onto empty (map words (afterKept t e (s .slot .tree))))
   unfolding steppedOne
@@ -67,23 +71,24 @@ module _ {t : Table} {bound e : ℕ} {src : List ℕ} {i : ℕ} {store dst : Lis
 
   -- ---- by way
 
-  module _ (a : WayAt) (o : Only t e src (i * 16 + 1) a) where
-    way-is : a .way ≡ wayOf t e (s .slot .tree)
-    way-is = o .of (s .slot .tree) _ tree-spelt (s .slot .valid) .0
+  module _ (n : ℕ) (en : n ≡ getD src (i * 16) 0) (v : Way) (o : WayIn t e src (i * 16 + 1) n v) where
+    way-is : v ≡ wayOf t e (s .slot .tree)
+    way-is = o .of (s .slot .tree) _ tree-spelt (s .slot .valid) (tree-count n en)
 
-    pub still-one : a .way ≡ Still → Gave (steppedOne t e src i dst c) (Count c) dst
+    pub still-one : v ≡ Still → Gave (steppedOne t e src i dst c) (Count c) dst
     unfolding onto
     still-one z =
-        let g : afterKept t e (s .slot .tree) ≡ [] = rw (sym way-is ∙ z) at (became t e (s .slot .tree) (s .slot .valid)) in
+        let g : afterKept t e (s .slot .tree) ≡ [] = rw (sym way-is ∙ z) at
+        (became t e (s .slot .tree) (s .slot .valid)) in
         record { same = sym (after-of ∙ rw (g, ← (put-none dst c))); fits = s .held }
 
-    module _ (marks : ℕ) (z : a .way ≡ One marks) where
+    module _ (marks : ℕ) (z : v ≡ One marks) where
       one-of : OneResult t e (s .slot .tree) marks
       one-of = rw (sym way-is ∙ z) at (became t e (s .slot .tree) (s .slot .valid))
 
-      pub one-rebuilds : (n : ℕ) → n ≡ getD src (i * 16) 0 → Rebuilds t bound e src (i * 16 + 1) n marks
+      pub one-rebuilds : Rebuilds t bound e src (i * 16 + 1) n marks
       unfolding slotNodes
-      one-rebuilds n en = rw en (record {
+      one-rebuilds = rw en (record {
         event = s .event;
         whole = s .whole;
         inside = omega (arith, s .slot .few, s .inside);
@@ -91,13 +96,14 @@ module _ {t : Table} {bound e : ℕ} {src : List ℕ} {i : ℕ} {store dst : Lis
         marked = rw (s .slot .spelt) (one-of .marked);
       })
 
-      pub one-done : (n : ℕ) → n ≡ getD src (i * 16) 0 → (slot : List ℕ)
-          → slot ≡ pushAll empty (rebuilt t e (window (i * 16 + 1) n src) marks) → (r : Held) (l : List ℕ)
-          → Gave (putOne dst c slot) r l → Gave (steppedOne t e src i dst c) r l
+      pub one-done : (slot : List ℕ) → slot ≡ pushAll empty (rebuilt t e (window (i * 16 + 1) n src) marks) → (r : Held)
+          (l : List ℕ) → Gave (putOne dst c slot) r l → Gave (steppedOne t e src i dst c) r l
       unfolding slotNodes onto
-      one-done n en slot es r l g =
+      one-done slot es r l g =
+          let w : window (i * 16 + 1) n src ≡ words (s .slot .tree) = ap (λ (x : ℕ). window (i * 16 + 1) x src) en
+          ∙ s .slot .spelt in
           let x : slot ≡ pushAll empty (words (one-of .result)) =
-          es ∙ ap (pushAll empty) (rw (en, s .slot .spelt) (one-of .spelt)) in
+          es ∙ ap (λ (x : List ℕ). pushAll empty (rebuilt t e x marks)) w ∙ ap (pushAll empty) (one-of .spelt) in
           record {
             same = g .same ∙ sym (after-of ∙ rw (one-of .only, ← x, ← (put-single dst c slot)));
             fits = g .fits;

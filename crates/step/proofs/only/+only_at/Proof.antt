@@ -1,13 +1,13 @@
+-- `step::only::only_at` meets its contract: the sides of a pair stand one after the other, each shorter; the measure is
+-- how many words of the area follow. Assumes nothing.
 use native.Mathlib.Omega.{arith}
-use mathlib.Core.Path.{_≡_, refl, sym, ap, _∙_}
+use mathlib.Core.Path.{sym, _∙_}
 use mathlib.Core.Logic.{inl, inr}
-use Prim.Native.Nat.{_-_}
 use lib.ListN.{length}
 use denote.Ref.{now}
 use Rattle.step.specs.Takes.Laws.{tree-in, tree-known}
 use Rattle.step.specs.Only.Turns.{short-left, short-right, pair-fits, only-leaf, only-none, only-pair}
-use borrow.Author.Needs.{needs}
-use Prim.Native.Nat.{ℕ, _<_}
+use Prim.Native.Nat.{ℕ, _-_, _<_}
 use borrow.Fn.Kinds.{In}
 use borrow.Fn.PlainCycle.{Measures, is, falls, and}
 use Rattle.step.proofs.only.only_at.Reads as only-at
@@ -29,7 +29,6 @@ only-at-at t = and 3 only-at-kinds.ps (is 3 only-at-kinds.ps μ-only-at t) only-
 abbrev only-at-below : ℕ → In 3 only-at-kinds.ps
 only-at-below t = and 3 only-at-kinds.ps (falls 3 only-at-kinds.ps _<_ μ-only-at t) only-at.Pre
 
--- src/only.rt:100:13
 only-at-mul-w : (t : ℕ) → only-at-lts.Need-mul-w (
   kind-at-reads.Asked,
   kind-at-reads.Learnt,
@@ -44,7 +43,6 @@ only-at-mul-w : (t : ℕ) → only-at-lts.Need-mul-w (
 ) (only-at-at t) only-at.Post
 only-at-mul-w t c = omega (arith, tree-in _ (c .before .before .before .pre .1 .1 .1 .at))
 
--- src/only.rt:100:13
 only-at-shared-slice-read-w : (t : ℕ) → only-at-lts.Need-shared-slice-read-w (
   kind-at-reads.Asked,
   kind-at-reads.Learnt,
@@ -59,7 +57,6 @@ only-at-shared-slice-read-w : (t : ℕ) → only-at-lts.Need-shared-slice-read-w
 ) (only-at-at t) only-at.Post
 only-at-shared-slice-read-w t c = tree-in _ (c .before .before .before .before .pre .1 .1 .1 .at)
 
--- src/only.rt:101:11
 only-at-kind-at-requires : (t : ℕ) → only-at-lts.Need-kind-at-requires (
   kind-at-reads.Asked,
   kind-at-reads.Learnt,
@@ -74,7 +71,6 @@ only-at-kind-at-requires : (t : ℕ) → only-at-lts.Need-kind-at-requires (
 ) (only-at-at t) only-at.Post
 only-at-kind-at-requires t c κs = (c .before .before .before .before .pre .1 .0, tree-known _ (c .before .before .before .before .pre .1 .1 .1 .at) .within)
 
--- src/only.rt:103:17
 only-at-leaf-way-requires : (t : ℕ) → only-at-lts.Need-leaf-way-requires (
   kind-at-reads.Asked,
   kind-at-reads.Learnt,
@@ -89,7 +85,6 @@ only-at-leaf-way-requires : (t : ℕ) → only-at-lts.Need-leaf-way-requires (
 ) (only-at-at t) only-at.Post
 only-at-leaf-way-requires t c κs = (c .before .before .before .before .before .before .pre .1 .0, ((tree-known _ (c .before .before .before .before .before .before .pre .1 .1 .1 .at), (sym (c .before .kind-at .ensures) ∙ c .match .keys1)), c .before .before .before .before .before .before .pre .1 .1 .0))
 
--- src/only.rt:104:32
 only-at-add-t20 : (t : ℕ) → only-at-lts.Need-add-t20 (
   kind-at-reads.Asked,
   kind-at-reads.Learnt,
@@ -104,7 +99,6 @@ only-at-add-t20 : (t : ℕ) → only-at-lts.Need-add-t20 (
 ) (only-at-at t) only-at.Post
 only-at-add-t20 t c = omega (arith, tree-in _ (c .before .before .before .before .before .before .before .pre .1 .1 .1 .at))
 
--- src/only.rt:107:47
 only-at-add-only-at : (t : ℕ) → only-at-lts.Need-add-only-at (
   kind-at-reads.Asked,
   kind-at-reads.Learnt,
@@ -119,7 +113,6 @@ only-at-add-only-at : (t : ℕ) → only-at-lts.Need-add-only-at (
 ) (only-at-at t) only-at.Post
 only-at-add-only-at t c = omega (arith, tree-in _ (c .before .before .before .before .before .before .pre .1 .1 .1 .at))
 
--- src/only.rt:107:17
 only-at-only-at-requires : (t : ℕ) → only-at-lts.Need-only-at-requires (
   kind-at-reads.Asked,
   kind-at-reads.Learnt,
@@ -134,7 +127,6 @@ only-at-only-at-requires : (t : ℕ) → only-at-lts.Need-only-at-requires (
 ) (only-at-at t) only-at.Post
 only-at-only-at-requires t c κs = (omega (arith, c .before .before .before .before .before .before .pre .0, tree-in _ (c .before .before .before .before .before .before .pre .1 .1 .1 .at)), (c .before .before .before .before .before .before .pre .1 .0, (c .before .before .before .before .before .before .pre .1 .1 .0, short-left _ (c .before .before .before .before .before .before .pre .1 .1 .1) (sym (c .before .kind-at .ensures) ∙ c .match .keys2))))
 
--- src/only.rt:109:17
 only-at-only-at-requires-2 : (t : ℕ) → only-at-lts.Need-only-at-requires-2 (
   kind-at-reads.Asked,
   kind-at-reads.Learnt,
@@ -149,7 +141,6 @@ only-at-only-at-requires-2 : (t : ℕ) → only-at-lts.Need-only-at-requires-2 (
 ) (only-at-at t) only-at.Post
 only-at-only-at-requires-2 t c κs = let g = short-right _ (c .before .before .before .before .before .before .before .pre .1 .1 .1) (sym (c .before .before .kind-at .ensures) ∙ c .before .match .keys2) (c .before .before .before .before .before .before .before .args .e) _ (c .only-at .ensures) in (omega (arith, c .before .before .before .before .before .before .before .pre .0, tree-in _ (c .before .before .before .before .before .before .before .pre .1 .1 .1 .at), g .1), (c .before .before .before .before .before .before .before .pre .1 .0, (c .before .before .before .before .before .before .before .pre .1 .1 .0, g .0)))
 
--- src/only.rt:112:45
 only-at-holds-at-requires : (t : ℕ) → only-at-lts.Need-holds-at-requires (
   kind-at-reads.Asked,
   kind-at-reads.Learnt,
@@ -164,7 +155,6 @@ only-at-holds-at-requires : (t : ℕ) → only-at-lts.Need-holds-at-requires (
 ) (only-at-at t) only-at.Post
 only-at-holds-at-requires t c κs = (c .before .before .before .before .before .before .before .before .pre .1 .0, (tree-known _ (c .before .before .before .before .before .before .before .before .pre .1 .1 .1 .at), (inr (sym (c .before .before .before .kind-at .ensures) ∙ c .before .before .match .keys2), c .before .before .before .before .before .before .before .before .pre .1 .1 .0)))
 
--- src/only.rt:112:73
 only-at-sub-pair-way : (t : ℕ) → only-at-lts.Need-sub-pair-way (
   kind-at-reads.Asked,
   kind-at-reads.Learnt,
@@ -179,7 +169,6 @@ only-at-sub-pair-way : (t : ℕ) → only-at-lts.Need-sub-pair-way (
 ) (only-at-at t) only-at.Post
 only-at-sub-pair-way t c = omega (arith, short-right _ (c .before .before .before .before .before .before .before .before .before .pre .1 .1 .1) (sym (c .before .before .before .before .kind-at .ensures) ∙ c .before .before .before .match .keys2) (c .before .before .before .before .before .before .before .before .before .args .e) _ (c .before .before .only-at .ensures) .1)
 
--- src/only.rt:112:17
 only-at-pair-way-requires : (t : ℕ) → only-at-lts.Need-pair-way-requires (
   kind-at-reads.Asked,
   kind-at-reads.Learnt,
@@ -194,7 +183,6 @@ only-at-pair-way-requires : (t : ℕ) → only-at-lts.Need-pair-way-requires (
 ) (only-at-at t) only-at.Post
 only-at-pair-way-requires t c κs = pair-fits _ (c .before .before .before .before .before .before .before .before .before .pre .1 .1 .1) (sym (c .before .before .before .before .kind-at .ensures) ∙ c .before .before .before .match .keys2) (c .before .before .before .before .before .before .before .before .before .args .e) _ (c .before .before .only-at .ensures) _ (c .before .only-at2 .ensures)
 
--- src/only.rt:118:19
 only-at-add-t24 : (t : ℕ) → only-at-lts.Need-add-t24 (
   kind-at-reads.Asked,
   kind-at-reads.Learnt,
@@ -209,7 +197,6 @@ only-at-add-t24 : (t : ℕ) → only-at-lts.Need-add-t24 (
 ) (only-at-at t) only-at.Post
 only-at-add-t24 t c = omega (arith, tree-in _ (c .before .before .before .before .before .before .pre .1 .1 .1 .at))
 
--- src/only.rt:95:1
 only-at-returns : (t : ℕ) → only-at-lts.Need-returns (
   kind-at-reads.Asked,
   kind-at-reads.Learnt,
@@ -224,7 +211,6 @@ only-at-returns : (t : ℕ) → only-at-lts.Need-returns (
 ) (only-at-at t) only-at.Post
 only-at-returns t c = only-leaf _ (c .before .before .before .before .before .before .before .pre .1 .1 .1) _ (sym (c .before .before .kind-at .ensures) ∙ c .before .match .keys1) _ (c .leaf-way .ensures)
 
--- src/only.rt:95:1
 only-at-returns-2 : (t : ℕ) → only-at-lts.Need-returns-2 (
   kind-at-reads.Asked,
   kind-at-reads.Learnt,
@@ -239,7 +225,6 @@ only-at-returns-2 : (t : ℕ) → only-at-lts.Need-returns-2 (
 ) (only-at-at t) only-at.Post
 only-at-returns-2 t c = only-pair _ (c .before .before .before .before .before .before .before .before .before .before .pre .1 .1 .1) (sym (c .before .before .before .before .before .kind-at .ensures) ∙ c .before .before .before .before .match .keys2) (c .before .before .before .before .before .before .before .before .before .before .args .e) _ (c .before .before .before .only-at .ensures) _ (c .before .before .only-at2 .ensures) _ (c .before .holds-at .ensures) _ (c .pair-way .ensures)
 
--- src/only.rt:95:1
 only-at-returns-3 : (t : ℕ) → only-at-lts.Need-returns-3 (
   kind-at-reads.Asked,
   kind-at-reads.Learnt,

@@ -1,17 +1,15 @@
+-- `step::only::rebuild` meets its contract: the slot has what the first j nodes became, and the marks from there on are
+-- left. Assumes nothing.
 use native.Mathlib.Omega.{arith}
-use mathlib.Core.Path.{_≡_, refl, sym, ap, _∙_}
-use mathlib.Core.Logic.{inl, inr}
+use mathlib.Core.Path.{refl}
 use Prim.Native.Nat.{_-_, _≤_}
-use lib.ListN.{length-set}
 use Rattle.table.specs.Index.{tableIn}
 use Rattle.step.specs.Residual.{pushed}
-use Rattle.step.specs.Only.Turns.{Rebuilding, rebuild-first, rebuild-room, rebuild-keep, rebuild-follows, rebuild-follow, rebuild-last}
+use Rattle.step.specs.Only.Rebuilding.{Rebuilding, rebuild-first, rebuild-room, rebuild-keep, rebuild-follows}
+use Rattle.step.specs.Only.Rebuilding.{rebuild-follow, rebuild-last}
 use borrow.Author.Needs.{needs}
 use Rattle.step.proofs.only.rebuild.Statement.{statement}
 use Rattle.step.proofs.only.rebuild.Tie as tie
-use Rattle.step.proofs.only.rebuild.Reads as reads
-use Rattle.step.proofs.only.rebuild.Lts as lts
-use Rattle.step.proofs.only.follow.Reads as follow-reads
 
 abbrev Inv-loop : tie.InvT-loop
 Inv-loop list work bound e area p n marks s₀ m₀ j₀ s m j = (j ≤ n) × Rebuilding (tableIn list) e area p n marks s m j
@@ -19,72 +17,55 @@ Inv-loop list work bound e area p n marks s₀ m₀ j₀ s m j = (j ≤ n) × Re
 abbrev μ-loop : tie.MeasureT-loop
 μ-loop list work bound e area p n marks s₀ m₀ j₀ s m j = n - j
 
--- src/only.rt:164:5
 loop-holds : tie.Need-loop-holds Inv-loop μ-loop
 loop-holds c = (omega arith, rebuild-first (c .before .before .before .pre .1))
 
--- src/only.rt:165:22
 add-w : tie.Need-add-w Inv-loop μ-loop
 add-w c = omega (arith, c .before .before .before .before .before .pre .1 .inside, c .loop-test .taken)
 
--- src/only.rt:165:17
 mul-w : tie.Need-mul-w Inv-loop μ-loop
 mul-w c = omega (arith, c .before .before .before .before .before .pre .1 .inside, c .loop-test .taken)
 
--- src/only.rt:165:17
 shared-slice-read-w : tie.Need-shared-slice-read-w Inv-loop μ-loop
 shared-slice-read-w c = omega (arith, c .before .before .before .before .before .before .pre .1 .inside, c .before .loop-test .taken)
 
--- src/only.rt:167:21
 array-read-c : tie.Need-array-read-c Inv-loop μ-loop
 array-read-c c = omega (arith, c .before .before .before .loop .inv .1 .rest .size)
 
--- src/only.rt:167:21
 add-c : tie.Need-add-c Inv-loop μ-loop
 add-c c = omega (arith, rebuild-room (c .before .before .before .before .before .before .before .pre .1) _ _ _ (c .before .before .loop-test .taken) (c .before .before .before .loop .inv .1) _ refl)
 
--- src/only.rt:168:13
 mul-s : tie.Need-mul-s Inv-loop μ-loop
 mul-s c = omega (arith, rebuild-room (c .before .before .before .before .before .before .before .pre .1) _ _ _ (c .before .before .loop-test .taken) (c .before .before .before .loop .inv .1) _ refl)
 
--- src/only.rt:168:13
 array-write-s : tie.Need-array-write-s Inv-loop μ-loop
 array-write-s c = omega (arith, c .before .before .before .loop .inv .1 .rest .size, rebuild-room (c .before .before .before .before .before .before .before .pre .1) _ _ _ (c .before .before .loop-test .taken) (c .before .before .before .loop .inv .1) _ refl)
 
--- src/only.rt:169:13
 array-write-s-2 : tie.Need-array-write-s-2 Inv-loop μ-loop
 array-write-s-2 c = search needs
 
--- src/only.rt:171:13
 add-j : tie.Need-add-j Inv-loop μ-loop
 add-j c = omega (arith, c .before .before .loop-test .taken)
 
--- src/only.rt:164:5
 loop-less : tie.Need-loop-less Inv-loop μ-loop
 loop-less c = omega (arith, c .before .before .loop-test .taken)
 
--- src/only.rt:164:5
 loop-again : tie.Need-loop-again Inv-loop μ-loop
 unfolding pushed
 loop-again c = (omega (arith, c .before .before .loop-test .taken), rebuild-keep (c .before .before .before .before .before .before .before .pre .1) _ _ _ (c .before .before .loop-test .taken) (c .before .before .before .loop .inv .1) _ refl (c .if1 .taken))
 
--- src/only.rt:174:13
 follow-requires : tie.Need-follow-requires Inv-loop μ-loop
 follow-requires c κs = (c .before .before .before .before .before .before .before .pre .0, rebuild-follows (c .before .before .before .before .before .before .before .pre .1) _ _ _ (c .before .before .loop-test .taken) (c .before .before .before .loop .inv .1) _ refl (c .if1 .left))
 
--- src/only.rt:176:9
 add-j-2 : tie.Need-add-j-2 Inv-loop μ-loop
 add-j-2 c = omega (arith, c .before .before .before .loop-test .taken)
 
--- src/only.rt:164:5
 loop-less-2 : tie.Need-loop-less-2 Inv-loop μ-loop
 loop-less-2 c = omega (arith, c .before .before .before .loop-test .taken)
 
--- src/only.rt:164:5
 loop-again-2 : tie.Need-loop-again-2 Inv-loop μ-loop
 loop-again-2 c = (omega (arith, c .before .before .before .loop-test .taken), rebuild-follow (c .before .before .before .before .before .before .before .before .pre .1) _ _ _ (c .before .before .before .loop-test .taken) (c .before .before .before .before .loop .inv .1) _ refl (c .before .if1 .left) _ (c .follow .ensures))
 
--- src/only.rt:145:1
 returns : tie.Need-returns Inv-loop μ-loop
 returns c = rebuild-last (c .before .before .before .before .before .pre .1) _ _ _ (omega (arith, c .loop-test .left)) (c .before .loop .inv .1)
 

@@ -1,5 +1,6 @@
+-- `step::steps::step_set` meets its contract: the results of the first i residuals are held. Assumes nothing.
 use native.Mathlib.Omega.{arith}
-use mathlib.Core.Path.{_≡_, refl, sym, ap, _∙_}
+use mathlib.Core.Path.{_≡_, refl, sym, _∙_}
 use Prim.Native.Nat.{_+_, _-_, _*_, _≤_}
 use lib.ListN.{length}
 use Rattle.table.specs.Index.{tableIn}
@@ -9,10 +10,6 @@ use Rattle.step.specs.Stepped.Laws.{step-asks, step-next, step-exceeded,
 use borrow.Author.Needs.{needs}
 use Rattle.step.proofs.steps.step_set.Statement.{statement}
 use Rattle.step.proofs.steps.step_set.Tie as tie
-use Rattle.step.proofs.steps.step_set.Reads as reads
-use Rattle.step.proofs.steps.step_set.Lts as lts
-use Rattle.index.proofs.definition_count.Reads as definition-count-reads
-use Rattle.step.proofs.steps.step_one.Reads as step-one-reads
 
 abbrev Inv-loop : tie.InvT-loop
 Inv-loop list work e src n store₀ dst₀ bound c₀ i₀ store dst c i = (i ≤ n) × (length store ≡ 4112) × (length dst ≡ length dst₀) × (c * 16 ≤ length dst)
@@ -21,59 +18,45 @@ Inv-loop list work e src n store₀ dst₀ bound c₀ i₀ store dst c i = (i �
 abbrev μ-loop : tie.MeasureT-loop
 μ-loop list work e src n store₀ dst₀ bound c₀ i₀ store dst c i = n - i
 
--- src/steps.rt:153:9
 definition-count-requires : tie.Need-definition-count-requires Inv-loop μ-loop
 definition-count-requires c κs = c .before .before .before .before .before .pre .0
 
--- src/steps.rt:156:5
 loop-holds : tie.Need-loop-holds Inv-loop μ-loop
 loop-holds c = let z : c .before .before .before .before .before .before .args .n - 0 ≡ c .before .before .before .before .before .before .args .n = omega arith in (omega arith, c .before .before .before .before .before .before .pre .1 .1, refl, omega arith, rw z)
 
--- src/steps.rt:157:15
 step-one-requires : tie.Need-step-one-requires Inv-loop μ-loop
 step-one-requires c κs = (c .before .before .before .before .before .before .before .before .before .before .pre .0, step-asks _ _ _ _ _ _ (c .before .before .before .before .before .before .before .before .before .before .pre .1 .0) (c .before .before .before .before .definition-count .ensures .0) (c .before .before .loop-test .taken) _ (c .before .before .before .loop .inv .1) _ _ (c .before .before .before .loop .inv .3))
 
--- src/steps.rt:158:25
 enum-known-d : tie.Need-enum-known-d Inv-loop μ-loop
 enum-known-d c = search needs
 
--- src/steps.rt:160:17
 add-i : tie.Need-add-i Inv-loop μ-loop
 add-i c = search needs
 
--- src/steps.rt:156:5
 loop-less : tie.Need-loop-less Inv-loop μ-loop
 loop-less c = search needs
 
--- src/steps.rt:156:5
 loop-again : tie.Need-loop-again Inv-loop μ-loop
 loop-again c = let q = step-next _ _ _ _ _ _ (c .before .before .before .before .before .before .before .before .before .before .before .before .before .before .before .before .before .before .args .n - c .before .before .before .before .before .before .before .before .before .before .before .loop .i) (c .before .before .before .before .before .before .before .before .before .before .before .before .before .before .before .before .before .before .args .n - (c .before .before .before .before .before .before .before .before .before .before .before .loop .i + 1)) (omega (arith, c .before .before .before .before .before .before .before .before .before .before .loop-test .taken)) _ _ (c .before .before .before .before .before .before .before .step-one .ensures) _ (c .before .d .given .1) in (omega (arith, c .before .before .before .before .before .before .before .before .before .before .loop-test .taken), c .before .before .before .before .before .before .before .step-one .kept .1 .1 .1 .1 .1 .1 .0 ∙ c .before .before .before .before .before .before .before .before .before .before .before .loop .inv .1, c .before .before .before .before .before .before .before .step-one .kept .1 .1 .1 .1 .1 .1 .1 .0 ∙ c .before .before .before .before .before .before .before .before .before .before .before .loop .inv .2, q .1, q .0 ∙ c .before .before .before .before .before .before .before .before .before .before .before .loop .inv .4)
 
--- src/steps.rt:163:17
 enum-told : tie.Need-enum-told Inv-loop μ-loop
 enum-told c = search needs
 
--- src/steps.rt:163:17
 same-length : tie.Need-same-length Inv-loop μ-loop
 same-length c = c .before .before .before .before .before .before .step-one .kept .1 .1 .1 .1 .1 .1 .0 ∙ c .before .before .before .before .before .before .before .before .before .before .loop .inv .1 ∙ sym (c .before .before .before .before .before .before .before .before .before .before .before .before .before .before .before .before .before .pre .1 .1)
 
--- src/steps.rt:163:17
 same-length-2 : tie.Need-same-length-2 Inv-loop μ-loop
 same-length-2 c = search needs
 
--- src/steps.rt:163:17
 returns : tie.Need-returns Inv-loop μ-loop
 returns c = record { same = step-exceeded _ _ _ _ _ _ (c .before .before .before .before .before .before .before .before .before .before .before .before .before .before .before .before .before .args .n - c .before .before .before .before .before .before .before .before .before .before .loop .i) (c .before .before .before .before .before .before .before .before .before .before .before .before .before .before .before .before .before .args .n - (c .before .before .before .before .before .before .before .before .before .before .loop .i + 1)) (omega (arith, c .before .before .before .before .before .before .before .before .before .loop-test .taken)) _ _ (c .before .before .before .before .before .before .step-one .ensures) (c .enum-told .given .1) ∙ c .before .before .before .before .before .before .before .before .before .before .loop .inv .4; fits = omega arith }
 
--- src/steps.rt:136:1
 same-length-3 : tie.Need-same-length-3 Inv-loop μ-loop
 same-length-3 c = search needs
 
--- src/steps.rt:136:1
 same-length-4 : tie.Need-same-length-4 Inv-loop μ-loop
 same-length-4 c = search needs
 
--- src/steps.rt:136:1
 returns-2 : tie.Need-returns-2 Inv-loop μ-loop
 returns-2 c = record { same = step-end _ _ _ _ _ _ _ (omega (arith, c .loop-test .left)) ∙ c .before .loop .inv .4; fits = c .before .loop .inv .3 }
 
