@@ -8,7 +8,7 @@ use Prim.Native.Nat.{ℕ, _-_, _≤_}
 use mathlib.Core.Path.{_≡_}
 use mathlib.Core.List.{List}
 use lib.ListN.{length, take, drop}
-use Rattle.monitor.specs.Record.{monitorOf}
+use Rattle.state.specs.Record.{monitorOf}
 use Rattle.line.specs.declared.answer.Head as head
 use Rattle.line.specs.declared.answer.Head.the-variants.{Parts, Wrong}
 use Rattle.line.specs.declared.answer.Line as code

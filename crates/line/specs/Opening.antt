@@ -13,8 +13,8 @@ use lib.Dec.{eqb}
 use Rattle.table.specs.declared.answer.Refusal.{Refusal}
 use Rattle.table.specs.Judge.{judgeBytes}
 use Rattle.table.specs.Operations.{zeros}
-use Rattle.monitor.specs.declared.state.State.{State}
-use Rattle.monitor.specs.Record.{monitorOf}
+use Rattle.state.specs.declared.record.State.{State}
+use Rattle.state.specs.Record.{monitorOf}
 use Rattle.line.specs.declared.answer.Opened.{Opened}
 use Rattle.line.specs.declared.answer.Opened.the-variants.{Started, Refused}
 use Rattle.line.specs.Line.{Line, refused, fresh, lineOf}

@@ -1,7 +1,7 @@
 // A started monitor piece by piece, and its line at the input's end.
 ghost use mathlib.Core.Path.{_≡_};
 ghost use Rattle.monitor_spec.specs.Feed.{feedOf};
-ghost use Rattle.monitor.specs.Record.{stateOf, monitorOf};
+ghost use Rattle.state.specs.Record.{stateOf, monitorOf};
 ghost use Rattle.line.specs.Line.{stateLine};
 ghost use Rattle.line.specs.Line.{refused as refusedAt};
 ghost use Rattle.line.specs.Pieces.{fed};

@@ -1,7 +1,7 @@
 // The line of a whole input.
 ghost use mathlib.Core.Path.{_≡_};
 ghost use Rattle.monitor_spec.specs.Feed.{feedOf};
-ghost use Rattle.monitor.specs.Record.{monitorOf};
+ghost use Rattle.state.specs.Record.{monitorOf};
 ghost use Rattle.line.specs.Pieces.{fed, concludeOf};
 ghost use Rattle.line.specs.Answers.{lineSaid};
 ghost use Rattle.line.specs.Opening.{lentLine};

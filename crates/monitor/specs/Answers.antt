@@ -12,7 +12,7 @@ use Rattle.monitor.specs.declared.answer.Offered.the-variants as said
 use Rattle.monitor_spec.specs.State.{Answer, given, refused, stopped, Outcome}
 use Rattle.monitor_spec.specs.Offer.{Offered, offers, OfferOutcome}
 use Rattle.monitor_spec.specs.Offer as operation
-use Rattle.monitor.specs.Record.{stateOf}
+use Rattle.state.specs.Record.{stateOf}
 
 -- "Refusals 1 to 10 return number and place only"; "Refusals 11 to 13 also return the record after the events already
 -- taken"

@@ -23,7 +23,7 @@ use Rattle.monitor_spec.specs.Sensible.{Laid}
 use Rattle.monitor.specs.declared.event.Taken.{Taken}
 use Rattle.monitor.specs.declared.event.Taken.the-variants.{Went, Stopped}
 use Rattle.monitor.specs.declared.answer.Answer.{Answer}
-use Rattle.monitor.specs.Record.{monitorOf}
+use Rattle.state.specs.Record.{monitorOf}
 use Rattle.monitor.specs.Answers.{outcome}
 use Rattle.monitor.specs.Holds.{Holds, heldIn}
 

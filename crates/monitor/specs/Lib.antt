@@ -1,8 +1,6 @@
--- What the monitor's code promises in terms of its specification (crate monitor_spec), in reading order: the record
--- and the answers; valid slots; what crate step leaves; Start, Feed, Offer. Assumes nothing.
-pub mod Record
+-- What the monitor's code promises in terms of its specification (crate monitor_spec), in reading order: the answers;
+-- what crate step leaves; Start, Feed, Offer. Assumes nothing.
 pub mod Answers
-pub mod Walk
 pub mod Stepping
 pub mod Holds
 pub mod Starting

@@ -1,5 +1,5 @@
 // What the operations answer (document 01, "When the monitor declines").
-use crate::state::State;
+use state::State;
 use table::Refusal;
 
 // A record; a refusal by number and place (1 to 10, and Start's 13); or a refusal with the record

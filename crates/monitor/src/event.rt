@@ -4,11 +4,11 @@ ghost use mathlib.Core.Path.{_≡_};
 ghost use Prim.Native.Nat.{_<_};
 ghost use lib.ListN.{length};
 ghost use Rattle.table.specs.Index.{tableIn, Indexed};
-ghost use Rattle.monitor.specs.Record.{monitorOf};
+ghost use Rattle.state.specs.Record.{monitorOf};
 ghost use Rattle.monitor.specs.Feeding.{Holding, Standing, Advanced, Moved, TakenBy};
-use crate::clear::clear_all;
-use crate::clear::clear_first;
-use crate::state::State;
+use state::State;
+use state::clear_all;
+use state::clear_first;
 use step::Held;
 
 // The record after an event, or the number of a refusal.

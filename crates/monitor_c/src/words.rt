@@ -4,7 +4,7 @@
 ghost use mathlib.Core.Path.{_≡_};
 ghost use mathlib.Core.List.{[], _∷_};
 ghost use lib.ListN.{length};
-ghost use Rattle.monitor.specs.Record.{verdictOf, stateOf};
+ghost use Rattle.state.specs.Record.{verdictOf, stateOf};
 ghost use Rattle.monitor_c.specs.Words.{verdictIn, stateIn, wordsOf};
 use monitor::State;
 use monitor::Verdict;

@@ -20,11 +20,11 @@ use Rattle.numbers.specs.Position.{readAt}
 use Rattle.numbers.specs.Position.Laws.{value-read, truncated-read, malformed-read}
 use Rattle.table.specs.declared.answer.Refusal.{Refusal}
 use Rattle.monitor_spec.specs.State.{Verdict, Outcome}
-use Rattle.monitor.specs.declared.state.Verdict.the-variants as verdict
-use Rattle.monitor.specs.declared.state.State.{State}
+use Rattle.state.specs.declared.record.Verdict.the-variants as verdict
+use Rattle.state.specs.declared.record.State.{State}
 use Rattle.monitor.specs.declared.answer.Answer as answer
 use Rattle.monitor.specs.declared.answer.Answer.the-variants as gave
-use Rattle.monitor.specs.Record.{verdictOf, stateOf, monitorOf}
+use Rattle.state.specs.Record.{verdictOf, stateOf, monitorOf}
 use Rattle.monitor.specs.Answers.{outcome}
 use Rattle.line.specs.declared.answer.Head as head
 use Rattle.line.specs.declared.answer.Head.the-variants.{Parts, Wrong}

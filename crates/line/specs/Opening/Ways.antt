@@ -28,8 +28,8 @@ use Rattle.monitor_spec.specs.Start.{startOf}
 use Rattle.monitor_spec.specs.Feed.{feedOf}
 use Rattle.monitor.specs.declared.answer.Answer as code
 use Rattle.monitor.specs.declared.answer.Answer.the-variants as gave
-use Rattle.monitor.specs.declared.state.State.{State}
-use Rattle.monitor.specs.Record.{stateOf, monitorOf}
+use Rattle.state.specs.declared.record.State.{State}
+use Rattle.state.specs.Record.{stateOf, monitorOf}
 use Rattle.monitor.specs.Answers.{outcome}
 use Rattle.line.specs.declared.answer.Opened.{Opened}
 use Rattle.line.specs.declared.answer.Opened.the-variants.{Started, Refused}

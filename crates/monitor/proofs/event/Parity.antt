@@ -16,9 +16,9 @@ use Rattle.monitor_spec.specs.Valid.{held}
 use Rattle.monitor_spec.specs.State.{Monitor, slotCount, even, choose, chunks, fill, laid}
 use Rattle.monitor_spec.specs.Feed.{presentSlots, nextSlots, taking}
 use Rattle.monitor_spec.specs.Expected.Laid.{laid-lengths}
-use Rattle.monitor.specs.declared.state.State.{State}
-use Rattle.monitor.specs.Record.{monitorOf}
-use Rattle.monitor.specs.Record.View.{present-even, present-odd}
+use Rattle.state.specs.declared.record.State.{State}
+use Rattle.state.specs.Record.{monitorOf}
+use Rattle.state.specs.Record.View.{present-even, present-odd}
 use Rattle.monitor.specs.Holds.{heldIn}
 use Rattle.monitor.specs.Feeding.{Holding, Standing, nextOf, Stepped, Advanced, Moved}
 

@@ -13,9 +13,9 @@ use Rattle.step.specs.declared.slots.Held.the-variants.{Count, Exceeded}
 use Rattle.monitor_spec.specs.State.{Monitor, slotCount}
 use Rattle.monitor_spec.specs.Fold.{went}
 use Rattle.monitor_spec.specs.Feed.{nextSlots, taking, takeEvent}
-use Rattle.monitor.specs.declared.state.State.{State}
+use Rattle.state.specs.declared.record.State.{State}
 use Rattle.monitor.specs.declared.event.Taken.the-variants.{Went, Stopped}
-use Rattle.monitor.specs.Record.{stateOf, monitorOf, Successor}
+use Rattle.state.specs.Record.{stateOf, monitorOf, Successor}
 use Rattle.monitor.specs.Feeding.{Filled, Kept, Moved, TakenBy}
 
 module _ (t : Table) (e : ℕ) (s : State) (a b : List ℕ) where

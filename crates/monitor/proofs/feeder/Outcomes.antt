@@ -28,8 +28,8 @@ use Rattle.monitor_spec.specs.Valid.Laws.{and-split}
 use Rattle.monitor_spec.specs.Feed.{refusing, feedAccepted, feedJudged, feedOf}
 use Rattle.monitor.specs.declared.answer.Answer.{Answer}
 use Rattle.monitor.specs.declared.answer.Answer.the-variants.{Refused}
-use Rattle.monitor.specs.Record.{lengthsFit}
-use Rattle.monitor.specs.Record.Laws.{lengths-measured}
+use Rattle.state.specs.Record.{lengthsFit}
+use Rattle.state.specs.Record.Laws.{lengths-measured}
 use Rattle.monitor.specs.Answers.{outcome}
 use Rattle.monitor.specs.Feeding.{Standing, EndedBy, FedBy}
 

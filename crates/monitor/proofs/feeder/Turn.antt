@@ -17,11 +17,11 @@ use Rattle.monitor_spec.specs.Fold.{went, stops, through}
 use Rattle.monitor_spec.specs.Fold.Laws.{through-went, through-stops}
 use Rattle.monitor_spec.specs.Feed.{takeEvent, endingOf}
 use Rattle.monitor_spec.specs.Consistent.Laws.{take-laid}
-use Rattle.monitor.specs.declared.state.State.{State}
+use Rattle.state.specs.declared.record.State.{State}
 use Rattle.monitor.specs.declared.event.Taken.{Taken}
 use Rattle.monitor.specs.declared.event.Taken.the-variants.{Went, Stopped}
 use Rattle.monitor.specs.declared.answer.Answer.the-variants as answer
-use Rattle.monitor.specs.Record.{monitorOf}
+use Rattle.state.specs.Record.{monitorOf}
 use Rattle.monitor.specs.Feeding.{Standing, TakenBy, EndedBy}
 
 -- m is the monitor that the call began with, m' the one reached before event i

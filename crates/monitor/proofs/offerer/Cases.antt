@@ -9,15 +9,15 @@ use borrow.Author.Tests.{eqb-true, not-true, not-false}
 use Rattle.table.specs.Table.{Table}
 use Rattle.table.specs.Rules.{Rules}
 use Rattle.table.specs.Judge.{accepted}
-use Rattle.monitor.specs.declared.state.State.{State}
-use Rattle.monitor.specs.declared.state.Verdict.the-variants.{Running, Failed}
+use Rattle.state.specs.declared.record.State.{State}
+use Rattle.state.specs.declared.record.Verdict.the-variants.{Running, Failed}
 use Rattle.monitor_spec.specs.Valid.Laws.{and-split}
 use Rattle.monitor_spec.specs.State.{Verdict, areasMeasured, even, choose}
 use Rattle.monitor_spec.specs.Consistent.{consistent}
 use Rattle.monitor_spec.specs.Feed.{presentSlots}
 use Rattle.monitor_spec.specs.Offer.{Offered, offers, refused, bitsBelow, offerBits, offering, offerJudged}
-use Rattle.monitor.specs.Record.{verdictOf, monitorOf}
-use Rattle.monitor.specs.Record.View.{present-even, present-odd}
+use Rattle.state.specs.Record.{verdictOf, monitorOf}
+use Rattle.state.specs.Record.View.{present-even, present-odd}
 use Rattle.monitor.specs.Holds.{Holds, heldIn}
 use Rattle.monitor.specs.Holds.Laws.{present-holds}
 

@@ -14,15 +14,15 @@ use Rattle.table.specs.Judge.{Judgement, accepted, declined, judgeList}
 use Rattle.table.specs.Judging.{CheckSaid, Checked}
 use Rattle.table.specs.Index.{tableIn, Indexed}
 use Rattle.table.specs.Operations.{zeros}
-use Rattle.monitor.specs.declared.state.State.{State}
+use Rattle.state.specs.declared.record.State.{State}
 use Rattle.monitor.specs.declared.answer.Offered as code
 use Rattle.monitor.specs.declared.answer.Offered.the-variants.{Refused}
 use Rattle.monitor_spec.specs.Valid.Laws.{and-split}
 use Rattle.monitor_spec.specs.State.{Monitor, areasMeasured, workMeasured}
 use Rattle.monitor_spec.specs.Consistent.{consistent}
 use Rattle.monitor_spec.specs.Offer.{Offered, offering, offerJudged, offerOf}
-use Rattle.monitor.specs.Record.{lengthsFit, monitorOf}
-use Rattle.monitor.specs.Record.Laws.{lengths-measured}
+use Rattle.state.specs.Record.{lengthsFit, monitorOf}
+use Rattle.state.specs.Record.Laws.{lengths-measured}
 use Rattle.monitor.specs.Answers.{offeredOf, offerOutcome}
 
 -- the areas are kept, whatever the answer

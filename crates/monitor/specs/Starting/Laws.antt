@@ -34,9 +34,9 @@ use Rattle.monitor_spec.specs.Feed.{nextVerdict}
 use Rattle.monitor_spec.specs.Start.{startAccepted, startJudged, startOf}
 use Rattle.monitor.specs.declared.answer.Answer.{Answer}
 use Rattle.monitor.specs.declared.answer.Answer.the-variants.{Given, Refused}
-use Rattle.monitor.specs.declared.state.State as code
-use Rattle.monitor.specs.Record.{stateOf, failing, failedBy, lengthsFit}
-use Rattle.monitor.specs.Record.Laws.{lengths-measured}
+use Rattle.state.specs.declared.record.State as code
+use Rattle.state.specs.Record.{stateOf, failing, failedBy, lengthsFit}
+use Rattle.state.specs.Record.Laws.{lengths-measured}
 use Rattle.monitor.specs.Answers.{outcome}
 use Rattle.monitor.specs.Stepping.{start-resolves, start-holds, start-exceeds}
 use Rattle.monitor.specs.Starting.{StartRecord, Started}

@@ -4,7 +4,7 @@ use mathlib.Core.Path.{_≡_, refl, ap, _∙_}
 use mathlib.Core.List.{List}
 use lib.ListN.{length}
 use borrow.Author.Tests.{eq-eqb, ne-eqb}
-use Rattle.monitor.specs.declared.state.State.{State as StateCode}
+use Rattle.state.specs.declared.record.State.{State as StateCode}
 use Rattle.table.specs.declared.answer.Refusal.{Refusal}
 use Rattle.monitor.specs.declared.answer.Answer as code
 use Rattle.monitor.specs.declared.answer.Answer.the-variants.{Given, Refused, Stopped}
@@ -15,7 +15,7 @@ use Rattle.monitor_spec.specs.Start.{startOf}
 use Rattle.monitor_spec.specs.Feed.{feedOf}
 use Rattle.monitor_spec.specs.Offer.{offerOf}
 use Rattle.monitor_spec.specs.View.{viewOf}
-use Rattle.monitor.specs.Record.{stateOf, monitorOf}
+use Rattle.state.specs.Record.{stateOf, monitorOf}
 use Rattle.monitor.specs.Answers.{answerOf, outcome, offeredOf, offerOutcome}
 use Rattle.monitor_c.specs.Words.{recordMeasured, stateIn, wordsOf}
 use Rattle.monitor_c.specs.Calls.{numberOf, placeOf, recordAfter, Told, said, monitorCall, monitorIn, unmeasured}

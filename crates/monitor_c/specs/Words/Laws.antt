@@ -5,10 +5,10 @@ use mathlib.Core.Path.{_≡_, refl}
 use mathlib.Core.List.{List, [], _∷_}
 use lib.ListN.{length, getD, set}
 use borrow.Author.Tests.{eq-eqb, ne-eqb}
-use Rattle.monitor.specs.declared.state.Verdict.{Verdict as VerdictCode}
-use Rattle.monitor.specs.declared.state.Verdict.the-variants.{Running, Failed}
-use Rattle.monitor.specs.declared.state.State.{State as StateCode}
-use Rattle.monitor.specs.Record.{verdictOf, stateOf}
+use Rattle.state.specs.declared.record.Verdict.{Verdict as VerdictCode}
+use Rattle.state.specs.declared.record.Verdict.the-variants.{Running, Failed}
+use Rattle.state.specs.declared.record.State.{State as StateCode}
+use Rattle.state.specs.Record.{verdictOf, stateOf}
 use Rattle.monitor_spec.specs.State.{Verdict, running, failedAt, State}
 use Rattle.monitor_c.specs.Words.{verdictIn, stateIn, failureWords, wordsOf}
 

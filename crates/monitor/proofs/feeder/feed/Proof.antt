@@ -3,7 +3,7 @@
 use native.Mathlib.Omega.{arith}
 use mathlib.Core.Path.{sym, _∙_}
 use borrow.Author.Tests.{not-true, not-false}
-use Rattle.monitor.specs.Record.{monitorOf}
+use Rattle.state.specs.Record.{monitorOf}
 use Rattle.monitor.proofs.feeder.Outcomes.{feed-unmeasured, feed-indexed, feed-declined, feed-fed}
 use borrow.Author.Needs.{needs}
 use Rattle.monitor.proofs.feeder.feed.Statement.{statement}

@@ -3,7 +3,7 @@ use mathlib.Core.Path.{sym, _∙_}
 use borrow.Author.Tests.{not-true, not-false}
 use Rattle.index.specs.Facts.{indexed-rules}
 use Rattle.monitor_spec.specs.Regular.Laws.{regular}
-use Rattle.monitor.specs.Record.{monitorOf}
+use Rattle.state.specs.Record.{monitorOf}
 use Rattle.monitor.proofs.feeder.Outcomes.{areas-same, standing-from, accepted-inconsistent, accepted-ended}
 use borrow.Author.Needs.{needs}
 use Rattle.monitor.proofs.feeder.feed_accepted.Statement.{statement}

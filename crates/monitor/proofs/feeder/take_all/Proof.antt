@@ -7,7 +7,7 @@ use lib.ListN.{length}
 use Rattle.table.specs.Index.{tableIn}
 use Rattle.index.specs.Facts.{indexed-rules}
 use Rattle.monitor_spec.specs.Regular.Laws.{regular}
-use Rattle.monitor.specs.Record.{monitorOf}
+use Rattle.state.specs.Record.{monitorOf}
 use Rattle.monitor.proofs.feeder.Turn.{Head, head-first, head-next, head-stopped, head-done}
 use borrow.Author.Needs.{needs}
 use Rattle.monitor.proofs.feeder.take_all.Statement.{statement}

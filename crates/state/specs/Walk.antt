@@ -1,0 +1,64 @@
+-- A slot's node words read from the last with a count of trees (ours): what the code keeps of the trees that
+-- `forest` spells (`specs/Valid.antt` of crate monitor_spec).
+--     withLeaf, joined    a leaf in front; the first two trees under a parallel
+--     wordFits            a known term, with a memory that it allows
+--     planted, walked     a node word in front; all of a list of node words
+--     isWhole             one tree, of a reach that is not too large
+--     Few                 so few trees that no sum is too large
+-- The laws are in `Walk/`: `Laws`, by cases; `Words`, of what words spell; `Spelling`, that the walk agrees with
+-- `forest`; `Validity`, that it decides which slots are valid. Assumes nothing.
+use Prim.Native.Nat.{ℕ, _+_, _-_, _*_, _≤_}
+use mathlib.Core.Bool.{Bool, true, false, _&&_}
+use mathlib.Core.List.{List, [], _∷_}
+use lib.Dec.{eqb, ltb, leb}
+use Rattle.table.specs.Table.{Table, Term, stop, fail, prefix, choice, par, call, termCount, enclosing}
+use Rattle.table.specs.Node.{termOf as nodeTerm}
+use Rattle.table.specs.Width.{reach}
+use Rattle.state.specs.declared.valid.Forest.{Forest}
+use Rattle.state.specs.declared.valid.Forest.the-variants.{Broken, Trees}
+use Rattle.monitor_spec.specs.Slots.{termOf, memoryOf}
+use Rattle.monitor_spec.specs.Valid.{memoryFits}
+pub mod Laws
+pub mod Words
+pub mod Spelling
+pub mod Validity
+
+abbrev pub Few : Forest → ℕ → Type 0
+Few Broken k = Unit
+Few (Trees n s) k = (n ≤ k) × (s ≤ 8 * k)
+
+unfoldable pub withLeaf : ℕ → Forest → Forest
+withLeaf r Broken = Broken
+withLeaf r (Trees n s) = Trees (n + 1) (r + s)
+
+unfoldable pub joined : Forest → Forest
+joined Broken = Broken
+joined (Trees n s) = elim (ltb n 2) [ true ↦ Broken | false ↦ Trees (n - 1) s ]
+
+unfoldable pub wordFits : Table → ℕ → Bool
+wordFits t w =
+    ltb (termOf w) (termCount t) && memoryFits (t .alphabet) (enclosing t (termOf w)) (memoryOf w)
+
+-- "known STOP, prefix and parallel terms": by the term of a node word, whose reach is r
+unfoldable pub plantedBy : ℕ → Forest → Term → Forest
+plantedBy r f stop = withLeaf r f
+plantedBy r f fail = Broken
+plantedBy r f (prefix s p) = withLeaf r f
+plantedBy r f (choice p q) = Broken
+plantedBy r f (par s p q) = joined f
+plantedBy r f (call d) = Broken
+
+unfoldable pub planted : Table → ℕ → Forest → Forest
+planted t w f =
+    elim (wordFits t w) [
+      | true ↦ plantedBy (reach t (nodeTerm t (termOf w))) f (nodeTerm t (termOf w))
+      | false ↦ Broken
+    ]
+
+unfoldable pub walked : Table → List ℕ → Forest
+walked t [] = Trees 0 0
+walked t (w ∷ ws) = planted t w (walked t ws)
+
+unfoldable pub isWhole : Forest → Bool
+isWhole Broken = false
+isWhole (Trees n s) = eqb n 1 && leb s 8

@@ -1,0 +1,71 @@
+// The state record and its successors (document 01, "Operations": "each call takes the state record
+// and hands back its successor"). What it stands for is `stateOf` of `specs/Record.antt`.
+ghost use mathlib.Core.Path.{_≡_};
+ghost use Prim.Native.Nat.{_<_};
+ghost use Rattle.state.specs.Record.{stateOf, counted, failing, holding, Successor};
+
+// Running, or failed at a place.
+pub enum Verdict {
+    Running,
+    Failed(u64),
+}
+
+// The events taken, the residuals held, and the verdict.
+pub struct State {
+    pub taken: u64,
+    pub count: u64,
+    pub verdict: Verdict,
+}
+
+impl State {
+    // One event more is taken.
+    pub(crate) fn take(self) -> Self
+        requires { ⌜ self .taken < 18446744073709551615 ⌝ }
+        ensures { λ r. ⌜ stateOf r ≡ counted (stateOf self) ⌝ }
+    {
+        let verdict = self.verdict;
+        State {
+            taken: self.taken + 1,
+            count: self.count,
+            verdict,
+        }
+    }
+
+    // No residual is left: failed at the events taken, unless it failed before.
+    pub fn fail(self) -> Self
+        ensures { λ r. ⌜ stateOf r ≡ failing (stateOf self) ⌝ }
+    {
+        let verdict = self.verdict;
+        match verdict {
+            Verdict::Running => State {
+                taken: self.taken,
+                count: 0,
+                verdict: Verdict::Failed(self.taken),
+            },
+            Verdict::Failed(place) => State {
+                taken: self.taken,
+                count: 0,
+                verdict: Verdict::Failed(place),
+            },
+        }
+    }
+
+    // So many residuals are held.
+    pub(crate) fn hold(mut self, count: u64) -> Self
+        ensures { λ r. ⌜ stateOf r ≡ holding (stateOf self) count ⌝ }
+    {
+        self.count = count;
+        self
+    }
+
+    // The record after one event that left so many residuals.
+    pub fn after(self, count: u64) -> Self
+        requires { ⌜ self .taken < 18446744073709551615 ⌝ }
+        ensures { λ r. ⌜ Successor (stateOf self) count (stateOf r) ⌝ }
+    {
+        if count == 0 {
+            return self.take().fail();
+        }
+        self.take().hold(count)
+    }
+}
