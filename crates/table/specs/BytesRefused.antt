@@ -17,6 +17,7 @@ use Rattle.table.specs.Writing.{numbersOf}
 use Rattle.table.specs.Fields.{Fields}
 use Rattle.table.specs.Marks.{Open}
 use Rattle.table.specs.Refusals.{OutOfRange, TrailingInput, BadReference, TooWide, TooManyBranches}
+pub mod Listed
 pub mod Stream
 pub mod Laws
 pub mod Given

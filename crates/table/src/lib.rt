@@ -1,22 +1,19 @@
-// The table layer: Read, Write, the judging of a number list, and the index of an accepted table in a lent work
-// area (document 01, "Numbers and table", "Operations", "When the monitor declines").
-// The definitions are in `specs/`; `specs/Lib.antt` lists them in reading order.
+// The table layer's definitions, laws and claims, and the types that its code answers (document 01,
+// "Numbers and table", "Operations", "When the monitor declines"). No functions: crates parse, judge
+// and codec have them. `specs/Lib.antt` lists the definitions in reading order, `specs/Claims.antt`
+// what is proved of them.
 mod answer;
-mod branches;
-mod bytes;
-mod clear;
-mod judge;
-mod parse;
-mod reader;
-mod references;
 mod rows;
 mod terms;
-mod widths;
-mod writer;
 
 pub use answer::Answer;
+pub use answer::First;
 pub use answer::Judged;
+pub use answer::Place;
 pub use answer::Refusal;
-pub use judge::check;
-pub use reader::read;
-pub use writer::write;
+pub use rows::Row;
+pub use rows::SetEnd;
+pub use terms::Head;
+pub use terms::Reference;
+pub use terms::Spot;
+pub use terms::TermEnd;

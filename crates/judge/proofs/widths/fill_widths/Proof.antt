@@ -1,0 +1,86 @@
+-- `table::widths::fill_widths` meets its contract. The loop's invariant: the terms from n on have their widths, and no
+-- other word has changed. The measure is n. Assumes nothing.
+use Prim.Native.Nat.{_≤_, _<_}
+use native.Mathlib.Omega.{arith}
+use mathlib.Core.Path.{sym, _∙_}
+use Rattle.table.specs.Index.{tableIn}
+use Rattle.table.specs.Filling.{WidthsFilled}
+use Rattle.table.specs.Filling.Widths.{widths-first, width-next, widths-next, widths-done}
+use Rattle.judge.proofs.widths.fill_widths.Statement.{statement}
+use Rattle.judge.proofs.widths.fill_widths.Tie as tie
+
+abbrev Inv-loop : tie.InvT-loop
+Inv-loop list work₀ from to level n₀ work n = (from ≤ n) × (n ≤ to) × WidthsFilled (tableIn list) work₀ work n to level
+
+abbrev μ-loop : tie.MeasureT-loop
+μ-loop list work₀ from to level n₀ work n = n
+
+loop-holds : tie.Need-loop-holds Inv-loop μ-loop
+loop-holds c = let p = c .before .before .pre in (p .ordered, omega arith, widths-first _ _ _ _ _ p)
+
+sub-n : tie.Need-sub-n Inv-loop μ-loop
+sub-n c = omega arith
+
+width-at-requires : tie.Need-width-at-requires Inv-loop μ-loop
+width-at-requires c κs =
+    let at-loop = c .before .before in
+    let start = at-loop .before .before .before in
+    let i = at-loop .loop .inv in
+    width-next _ _ _ _ _ _ _ (start .pre) (i .2) (c .before .loop-test .taken) (i .1)
+
+add-work : tie.Need-add-work Inv-loop μ-loop
+add-work c =
+    let p = c .before .before .before .before .before .before .pre in
+    omega (arith, p .inside, p .fields .terms-most)
+
+mul-work : tie.Need-mul-work Inv-loop μ-loop
+mul-work c =
+    let p = c .before .before .before .before .before .before .pre in
+    omega (arith, p .inside, p .fields .terms-most)
+
+slice-write-work : tie.Need-slice-write-work Inv-loop μ-loop
+slice-write-work c =
+    let at-loop = c .before .before .before in
+    let p = at-loop .before .before .before .pre in
+    omega (arith, p .inside, p .fields .terms-most, at-loop .loop .inv .2 .structure .whole)
+
+loop-less : tie.Need-loop-less Inv-loop μ-loop
+loop-less c = omega arith
+
+loop-again : tie.Need-loop-again Inv-loop μ-loop
+loop-again c =
+    let in-loop = c .before .before in
+    let at-loop = in-loop .before in
+    let start = at-loop .before .before .before in
+    let i = at-loop .loop .inv in (
+      omega arith,
+      omega arith,
+      widths-next _ _ _ _ _ _ _ (start .pre) (i .2) (in-loop .loop-test .taken) (i .1) _ (c .width-at .ensures),
+    )
+
+same-length : tie.Need-same-length Inv-loop μ-loop
+same-length c =
+    let start = c .before .before .before .before in
+    c .before .loop .inv .2 .structure .whole ∙ sym (start .pre .structure .whole)
+
+returns : tie.Need-returns Inv-loop μ-loop
+returns c =
+    let i = c .before .loop .inv in
+    widths-done _ _ _ _ _ _ _ (i .0) (omega arith) (i .2)
+
+pub fill-widths-spec : {M : Type 1} → statement M
+fill-widths-spec =
+    tie.close
+    (tie.spec
+    Inv-loop
+    μ-loop
+    loop-holds
+    sub-n
+    width-at-requires
+    add-work
+    mul-work
+    slice-write-work
+    loop-less
+    loop-again
+    same-length
+    returns)

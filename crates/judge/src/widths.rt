@@ -1,0 +1,119 @@
+// Widths of levels (document 01: hands): refusal 8; and the reach of terms.
+use table::First;
+ghost use mathlib.Core.Path.{_≡_};
+ghost use mathlib.Core.Option.{none};
+ghost use Prim.Native.Nat.{_<_, max};
+ghost use lib.ListN.{length};
+ghost use Rattle.table.specs.References.{firstWrong};
+ghost use Rattle.table.specs.Index.{tableIn};
+ghost use Rattle.table.specs.Judging.{Judging, WideDone};
+ghost use Rattle.table.specs.Filling.{storedCall, WidthAsked, WidthGiven, WidthsAsked};
+ghost use Rattle.table.specs.Filling.{WidthsFilled, LevelAsked, BodyDone, LevelDone};
+
+fn larger(a: u64, b: u64) -> u64
+    ensures { λ r. ⌜ r ≡ max a b ⌝ }
+{
+    if a < b { b } else { a }
+}
+
+// What a call counts in a level: 1 for that level, the width of any other.
+fn call_width(list: &[u16], work: &[u64], d: usize, level: u64) -> u64
+    requires { ⌜ Judging (now list) (now work) × (d < length (tableIn (now list) .definitions)) ⌝ }
+    ensures { λ r. ⌜ r ≡ storedCall (tableIn (now (list .entry))) (now (work .entry)) level d ⌝ }
+{
+    let l = work[7265 + d];
+    if l == level {
+        1
+    } else {
+        work[7297 + l as usize]
+    }
+}
+
+// The width of term n in a level, where the terms after it have theirs.
+fn width_at(list: &[u16], work: &[u64], n: usize, level: u64) -> u64
+    requires { ⌜ WidthAsked (tableIn (now list)) (now work) n level ⌝ }
+    ensures { λ r. ⌜ WidthGiven (tableIn (now (list .entry))) (now (work .entry)) n level r ⌝ }
+{
+    let w = work[4096 + n];
+    let kind = w % 8;
+    match kind {
+        0 | 1 => 1,
+        2 => work[5120 + n + 1],
+        3 => larger(
+            work[5120 + n + 1],
+            work[5120 + (w / 524288 % 2048) as usize],
+        ),
+        4 => work[5120 + n + 1] + work[5120 + (w / 524288 % 2048) as usize],
+        5 => call_width(list, work, (w / 1073741824) as usize, level),
+        6..=18446744073709551615 => 0,
+    }
+}
+
+// The widths of the terms from one number up to another.
+fn fill_widths(list: &[u16], work: &mut [u64], from: usize, to: usize, level: u64)
+    requires { ⌜ WidthsAsked (tableIn (now list)) (now work) from to level ⌝ }
+    ensures { λ _.
+        ⌜ WidthsFilled (tableIn (now (list .entry))) (now (work .entry)) (now (work .exit)) from to
+        level ⌝ }
+{
+    let mut n = to;
+    while from < n {
+        n -= 1;
+        work[5120 + n] = width_at(list, work, n, level);
+    }
+}
+
+// The width of definition d's body in a level; 0 where it is of another.
+fn body_width(list: &[u16], work: &mut [u64], d: usize, level: u64) -> u64
+    requires { ⌜ LevelAsked (tableIn (now list)) (now work) level
+        × (d < length (tableIn (now list) .definitions)) ⌝ }
+    ensures { λ r.
+        ⌜ BodyDone (tableIn (now (list .entry))) (now (work .entry)) (now (work .exit)) d level
+        r ⌝ }
+{
+    if work[7265 + d] == level {
+        let root = work[7232 + d] as usize;
+        let end = work[7232 + d + 1] as usize;
+        fill_widths(list, work, root, end, level);
+        work[5120 + root]
+    } else {
+        0
+    }
+}
+
+// The largest width among the bodies of a level.
+fn level_width(list: &[u16], work: &mut [u64], level: u64) -> u64
+    requires { ⌜ LevelAsked (tableIn (now list)) (now work) level ⌝ }
+    ensures { λ r.
+        ⌜ LevelDone (tableIn (now (list .entry))) (now (work .entry)) (now (work .exit)) level r ⌝ }
+{
+    let definitions = work[7306] as usize;
+    let mut widest = 0;
+    let mut d = 0;
+    while d < definitions {
+        widest = larger(widest, body_width(list, work, d, level));
+        d += 1;
+    }
+    widest
+}
+
+// The lowest level wider than 8; else the widths of all levels are stored, and the reach of all
+// terms.
+pub fn first_wide_level(list: &[u16], work: &mut [u64]) -> First
+    requires { ⌜ Judging (now list) (now work) ⌝ }
+    requires { ⌜ firstWrong (tableIn (now list)) ≡ none ⌝ }
+    ensures { λ r. ⌜ WideDone (now (list .entry)) (now (work .exit)) r ⌝ }
+{
+    let mut level = 0;
+    while level < 8 {
+        let w = level_width(list, work, level);
+        if 8 < w {
+            return First::Broken(level as usize);
+        }
+        work[7297 + level as usize] = w;
+        level += 1;
+    }
+    let terms = work[7307] as usize;
+    fill_widths(list, work, 0, terms, 8);
+    First::Nowhere
+}

@@ -1,0 +1,126 @@
+-- Sets, one after another.
+--     Head                             s sets are read, and indexed
+--     head-first, head-next, head-done before the first set; one set more; all are read
+--     head-stop                        a set that is refused
+-- Assumes nothing.
+use Prim.Native.Nat.{ℕ, _+_, _*_, _<_, _≤_}
+use native.Mathlib.Omega.{arith}
+use mathlib.Core.Path.{_≡_, refl, sym, ap, _∙_, subst}
+use mathlib.Core.List.{List, [], _∷_, _++_, flatMap}
+use lib.ListN.{length, set, length-append, length-set}
+use Rattle.table.specs.declared.answer.Refusal.{Refusal}
+use Rattle.table.specs.declared.rows.SetEnd.{SetEnd}
+use Rattle.table.specs.declared.rows.SetEnd.the-variants.{NextSet, NoSet}
+use Rattle.table.specs.Table.{SetDef, one, each}
+use Rattle.table.specs.Tokens.{tokensAt}
+use Rattle.table.specs.Parser.{refused, got, times}
+use Rattle.table.specs.Parser.Steps.{ReadsPlain, none, reads-snoc, times-done, times-stop}
+use Rattle.table.specs.Grammar as grammar
+use Rattle.table.specs.Index.{setMasks, kindOfSet, SetsIndexed}
+use Rattle.table.specs.Index.Sets.{masks-snoc, indexed-none, indexed-snoc}
+use Rattle.table.specs.Parse.{SetFound, SetRead, SetsFound}
+
+kind-few : (v : SetDef) → kindOfSet v ≤ 1
+unfolding kindOfSet
+kind-few (one r) = omega arith
+kind-few (each rs) = omega arith
+
+module _ (l : List ℕ) (A count at : ℕ) (w : List ℕ) where
+  pub record Head (w' : List ℕ) (s p row : ℕ) : Type 0 where
+    pub sets : List SetDef
+    pub read : ReadsPlain (grammar.set A) (tokensAt l at) sets (tokensAt l p)
+    pub counted : length sets ≡ s
+    pub rows : row ≡ length (flatMap setMasks sets)
+    pub rows-few : row ≤ 64 * s
+    pub indexed : SetsIndexed sets w'
+    pub long : length w ≡ 8192
+    pub same : length w' ≡ length w
+    pub count-few : count ≤ 64
+    pub few : s ≤ count
+    pub within : p ≤ length l
+
+  pub head-first : at ≤ length l → length w ≡ 8192 → count ≤ 64 → Head w 0 at 0
+  unfolding flatMap
+  head-first h k b =
+      record {
+        sets = [];
+        read = none;
+        counted = refl;
+        rows = refl;
+        rows-few = omega arith;
+        indexed = indexed-none w;
+        long = k;
+        same = refl;
+        count-few = b;
+        few = omega arith;
+        within = h;
+      }
+
+module _ {l : List ℕ} {A count at : ℕ} {w w' : List ℕ} {s p row : ℕ} (h : Head l A count at w w' s p row) where
+  next-set : (w'' : List ℕ) (next kind end x : ℕ) → SetFound l A p row w' w'' next kind end → s < count
+      → x ≡ row * 2 + kind → Head l A count at w (set w'' (7168 + s) x) (s + 1) next end
+  next-set w'' next kind end x f b e =
+      let c = h .counted in
+      let r = h .rows in
+      let q = h .rows-few in
+      let d = h .count-few in
+      let u = f .words .same in
+      let t = h .same in
+      let g = h .long in
+      let o = f .few in
+      let v = f .value in
+      let z = f .ends in
+      let n = length-append (h .sets) (v ∷ []) in
+      let y = ap (λ (ms : List ℕ). length ms) (masks-snoc (h .sets) v)
+      ∙ length-append (flatMap setMasks (h .sets)) (setMasks v) in
+      record {
+        sets = h .sets ++ (v ∷ []);
+        read = reads-snoc _ _ (h .read) (f .parsed);
+        counted = omega arith;
+        rows = omega arith;
+        rows-few = omega arith;
+        indexed = indexed-snoc (h .sets) v w' w'' row s x (h .indexed) r (omega arith) (omega arith) (omega arith)
+            (omega arith) (f .words .written) (f .words .kept) (e ∙ ap (λ (k : ℕ). row * 2 + k) (f .kinds));
+        long = g;
+        same = length-set w'' (7168 + s) x ∙ u ∙ t;
+        count-few = d;
+        few = omega arith;
+        within = f .within;
+      }
+
+  pub head-next : (w'' : List ℕ) (next kind end x : ℕ) (r : SetEnd) → r ≡ NextSet next kind end
+      → SetRead l A p row w' w'' r → s < count → x ≡ row * 2 + kind
+      → Head l A count at w (set w'' (7168 + s) x) (s + 1) next end
+  head-next w'' next kind end x r is told b e =
+      next-set w'' next kind end x (subst (λ (y : SetEnd). SetRead l A p row w' w'' y) is told) b e
+
+  -- what one set more leaves room for
+  pub head-fits : (w'' : List ℕ) (next kind end : ℕ) (r : SetEnd) → r ≡ NextSet next kind end
+      → SetRead l A p row w' w'' r → s < count → (kind ≤ 1) × (row ≤ 4032)
+  head-fits w'' next kind end r is told b =
+      let f : SetFound l A p row w' w'' next kind end = subst (λ (y : SetEnd). SetRead l A p row w' w'' y) is told in
+      let q = h .rows-few in
+      let d = h .count-few in
+      (subst (λ (k : ℕ). k ≤ 1) (sym (f .kinds)) (kind-few (f .value)), omega arith)
+
+  pub head-stop : (w'' : List ℕ) (z : Refusal) (r : SetEnd) → r ≡ NoSet z → SetRead l A p row w' w'' r → s < count
+      → (times count (grammar.set A) (tokensAt l at) ≡ refused (z .number) (z .place)) × (length w'' ≡ length w)
+  head-stop w'' z r is told b =
+      let f = subst (λ (y : SetEnd). SetRead l A p row w' w'' y) is told in
+      let c = h .counted in
+      (times-stop (grammar.set A) count (h .read) (omega arith) (f .0), f .1 ∙ h .same)
+
+  pub head-done : count ≤ s → SetsFound l A count at w w' p
+  head-done b =
+      let c = h .counted in
+      let f = h .few in
+      let e : length (h .sets) ≡ count = omega arith in
+      record {
+        sets = h .sets;
+        parsed = subst (λ (n : ℕ). times n (grammar.set A) (tokensAt l at) ≡ got (h .sets) (tokensAt l p)) e
+            (times-done (grammar.set A) (h .read));
+        counted = e;
+        indexed = h .indexed;
+        same = h .same;
+        within = h .within;
+      }
