@@ -51,7 +51,7 @@ fn read_right(
 ) -> bool {
     let mut list = [0u16; 16384];
     fill_numbers(&mut list);
-    match table::read(bytes, &mut list, work) {
+    match codec::read(bytes, &mut list, work) {
         table::Answer::Count(n) => {
             if 16384 < n {
                 return false;

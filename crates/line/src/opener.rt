@@ -67,7 +67,7 @@ fn open_table(
         ⌜ Reads (now (bytes .entry)) next r (now (list .exit)) (now (area0 .exit))
         (now (area1 .exit)) (now (work .exit)) ⌝ }
 {
-    match table::read(bytes, list, work) {
+    match codec::read(bytes, list, work) {
         table::Answer::Count(count) => start_list(&list[..count], next, area0, area1, work),
         table::Answer::Refused(refusal) => Opened::Refused(refusal),
     }

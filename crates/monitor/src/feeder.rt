@@ -97,7 +97,7 @@ pub fn feed(
             place: 0,
         });
     }
-    match table::check(list, work) {
+    match judge::check(list, work) {
         Judged::Accepted => {
             let answer = feed_accepted(list, work, state, area0, area1, events);
             clear_all(work);

@@ -99,7 +99,7 @@ pub fn offer(list: &[u16], state: State, area0: &[u64], area1: &[u64], work: &mu
             place: 0,
         });
     }
-    match table::check(list, work) {
+    match judge::check(list, work) {
         Judged::Accepted => {
             let answer = offer_accepted(list, state, area0, area1, work);
             clear_all(work);

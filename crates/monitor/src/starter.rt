@@ -68,7 +68,7 @@ pub fn start(list: &[u16], area0: &mut [u64], area1: &mut [u64], work: &mut [u64
             place: 0,
         });
     }
-    match table::check(list, work) {
+    match judge::check(list, work) {
         Judged::Accepted => {
             let answer = start_accepted(list, work, area0, area1);
             clear_all(work);

@@ -32,7 +32,7 @@ pub extern "C" fn cspe_read(
         ⌜ said r (now (value .exit)) (now (numbers .exit)) (now (work .exit))
         ≡ readCall (now (bytes .entry)) (now (numbers .entry)) (now (work .entry)) ⌝ }
 {
-    let answer = table::read(bytes, numbers, work);
+    let answer = codec::read(bytes, numbers, work);
     tell(answer, value)
 }
 
@@ -48,6 +48,6 @@ pub extern "C" fn cspe_write(
         ⌜ said r (now (value .exit)) (now (bytes .exit)) (now (work .exit))
         ≡ writeCall (now (list .entry)) (now (bytes .entry)) (now (work .entry)) ⌝ }
 {
-    let answer = table::write(list, bytes, work);
+    let answer = codec::write(list, bytes, work);
     tell(answer, value)
 }

@@ -65,7 +65,7 @@ fn read_refused(number: usize, out: &[u16], work: &[u64]) -> bool {
 pub fn read_right(bytes: &[u8], out: &mut [u16], work: &mut [u64], s: Stored) -> bool {
     fill_numbers(out);
     fill_words(work);
-    match table::read(bytes, out, work) {
+    match codec::read(bytes, out, work) {
         Answer::Count(n) => {
             if !is_result(n, s) {
                 return false;
@@ -112,7 +112,7 @@ fn write_refused(number: usize, out: &[u8], work: &[u64]) -> bool {
 pub fn write_right(list: &[u16], out: &mut [u8], work: &mut [u64], s: Stored) -> bool {
     fill_bytes(out);
     fill_words(work);
-    match table::write(list, out, work) {
+    match codec::write(list, out, work) {
         Answer::Count(n) => {
             if !is_result(n, s) {
                 return false;
@@ -135,7 +135,7 @@ pub fn check_right(list: &[u16], work: &mut [u64], s: Stored) -> bool
     requires { ⌜ length (now work) ≡ 8192 ⌝ }
 {
     fill_words(work);
-    match table::check(list, work) {
+    match judge::check(list, work) {
         Judged::Accepted => is_result(index::term_count(list, work), s),
         Judged::Declined(r) => {
             if !is_refusal(r, s) {
