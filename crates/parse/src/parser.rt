@@ -12,7 +12,8 @@ ghost use Rattle.table.specs.Parse.Header.{Header};
 ghost use Rattle.table.specs.Parse.Structure.{counted};
 ghost use Prim.Native.Nat.{_≤_};
 
-// Stores the alphabet size, the number of definitions and of terms, and where the body after the last would stand.
+// Stores the alphabet size, the number of definitions and of terms, and where the body after the
+// last would stand.
 fn store_counts(work: &mut [u64], alphabet: u16, definitions: usize, terms: usize)
     requires { ⌜ (length (now work) ≡ 8192) × (definitions ≤ 32) ⌝ }
     ensures { λ _. ⌜ now (work .exit) ≡ counted (now (work .entry)) alphabet definitions terms ⌝ }

@@ -1,4 +1,5 @@
-// Reading the sets of a table: each row becomes a mask word, each set a word with its first row and its kind.
+// Reading the sets of a table: each row becomes a mask word, each set a word with its first row and
+// its kind.
 use table::Place;
 use table::Refusal;
 use table::Row;

@@ -1,7 +1,7 @@
 // The table layer's definitions, laws and claims, and the types that its code answers (document 01,
-// "Numbers and table", "Operations", "When the monitor declines"). No functions: crates parse, judge
-// and codec have them. `specs/Lib.antt` lists the definitions in reading order, `specs/Claims.antt`
-// what is proved of them.
+// "Numbers and table", "Operations", "When the monitor declines"). The functions are in crates
+// parse, judge and codec. `specs/Lib.antt` lists the definitions in reading order,
+// `specs/Claims.antt` what is proved of them.
 mod answer;
 mod rows;
 mod terms;

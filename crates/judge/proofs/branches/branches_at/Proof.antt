@@ -1,4 +1,4 @@
--- `table::branches::branches_at` meets its contract: the kind in the term's word says which law of
+-- `judge::branches::branches_at` meets its contract: the kind in the term's word says which law of
 -- `Filling/Branches.antt` gives the branches. Assumes nothing.
 use borrow.Author.Needs.{needs}
 use native.Mathlib.Omega.{arith}

@@ -1,4 +1,4 @@
--- `table::branches::excess_at` meets its contract: the entry digit of the term's word says whether the term is tested,
+-- `judge::branches::excess_at` meets its contract: the entry digit of the term's word says whether the term is tested,
 -- and the capped count is above 256 where the count is. Assumes nothing.
 use borrow.Author.Needs.{needs}
 use Rattle.table.specs.Filling.Excess.{excess-entry, excess-other}

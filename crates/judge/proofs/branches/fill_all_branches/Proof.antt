@@ -1,4 +1,4 @@
--- `table::branches::fill_all_branches` meets its contract. The loop's invariant: each term of the definitions before d
+-- `judge::branches::fill_all_branches` meets its contract. The loop's invariant: each term of the definitions before d
 -- with no prefix around it has its branches. The measure is how many definitions are left. Assumes nothing.
 use Prim.Native.Nat.{_-_}
 use native.Mathlib.Omega.{arith}

@@ -1,4 +1,4 @@
--- `table::branches::fill_branches` meets its contract. The loop's invariant: the terms from n on have their branches,
+-- `judge::branches::fill_branches` meets its contract. The loop's invariant: the terms from n on have their branches,
 -- as far as those of the bodies that they call are there, and no other word has changed. The measure is n. Assumes
 -- nothing.
 use Prim.Native.Nat.{_≤_, _<_}

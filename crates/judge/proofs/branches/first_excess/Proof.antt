@@ -1,4 +1,4 @@
--- `table::branches::first_excess` meets its contract. The loop's invariant: no term below n exceeds. The measure is
+-- `judge::branches::first_excess` meets its contract. The loop's invariant: no term below n exceeds. The measure is
 -- how many terms are left. Assumes nothing.
 use Prim.Native.Nat.{ℕ, _≤_, _<_, _-_}
 use native.Mathlib.Omega.{arith}

@@ -1,4 +1,4 @@
--- `table::branches::product_capped` meets its contract: a factor of at least 257 makes the product 0, or at least 257.
+-- `judge::branches::product_capped` meets its contract: a factor of at least 257 makes the product 0, or at least 257.
 -- Assumes nothing.
 use borrow.Author.Needs.{needs}
 use native.Mathlib.Omega.{arith}

@@ -1,4 +1,4 @@
--- `judge::check` meets its contract: another length is refused before anything is stored; else `check_list` answers,
+-- `checker::check` meets its contract: another length is refused before anything is stored; else `check_list` answers,
 -- and what it leaves is the index, or is cleared. Assumes nothing.
 use native.Mathlib.Omega.{arith}
 use Rattle.table.specs.Judging.Laws.{checked-wrong, checked-taken, checked-refused}

@@ -1,4 +1,4 @@
--- `bytes::byte_place` meets its contract. The invariant: n is the place of the j-th number, and at most 3 * j, so that
+-- `places::byte_place` meets its contract. The invariant: n is the place of the j-th number, and at most 3 * j, so that
 -- no sum wraps. The measure is what is left of i. Assumes nothing.
 use Prim.Native.Nat.{_*_, _-_, _≤_}
 use native.Mathlib.Omega.{arith}

@@ -1,4 +1,4 @@
--- `table::references::bad_reference` meets its contract: the digits of the term's word are what `wrongAt` asks of its
+-- `judge::references::bad_reference` meets its contract: the digits of the term's word are what `wrongAt` asks of its
 -- node, and the place is within the list, so that the sums fit. Assumes nothing.
 use native.Mathlib.Omega.{arith}
 use mathlib.Core.Path.{sym, _∙_}

@@ -1,4 +1,4 @@
--- `table::references::call_fits` meets its contract: each return's tests say which of the rules on calls fails, or that
+-- `judge::references::call_fits` meets its contract: each return's tests say which of the rules on calls fails, or that
 -- none does. Assumes nothing.
 use native.Mathlib.Omega.{arith}
 use mathlib.Core.Logic.{⊎-elim}

@@ -1,4 +1,4 @@
--- `table::references::first_bad_reference` meets its contract: the first term that breaks a rule is the first over all.
+-- `judge::references::first_bad_reference` meets its contract: the first term that breaks a rule is the first over all.
 -- The loop's invariant: no term below n breaks one. The measure is what is left of the terms. Assumes nothing.
 use Prim.Native.Nat.{_-_, _≤_}
 use native.Mathlib.Omega.{arith}

@@ -1,4 +1,4 @@
--- `table::widths::body_width` meets its contract: where the body is of the level, the word of its root is its width
+-- `judge::widths::body_width` meets its contract: where the body is of the level, the word of its root is its width
 -- after its terms are filled in. Assumes nothing.
 use borrow.Author.Needs.{needs}
 use native.Mathlib.Omega.{arith}

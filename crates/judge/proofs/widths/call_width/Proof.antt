@@ -1,4 +1,4 @@
--- `table::widths::call_width` meets its contract: the stored level of the definition says which case of `storedCall`
+-- `judge::widths::call_width` meets its contract: the stored level of the definition says which case of `storedCall`
 -- holds. Assumes nothing.
 use borrow.Author.Needs.{needs}
 use native.Mathlib.Omega.{arith}

@@ -1,4 +1,4 @@
--- `table::widths::fill_widths` meets its contract. The loop's invariant: the terms from n on have their widths, and no
+-- `judge::widths::fill_widths` meets its contract. The loop's invariant: the terms from n on have their widths, and no
 -- other word has changed. The measure is n. Assumes nothing.
 use Prim.Native.Nat.{_≤_, _<_}
 use native.Mathlib.Omega.{arith}

@@ -1,4 +1,4 @@
--- `table::widths::first_wide_level` meets its contract. The loop's invariant: the widths of the levels below are
+-- `judge::widths::first_wide_level` meets its contract. The loop's invariant: the widths of the levels below are
 -- stored, and at most 8. The measure is how many levels are left. Assumes nothing.
 use Prim.Native.Nat.{_-_}
 use native.Mathlib.Omega.{arith}

@@ -1,4 +1,4 @@
--- `table::widths::level_width` meets its contract. The loop's invariant: the larger of `widest` and of the widths of
+-- `judge::widths::level_width` meets its contract. The loop's invariant: the larger of `widest` and of the widths of
 -- the bodies from d on is the level's width. The measure is how many bodies are left. Assumes nothing.
 use Prim.Native.Nat.{_-_}
 use native.Mathlib.Omega.{arith}

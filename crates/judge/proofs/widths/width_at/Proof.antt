@@ -1,4 +1,4 @@
--- `table::widths::width_at` meets its contract: the kind in the term's word says which law of `Filling/Widths.antt`
+-- `judge::widths::width_at` meets its contract: the kind in the term's word says which law of `Filling/Widths.antt`
 -- gives the width. Assumes nothing.
 use borrow.Author.Needs.{needs}
 use native.Mathlib.Omega.{arith}

@@ -1,4 +1,4 @@
--- `parse::parse` meets its contract: each way out is where the grammar stops at the alphabet, at the number of sets or
+-- `parser::parse` meets its contract: each way out is where the grammar stops at the alphabet, at the number of sets or
 -- in a set, or what `parse_definitions` says. Assumes nothing.
 use native.Mathlib.Omega.{arith}
 use mathlib.Core.Path.{_∙_}

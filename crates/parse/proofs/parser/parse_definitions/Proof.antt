@@ -1,4 +1,4 @@
--- `parse::parse_definitions` meets its contract: each way out is where the grammar stops at the number of definitions,
+-- `parser::parse_definitions` meets its contract: each way out is where the grammar stops at the number of definitions,
 -- in a definition or after the table, or the stored index of a whole one. Assumes nothing.
 use native.Mathlib.Omega.{arith}
 use mathlib.Core.Path.{_∙_}

@@ -1,4 +1,4 @@
--- `table::rows::power` meets its contract: 1, shifted by an event below 64, loses no bits. Assumes nothing.
+-- `parse::rows::power` meets its contract: 1, shifted by an event below 64, loses no bits. Assumes nothing.
 use native.Mathlib.Nat.{one-mul}
 use native.Mathlib.Omega.{arith}
 use mathlib.Core.Path.{_∙_}

@@ -1,4 +1,4 @@
--- `table::rows::read_row` meets its contract. The loop's invariant: the first j events are read, and `mask` and `low`
+-- `parse::rows::read_row` meets its contract. The loop's invariant: the first j events are read, and `mask` and `low`
 -- are theirs (`Head` of RowTurn). The measure is what is left of the count. Assumes nothing.
 use Prim.Native.Nat.{_-_, _≤_}
 use native.Mathlib.Omega.{arith}

@@ -1,4 +1,4 @@
--- `table::rows::read_rows` meets its contract. The loop's invariant: j rows are read and their masks stored (`Head` of
+-- `parse::rows::read_rows` meets its contract. The loop's invariant: j rows are read and their masks stored (`Head` of
 -- RowsTurn), and what the function requires. The measure is how many rows are left. Assumes nothing.
 use Prim.Native.Nat.{_+_, _-_, _≤_}
 use native.Mathlib.Omega.{arith}

@@ -1,4 +1,4 @@
--- `table::rows::read_set` meets its contract: the kind's tests, and then its rows, say what the parser gives.
+-- `parse::rows::read_set` meets its contract: the kind's tests, and then its rows, say what the parser gives.
 -- Assumes nothing.
 use native.Mathlib.Omega.{arith}
 use mathlib.Core.Path.{refl}

@@ -1,4 +1,4 @@
--- `table::rows::read_sets` meets its contract. The loop's invariant: s sets are read and indexed (`Head` of SetsTurn),
+-- `parse::rows::read_sets` meets its contract. The loop's invariant: s sets are read and indexed (`Head` of SetsTurn),
 -- and the alphabet's bounds. The measure is how many sets are left. Assumes nothing.
 use Prim.Native.Nat.{_-_, _≤_}
 use native.Mathlib.Omega.{arith}

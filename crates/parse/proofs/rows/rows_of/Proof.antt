@@ -1,4 +1,4 @@
--- `table::rows::rows_of` meets its contract: the test says which case of `rowCount` holds. Assumes nothing.
+-- `parse::rows::rows_of` meets its contract: the test says which case of `rowCount` holds. Assumes nothing.
 use Rattle.parse.proofs.rows.SetTurn.{count-one, count-each}
 use Rattle.parse.proofs.rows.rows_of.Statement.{statement}
 use Rattle.parse.proofs.rows.rows_of.Tie as tie

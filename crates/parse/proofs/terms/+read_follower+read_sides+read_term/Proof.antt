@@ -1,4 +1,4 @@
--- `table::terms::read_term`, `read_follower` and `read_sides` meet their contracts: each way out is a law of
+-- `parse::terms::read_term`, `read_follower` and `read_sides` meet their contracts: each way out is a law of
 -- `Parse/Terms/Kind.antt` or `Sides.antt`, with what the calls gave. The measure is twice the levels left, and one more
 -- for the two functions that read what is in a term. Assumes nothing.
 use Prim.Native.Nat.{_+_, _*_, ℕ, _<_}

@@ -1,4 +1,4 @@
--- `table::terms::read_call` meets its contract: without a number there is none, and else `read_leaf` stored the call.
+-- `parse::terms::read_call` meets its contract: without a number there is none, and else `read_leaf` stored the call.
 -- Assumes nothing.
 use Prim.Native.Nat.{_+_}
 use native.Mathlib.Omega.{arith}

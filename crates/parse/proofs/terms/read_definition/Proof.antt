@@ -1,4 +1,4 @@
--- `table::terms::read_definition` meets its contract: the body's number and the level are stored, then the body is
+-- `parse::terms::read_definition` meets its contract: the body's number and the level are stored, then the body is
 -- read. Assumes nothing.
 use native.Mathlib.Omega.{arith}
 use mathlib.Core.Path.{refl, _∙_}

@@ -1,4 +1,4 @@
--- `table::terms::read_definitions` meets its contract. The loop's invariant is `Defined`: d definitions were read, and
+-- `parse::terms::read_definitions` meets its contract. The loop's invariant is `Defined`: d definitions were read, and
 -- what they stored stands in the work area. The measure is how many are left. Assumes nothing.
 use Prim.Native.Nat.{_-_, _≤_}
 use native.Mathlib.Omega.{arith}

@@ -1,4 +1,4 @@
--- `table::terms::read_reference` meets its contract: each way out is a law of `Parse/Terms/Reference.antt`, with what
+-- `parse::terms::read_reference` meets its contract: each way out is a law of `Parse/Terms/Reference.antt`, with what
 -- the tests say. Assumes nothing.
 use native.Mathlib.Omega.{arith}
 use mathlib.Core.Path.{refl}

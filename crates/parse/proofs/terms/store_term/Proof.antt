@@ -1,4 +1,4 @@
--- `table::terms::store_term` meets its contract: the bounds of a head keep the sums in range, and the word is `packed`.
+-- `parse::terms::store_term` meets its contract: the bounds of a head keep the sums in range, and the word is `packed`.
 -- Assumes nothing.
 use native.Mathlib.Omega.{arith}
 use mathlib.Core.Path.{refl}
