@@ -14,11 +14,11 @@ use Rattle.table.specs.Table.{Table}
 use Rattle.table.specs.Memory.{noMemory}
 use Rattle.table.specs.Rules.{Rules}
 use Rattle.meaning.specs.Figure1.{count, last}
-use Rattle.step.specs.declared.slots.Held.the-variants.{Count, Exceeded}
-use Rattle.step.specs.declared.walk.Tree.{Tree}
-use Rattle.step.specs.Holding.{said, putAll}
-use Rattle.step.specs.Residual.{resolvedBelow, ResolvesDefinition}
-use Rattle.step.specs.Distinct.{empty}
+use Rattle.slots.specs.declared.slots.Held.the-variants.{Count, Exceeded}
+use Rattle.walk.specs.declared.nodes.Tree.{Tree}
+use Rattle.slots.specs.Holding.{said, putAll}
+use Rattle.residual.specs.Residual.{resolvedBelow, ResolvesDefinition}
+use Rattle.residual.specs.Distinct.{empty}
 use Rattle.step.specs.Stepped.{gathered, Source}
 use Rattle.step.specs.Successors as words
 use Rattle.step.specs.Takes.{TreeAt, Takes}

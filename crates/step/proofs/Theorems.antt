@@ -6,13 +6,13 @@ use Rattle.table.specs.Writing.{refNumbers, termNumbers, definitionNumbers, row
 use Rattle.table.specs.Branches.{bodyIn}
 use Rattle.table.specs.Node.{nodes, nodesFrom, nodesOf, nodeAt, definitionsAt, termOf, kindOf, refOf}
 use Rattle.table.specs.Member.{elem, rowIn, rowOf, inRow}
-use Rattle.step.specs.Slots.{order}
-use Rattle.step.specs.Words.{nodeWord, digitOf, remember, inSet}
-use Rattle.step.specs.Residual.{resolve, resolvedBelow, resolved, leafAfter, after, pairs, words, pushed}
-use Rattle.step.specs.Residual.{pushAll}
-use Rattle.step.specs.Distinct.{sameWords}
-use Rattle.step.specs.Walk.{onto}
-use Rattle.step.specs.Canon.{insertSlot, canonFrom}
+use Rattle.slots.specs.Slots.{order}
+use Rattle.residual.specs.Words.{nodeWord, digitOf, remember, inSet}
+use Rattle.residual.specs.Residual.{resolve, resolvedBelow, resolved, leafAfter, after, pairs, words, pushed}
+use Rattle.residual.specs.Residual.{pushAll}
+use Rattle.residual.specs.Distinct.{sameWords}
+use Rattle.walk.specs.Walk.{onto}
+use Rattle.slots.specs.Canon.{insertSlot, canonFrom}
 use Rattle.step.specs.Successors.{allAfter, slotsOf, canon}
 use Rattle.step.specs.Successors.Laws.{stepped, exceeded}
 use Rattle.step.specs.Claims.{StepHolds, StepExceeds}

@@ -11,10 +11,10 @@ use mathlib.Core.Path.{_≡_}
 use mathlib.Core.List.{List}
 use lib.ListN.{length, replicate}
 use Rattle.table.specs.Table.{Table}
-use Rattle.step.specs.declared.slots.Held.the-variants.{Count, Exceeded}
-use Rattle.step.specs.Holding.{said, putAll}
-use Rattle.step.specs.Residual.{Residual}
-use Rattle.step.specs.Canon.{areaOf}
+use Rattle.slots.specs.declared.slots.Held.the-variants.{Count, Exceeded}
+use Rattle.slots.specs.Holding.{said, putAll}
+use Rattle.residual.specs.Residual.{Residual}
+use Rattle.slots.specs.Canon.{areaOf}
 use Rattle.step.specs.Stepped.{gathered, Source}
 use Rattle.step.specs.Successors.{Holds, allAfter, canon}
 

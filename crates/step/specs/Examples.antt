@@ -7,8 +7,8 @@ use lib.ListN.{length}
 use lib.Dec.{T}
 use Rattle.table.specs.Table.{fixed, family, Term, stop, fail, prefix, choice, par, call, one, each, Definition}
 use Rattle.table.specs.Table.{Table}
-use Rattle.step.specs.Residual.{resolved}
-use Rattle.step.specs.Distinct.{sameWords}
+use Rattle.residual.specs.Residual.{resolved}
+use Rattle.residual.specs.Distinct.{sameWords}
 use Rattle.step.specs.Successors.{allAfter, canon}
 
 -- {0}, {}, {1}, {0, 1}, and the family with row 0 {1}, row 1 {0}, row 2 {}

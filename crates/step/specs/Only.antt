@@ -20,11 +20,11 @@ use Rattle.table.specs.Node.{termOf}
 use Rattle.step.specs.declared.only.Way.{Way}
 use Rattle.step.specs.declared.only.Way.the-variants.{Still, One, Many}
 use Rattle.step.specs.declared.only.WayAt.{WayAt}
-use Rattle.step.specs.Words.{nodeWord, termOfWord, kindAt, holdsAt}
-use Rattle.step.specs.Residual.{Residual, leaf, pair, words}
-use Rattle.step.specs.Distinct.{window}
-use Rattle.step.specs.Walk.{option, room}
-use Rattle.step.specs.Forest.{Valid}
+use Rattle.residual.specs.Words.{nodeWord, termOfWord, kindAt, holdsAt}
+use Rattle.residual.specs.Residual.{Residual, leaf, pair, words}
+use Rattle.residual.specs.Distinct.{window}
+use Rattle.walk.specs.Walk.{option, room}
+use Rattle.walk.specs.Forest.{Valid}
 use Rattle.step.specs.Takes.{TreeAt}
 pub mod Marks
 pub mod Laws

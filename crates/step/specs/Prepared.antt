@@ -7,9 +7,9 @@ use mathlib.Core.Path.{_≡_}
 use mathlib.Core.List.{List, []}
 use lib.ListN.{length, take}
 use Rattle.table.specs.Table.{Table}
-use Rattle.step.specs.Walk.{room}
-use Rattle.step.specs.Forest.{Forest}
-use Rattle.step.specs.Course.{nodeCount, nodesFrom, Node}
+use Rattle.walk.specs.Walk.{room}
+use Rattle.walk.specs.Forest.{Forest}
+use Rattle.walk.specs.Course.{nodeCount, nodesFrom, Node}
 pub mod Laws
 
 pub record Sound (t : Table) (bound e : ℕ) (store : List ℕ) : Type 0 where

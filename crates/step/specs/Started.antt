@@ -7,8 +7,8 @@ use Prim.Native.Nat.{ℕ, _<_}
 use mathlib.Core.List.{List}
 use lib.ListN.{length}
 use Rattle.table.specs.Table.{Table}
-use Rattle.step.specs.Residual.{resolvedBelow, ResolvesDefinition}
-use Rattle.step.specs.Distinct.{empty}
+use Rattle.residual.specs.Residual.{resolvedBelow, ResolvesDefinition}
+use Rattle.residual.specs.Distinct.{empty}
 use Rattle.step.specs.Successors.{slotsOf}
 pub mod Laws
 

@@ -9,11 +9,11 @@ use mathlib.Core.Path.{_≡_}
 use mathlib.Core.List.{List, [], _++_}
 use lib.ListN.{length, getD}
 use Rattle.table.specs.Table.{Table}
-use Rattle.step.specs.Distinct.{window, empty}
-use Rattle.step.specs.Residual.{Residual, words}
-use Rattle.step.specs.Walk.{room, results, onto}
-use Rattle.step.specs.Holding.{Outcome, putAll}
-use Rattle.step.specs.Forest.{Valid}
+use Rattle.residual.specs.Distinct.{window, empty}
+use Rattle.residual.specs.Residual.{Residual, words}
+use Rattle.walk.specs.Walk.{room, results, onto}
+use Rattle.slots.specs.Holding.{Outcome, putAll}
+use Rattle.walk.specs.Forest.{Valid}
 pub mod One
 pub mod Laws
 

@@ -9,12 +9,12 @@ use Prim.Native.Nat.{ℕ, _+_}
 use mathlib.Core.Path.{_≡_}
 use mathlib.Core.List.{List, [], _∷_, _++_, map}
 use Rattle.table.specs.Table.{Table}
-use Rattle.step.specs.Residual.{Residual, words, after}
-use Rattle.step.specs.Distinct.{empty}
-use Rattle.step.specs.Walk.{onto}
-use Rattle.step.specs.Forest.{Valid, afterKept}
+use Rattle.residual.specs.Residual.{Residual, words, after}
+use Rattle.residual.specs.Distinct.{empty}
+use Rattle.walk.specs.Walk.{onto}
+use Rattle.walk.specs.Forest.{Valid, afterKept}
 use Rattle.step.specs.Stepped.{slotNodes}
-use Rattle.step.specs.Canon.{canonFrom}
+use Rattle.slots.specs.Canon.{canonFrom}
 pub mod Members
 pub mod Laws
 

@@ -10,9 +10,9 @@ use mathlib.Core.List.{List, _++_}
 use lib.ListN.{length, drop}
 use lib.Dec.{ltb}
 use Rattle.table.specs.Table.{Table}
-use Rattle.step.specs.declared.walk.Tree.{Tree}
-use Rattle.step.specs.Residual.{Residual, words, after}
-use Rattle.step.specs.Forest.{Valid}
+use Rattle.walk.specs.declared.nodes.Tree.{Tree}
+use Rattle.residual.specs.Residual.{Residual, words, after}
+use Rattle.walk.specs.Forest.{Valid}
 pub mod Laws
 
 pub record TreeAt (t : Table) (area : List ℕ) (k : ℕ) : Type 0 where

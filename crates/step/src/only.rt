@@ -1,21 +1,21 @@
 // What becomes of a residual that takes an event, where that is nothing or one residual; such a
 // residual needs no store. The definitions are in `specs/Only.antt`.
-use crate::resolve::push;
-use crate::resolve::resolve_term;
-use crate::words::holds_at;
-use crate::words::kind_at;
-use crate::words::memory_of;
-use crate::words::node;
-use crate::words::remember;
-use crate::words::term_of;
+use residual::push;
+use residual::resolve_term;
+use residual::holds_at;
+use residual::kind_at;
+use residual::memory_of;
+use residual::node;
+use residual::remember;
+use residual::term_of;
 ghost use mathlib.Core.Path.{_≡_};
 ghost use Prim.Native.Nat.{ℕ, _+_, _*_, _^_, _<_, _≤_};
 ghost use lib.ListN.{length, getD};
 ghost use Rattle.table.specs.Index.{tableIn, Indexed};
-ghost use Rattle.step.specs.Words.{kindAt, KnownWord};
-ghost use Rattle.step.specs.Residual.{pushAll};
-ghost use Rattle.step.specs.Distinct.{window, empty};
-ghost use Rattle.step.specs.Walk.{option};
+ghost use Rattle.residual.specs.Words.{kindAt, KnownWord};
+ghost use Rattle.residual.specs.Residual.{pushAll};
+ghost use Rattle.residual.specs.Distinct.{window, empty};
+ghost use Rattle.walk.specs.Walk.{option};
 ghost use Rattle.step.specs.Only.{marksOf, joined, leafWay, ShortTree, Only};
 ghost use Rattle.step.specs.Only.{Rooted, WayIn, rebuilt, Follows, Rebuilds};
 

@@ -1,10 +1,10 @@
 // The residuals of a definition, held in an area (01, "Operations": "Start settles the last
 // definition into area 0"). The definitions are in `specs/Started.antt`.
-use crate::resolve::resolve_definition;
-use crate::slots::Held;
-use crate::slots::put;
+use residual::resolve_definition;
+use slots::Held;
+use slots::put;
 ghost use Rattle.table.specs.Index.{tableIn, Indexed};
-ghost use Rattle.step.specs.Holding.{putAll, Gave};
+ghost use Rattle.slots.specs.Holding.{putAll, Gave};
 ghost use Rattle.step.specs.Started.{ResolvesAll, initial};
 
 // Holds all residuals of the body of definition d, each once.

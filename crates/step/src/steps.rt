@@ -1,25 +1,25 @@
 // A set of residuals and one event: all results of all residuals, held in another area. The
 // definitions are in `specs/Prepared.antt` and `specs/Stepped.antt`; `specs/Claims.antt` says what
 // they come to.
-use crate::leaves::distinct;
+use residual::distinct;
 use crate::only::Way;
 use crate::only::rebuild;
 use crate::only::way_of;
-use crate::slots::Held;
-use crate::slots::put;
-use crate::walk::walk;
-use crate::words::holds_at;
-use crate::words::kind_at;
-use crate::words::memory_of;
-use crate::words::remember;
-use crate::words::term_of;
+use slots::Held;
+use slots::put;
+use walk::walk;
+use residual::holds_at;
+use residual::kind_at;
+use residual::memory_of;
+use residual::remember;
+use residual::term_of;
 ghost use mathlib.Core.Path.{_≡_};
 ghost use Prim.Native.Nat.{ℕ, _+_, _*_, _<_, _≤_};
 ghost use lib.ListN.{length, getD, take};
 ghost use Rattle.table.specs.Index.{tableIn, Indexed};
-ghost use Rattle.step.specs.Distinct.{window};
-ghost use Rattle.step.specs.Holding.{putAll, Gave};
-ghost use Rattle.step.specs.Course.{nodeCount, Ready};
+ghost use Rattle.residual.specs.Distinct.{window};
+ghost use Rattle.slots.specs.Holding.{putAll, Gave};
+ghost use Rattle.walk.specs.Course.{nodeCount, Ready};
 ghost use Rattle.step.specs.Prepared.{Sound, Filled};
 ghost use Rattle.step.specs.Stepped.{gathered, Source, StepsOne, steppedOne};
 

@@ -13,9 +13,9 @@ use Rattle.numbers.specs.Every.{All}
 use Rattle.table.specs.Table.{Table}
 use Rattle.table.specs.Operations.{zeros}
 use Rattle.table.specs.Rules.{Rules}
-use Rattle.step.specs.declared.slots.Held.{Held}
-use Rattle.step.specs.declared.slots.Held.the-variants.{Count, Exceeded}
-use Rattle.step.specs.Holding.{Outcome, said, putAll, Gave}
+use Rattle.slots.specs.declared.slots.Held.{Held}
+use Rattle.slots.specs.declared.slots.Held.the-variants.{Count, Exceeded}
+use Rattle.slots.specs.Holding.{Outcome, said, putAll, Gave}
 use Rattle.step.specs.Stepped.{gathered, Source}
 use Rattle.monitor_spec.specs.Regular.Laws.{regular}
 use Rattle.monitor_spec.specs.Residual.{Residual, afterAll}

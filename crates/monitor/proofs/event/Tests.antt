@@ -8,8 +8,8 @@ use mathlib.Core.List.{List}
 use lib.ListN.{length}
 use borrow.Author.Tests.{le-leb, lt-leb, eq-eqb, ne-eqb, lt-ltb, le-ltb}
 use Rattle.table.specs.Table.{Table}
-use Rattle.step.specs.declared.slots.Held.{Held}
-use Rattle.step.specs.declared.slots.Held.the-variants.{Count, Exceeded}
+use Rattle.slots.specs.declared.slots.Held.{Held}
+use Rattle.slots.specs.declared.slots.Held.the-variants.{Count, Exceeded}
 use Rattle.monitor_spec.specs.State.{Monitor, slotCount}
 use Rattle.monitor_spec.specs.Fold.{went}
 use Rattle.monitor_spec.specs.Feed.{nextSlots, taking, takeEvent}

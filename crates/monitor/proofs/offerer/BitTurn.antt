@@ -12,7 +12,7 @@ use borrow.Author.Tests.{ltb-true, ltb-false}
 use Rattle.table.specs.Table.{Table}
 use Rattle.table.specs.Memory.{noMemory}
 use Rattle.table.specs.Rules.{Rules}
-use Rattle.step.specs.declared.walk.Tree.{Tree}
+use Rattle.walk.specs.declared.nodes.Tree.{Tree}
 use Rattle.step.specs.Takes.{Takes}
 use Rattle.monitor_spec.specs.Residual.{Residual, leaf, after, afterAll}
 use Rattle.monitor_spec.specs.Offer.{bitOf}

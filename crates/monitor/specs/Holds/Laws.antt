@@ -15,7 +15,7 @@ use Rattle.numbers.specs.Every.{All}
 use Rattle.table.specs.Table.{Table}
 use Rattle.table.specs.Memory.{noMemory}
 use Rattle.table.specs.Rules.{Rules}
-use Rattle.step.specs.declared.walk.Tree.{Tree}
+use Rattle.walk.specs.declared.nodes.Tree.{Tree}
 use Rattle.step.specs.Takes.{TreeAt, Takes}
 use Rattle.monitor_spec.specs.Residual.{Residual, leaf, after}
 use Rattle.monitor_spec.specs.Slots.{slotsOf}

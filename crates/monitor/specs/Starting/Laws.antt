@@ -21,9 +21,9 @@ use Rattle.table.specs.declared.answer.Judged.the-variants.{Accepted, Declined}
 use Rattle.table.specs.declared.answer.Refusal.{Refusal}
 use Rattle.index.specs.Facts.{indexed-rules}
 use Rattle.meaning.specs.Figure1.{count, last}
-use Rattle.step.specs.declared.slots.Held.{Held}
-use Rattle.step.specs.declared.slots.Held.the-variants.{Count, Exceeded}
-use Rattle.step.specs.Holding.{Outcome, said, countOf, putAll, Gave}
+use Rattle.slots.specs.declared.slots.Held.{Held}
+use Rattle.slots.specs.declared.slots.Held.the-variants.{Count, Exceeded}
+use Rattle.slots.specs.Holding.{Outcome, said, countOf, putAll, Gave}
 use Rattle.step.specs.Started.{ResolvesAll, initial}
 use Rattle.monitor_spec.specs.Residual.{residualsOf}
 use Rattle.monitor_spec.specs.Slots.{slotsOf}

@@ -18,10 +18,10 @@ use Rattle.table.specs.Member.{inRow, recalled, member}
 use Rattle.table.specs.Node.{termOf, kindOf, refOf, parameterOf}
 use Rattle.table.specs.Node.Numbers.{term-at}
 use Rattle.table.specs.Rules.{Rules}
-use Rattle.step.specs.Residual as step
-use Rattle.step.specs.Words as word
+use Rattle.residual.specs.Residual as step
+use Rattle.residual.specs.Words as word
 use Rattle.step.specs.Successors.{allAfter}
-use Rattle.step.specs.Lawful.{follower-in}
+use Rattle.residual.specs.Lawful.{follower-in}
 use Rattle.monitor_spec.specs.Part.Numbers.{number-at, number-below}
 use Rattle.monitor_spec.specs.Regular.Laws.{regular}
 use Rattle.monitor_spec.specs.Residual.{Residual, leaf, pair, pairs, resolve, afterLeaf, afterPair, after, afterAll}

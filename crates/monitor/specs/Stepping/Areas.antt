@@ -15,8 +15,8 @@ use Rattle.table.specs.Table.{Table}
 use Rattle.table.specs.Memory.{noMemory}
 use Rattle.table.specs.Operations.{zeros}
 use Rattle.table.specs.Rules.{Rules}
-use Rattle.step.specs.Residual.{words}
-use Rattle.step.specs.Distinct.{window}
+use Rattle.residual.specs.Residual.{words}
+use Rattle.residual.specs.Distinct.{window}
 use Rattle.step.specs.Stepped.{slotNodes}
 use Rattle.step.specs.Successors.{Holds}
 use Rattle.monitor_spec.specs.Regular.Laws.{regular}

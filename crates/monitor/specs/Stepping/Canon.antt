@@ -14,10 +14,10 @@ use Rattle.numbers.specs.Every.{All, all-imp}
 use Rattle.meaning.specs.Some.{all-map}
 use Rattle.table.specs.Table.{Table}
 use Rattle.table.specs.Rules.{Rules}
-use Rattle.step.specs.Slots as slots
-use Rattle.step.specs.Walk.{onto}
-use Rattle.step.specs.Canon.{byOrder, insertSlot, canonFrom, joined, areaOf}
-use Rattle.step.specs.Canon.Compare.{stepOrder, order-step, order-tail}
+use Rattle.slots.specs.Slots as slots
+use Rattle.walk.specs.Walk.{onto}
+use Rattle.slots.specs.Canon.{byOrder, insertSlot, canonFrom, joined, areaOf}
+use Rattle.slots.specs.Canon.Compare.{stepOrder, order-step, order-tail}
 use Rattle.step.specs.Successors as words
 use Rattle.monitor_spec.specs.Regular.Laws.{regular}
 use Rattle.monitor_spec.specs.Residual.{Residual}

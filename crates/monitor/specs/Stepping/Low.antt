@@ -3,7 +3,7 @@
 -- Assumes nothing.
 use Prim.Native.Nat.{ℕ, _+_, _*_}
 use Rattle.table.specs.Memory.{Memory}
-use Rattle.step.specs.Residual as step
+use Rattle.residual.specs.Residual as step
 use Rattle.monitor_spec.specs.Residual.{Residual, leaf, pair}
 
 -- "m0 × 2^18 + m1 × 2^12 + m2 × 2^6 + m3"

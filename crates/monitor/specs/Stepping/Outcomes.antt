@@ -12,11 +12,11 @@ use Rattle.numbers.specs.Every.{All}
 use Rattle.table.specs.Table.{Table}
 use Rattle.table.specs.Rules.{Rules}
 use Rattle.meaning.specs.Figure1.{count, last}
-use Rattle.step.specs.declared.slots.Held.the-variants.{Count, Exceeded}
-use Rattle.step.specs.Holding.{said, putAll}
-use Rattle.step.specs.Residual.{resolvedBelow}
+use Rattle.slots.specs.declared.slots.Held.the-variants.{Count, Exceeded}
+use Rattle.slots.specs.Holding.{said, putAll}
+use Rattle.residual.specs.Residual.{resolvedBelow}
 use Rattle.step.specs.Stepped.{gathered, Source}
-use Rattle.step.specs.Canon.Laws.{put-canon, put-exceeded-canon}
+use Rattle.slots.specs.Canon.Laws.{put-canon, put-exceeded-canon}
 use Rattle.step.specs.Successors.{Holds, allAfter}
 use Rattle.step.specs.Successors as words
 use Rattle.step.specs.Successors.Laws.{stepped, exceeded, slots-of-slots}

@@ -14,9 +14,9 @@ use Rattle.table.specs.Node.{termOf}
 use Rattle.table.specs.Node.Numbers.{term-at}
 use Rattle.table.specs.Rules.{Rules}
 use Rattle.meaning.specs.Figure1.{count}
-use Rattle.step.specs.Residual as step
-use Rattle.step.specs.Residual.Resolved.{below-here, below-there}
-use Rattle.step.specs.Lawful.{Below, lawful-rules}
+use Rattle.residual.specs.Residual as step
+use Rattle.residual.specs.Residual.Resolved.{below-here, below-there}
+use Rattle.residual.specs.Lawful.{Below, lawful-rules}
 use Rattle.monitor_spec.specs.Residual.{Residual, pair, pairs, resolveIn, resolveDef, resolve}
 use Rattle.monitor_spec.specs.Residual.Resolve.{resolve-at}
 use Rattle.monitor.specs.Stepping.Low.{packed, low}

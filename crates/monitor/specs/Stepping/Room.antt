@@ -13,10 +13,10 @@ use Rattle.table.specs.Table.{Table}
 use Rattle.table.specs.Memory.{Memory}
 use Rattle.table.specs.Node.{termOf, kindOf}
 use Rattle.table.specs.Rules.{Rules}
-use Rattle.step.specs.Residual as step
-use Rattle.step.specs.Words.{nodeWord}
-use Rattle.step.specs.Walk.{leafResults, longest, room}
-use Rattle.step.specs.Forest.{wordsAll}
+use Rattle.residual.specs.Residual as step
+use Rattle.residual.specs.Words.{nodeWord}
+use Rattle.walk.specs.Walk.{leafResults, longest, room}
+use Rattle.walk.specs.Forest.{wordsAll}
 use Rattle.step.specs.Stepped.{SoundSlot}
 use Rattle.step.specs.Successors.Members.{room-append, node-results}
 use Rattle.monitor_spec.specs.Regular.Laws.{regular}

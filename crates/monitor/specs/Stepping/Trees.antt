@@ -17,10 +17,10 @@ use Rattle.table.specs.Rules.{Rules}
 use Rattle.meaning.specs.Figure1.{count, last}
 use Rattle.meaning.specs.Formed.{all-at}
 use Rattle.meaning.specs.Some.{all-map}
-use Rattle.step.specs.declared.walk.Tree.{Tree}
-use Rattle.step.specs.Residual.{words, nth, resolvedBelow, ResolvesDefinition}
-use Rattle.step.specs.Residual as step
-use Rattle.step.specs.Distinct.{empty}
+use Rattle.walk.specs.declared.nodes.Tree.{Tree}
+use Rattle.residual.specs.Residual.{words, nth, resolvedBelow, ResolvesDefinition}
+use Rattle.residual.specs.Residual as step
+use Rattle.residual.specs.Distinct.{empty}
 use Rattle.step.specs.Stepped.{Source}
 use Rattle.step.specs.Takes.{TreeAt, Takes}
 use Rattle.monitor_spec.specs.Regular.Laws.{regular}

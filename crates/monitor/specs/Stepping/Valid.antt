@@ -11,9 +11,9 @@ use Rattle.table.specs.Memory.{Memory, digit}
 use Rattle.table.specs.Node.{termOf, kindOf}
 use Rattle.table.specs.Node.Numbers.{term-at}
 use Rattle.table.specs.Rules.{Rules}
-use Rattle.step.specs.Words.{DigitsBelow}
-use Rattle.step.specs.Words.Laws.{digits-below}
-use Rattle.step.specs.Forest.{ValidNode, Valid}
+use Rattle.residual.specs.Words.{DigitsBelow}
+use Rattle.residual.specs.Words.Laws.{digits-below}
+use Rattle.walk.specs.Forest.{ValidNode, Valid}
 use Rattle.monitor_spec.specs.Part.Numbers.{number-at, number-below}
 use Rattle.monitor_spec.specs.Residual.{Residual, leaf, pair}
 use Rattle.monitor_spec.specs.Meaning.{IsLeaf, IsPar, Sound}

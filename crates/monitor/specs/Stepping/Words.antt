@@ -7,9 +7,9 @@ use mathlib.Core.Path.{_≡_, ap, ap₂, _∙_}
 use mathlib.Core.List.{[], _∷_, _++_}
 use lib.ListN.{length}
 use Rattle.table.specs.Memory.{Memory}
-use Rattle.step.specs.Residual as step
-use Rattle.step.specs.Words as word
-use Rattle.step.specs.Distinct.{empty}
+use Rattle.residual.specs.Residual as step
+use Rattle.residual.specs.Words as word
+use Rattle.residual.specs.Distinct.{empty}
 use Rattle.step.specs.Successors.Members.{slot-form}
 use Rattle.monitor_spec.specs.Residual.{Residual, leaf, pair}
 use Rattle.monitor_spec.specs.Slots.{pack, nodes, slotOf}

@@ -16,15 +16,15 @@ use Rattle.table.specs.Branches.{branches}
 use Rattle.table.specs.Node.{termOf}
 use Rattle.step.specs.declared.only.Way.{Way}
 use Rattle.step.specs.declared.only.Way.the-variants.{Still, One, Many}
-use Rattle.step.specs.Words.{inSet, nodeWord, remember, termOfWord, memoryOfWord, kindAt, holdsAt}
-use Rattle.step.specs.Residual.{Residual, leaf, pair, words, pairs, resolved, nth}
-use Rattle.step.specs.Residual.Resolved.{length-resolved}
-use Rattle.step.specs.Distinct.{kept, keep, heldIn, slotAt}
-use Rattle.step.specs.Walk.{leafKept, option}
-use Rattle.step.specs.Forest.{Valid, afterKept}
-use Rattle.step.specs.Forest.Laws.{term-of-node, memory-of-node, holds-of-node, kept-both, kept-either}
-use Rattle.step.specs.Forest.Laws.{pairs-nil}
-use Rattle.step.specs.Course.Laws.{kept-yes, kept-not-kind, kept-not-held}
+use Rattle.residual.specs.Words.{inSet, nodeWord, remember, termOfWord, memoryOfWord, kindAt, holdsAt}
+use Rattle.residual.specs.Residual.{Residual, leaf, pair, words, pairs, resolved, nth}
+use Rattle.residual.specs.Residual.Resolved.{length-resolved}
+use Rattle.residual.specs.Distinct.{kept, keep, heldIn, slotAt}
+use Rattle.walk.specs.Walk.{leafKept, option}
+use Rattle.walk.specs.Forest.{Valid, afterKept}
+use Rattle.walk.specs.Forest.Laws.{term-of-node, memory-of-node, holds-of-node, kept-both, kept-either}
+use Rattle.walk.specs.Forest.Laws.{pairs-nil}
+use Rattle.walk.specs.Course.Laws.{kept-yes, kept-not-kind, kept-not-held}
 use Rattle.step.specs.Only.{marksOf, countWay, leafWay, joined, wayOf, rebuilt, Marked}
 use Rattle.step.specs.Only.Marks.{grown-kept, grown-moved, rebuilt-none, rebuilt-append, marked-none}
 use Rattle.step.specs.Only.Marks.{marked-append, above, marks-small}

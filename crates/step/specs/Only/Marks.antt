@@ -19,9 +19,9 @@ use Rattle.table.specs.Branches.{branches}
 use Rattle.table.specs.Node.{termOf}
 use Rattle.step.specs.declared.only.Way.{Way}
 use Rattle.step.specs.declared.only.Way.the-variants.{Still, One, Many}
-use Rattle.step.specs.Words.{nodeWord, termOfWord, kindAt, holdsAt}
-use Rattle.step.specs.Residual.{Residual, leaf, pair, words}
-use Rattle.step.specs.Walk.{option}
+use Rattle.residual.specs.Words.{nodeWord, termOfWord, kindAt, holdsAt}
+use Rattle.residual.specs.Residual.{Residual, leaf, pair, words}
+use Rattle.walk.specs.Walk.{option}
 use Rattle.step.specs.Only.{marksOf, countWay, leafWay, joined, wayOf, grown, rebuilt, Marked}
 
 -- ---- node words

@@ -11,17 +11,17 @@ use lib.ListN.{length, getD}
 use borrow.Author.Tests.{eq-eqb}
 use Rattle.table.specs.Table.{Table, bodyNumber, termCount}
 use Rattle.table.specs.Node.{termOf, kindOf, calledOf}
-use Rattle.step.specs.Words.{nodeWord, remember, termOfWord, memoryOfWord, kindAt}
-use Rattle.step.specs.Words.Laws.{remember-small}
-use Rattle.step.specs.Lawful.{Lawful, follower-in}
-use Rattle.step.specs.Residual.{words, pushed, pushAll, Resolves, resolvedInto, definitionInto}
-use Rattle.step.specs.Residual.Resolved.{length-resolved}
-use Rattle.step.specs.Residual.Into.{length-pushed, head-pushed, length-pushAll, head-pushAll, pushAll-append}
-use Rattle.step.specs.Residual.Into.{into-definition, go-call, go-leaf}
-use Rattle.step.specs.Distinct.{window, empty}
-use Rattle.step.specs.Distinct.Laws.{window-cons, window-none}
-use Rattle.step.specs.Walk.{option, room, leafResults, longest}
-use Rattle.step.specs.Course.Laws.{results-yes, words-short}
+use Rattle.residual.specs.Words.{nodeWord, remember, termOfWord, memoryOfWord, kindAt}
+use Rattle.residual.specs.Words.Laws.{remember-small}
+use Rattle.residual.specs.Lawful.{Lawful, follower-in}
+use Rattle.residual.specs.Residual.{words, pushed, pushAll, Resolves, resolvedInto, definitionInto}
+use Rattle.residual.specs.Residual.Resolved.{length-resolved}
+use Rattle.residual.specs.Residual.Into.{length-pushed, head-pushed, length-pushAll, head-pushAll, pushAll-append}
+use Rattle.residual.specs.Residual.Into.{into-definition, go-call, go-leaf}
+use Rattle.residual.specs.Distinct.{window, empty}
+use Rattle.residual.specs.Distinct.Laws.{window-cons, window-none}
+use Rattle.walk.specs.Walk.{option, room, leafResults, longest}
+use Rattle.walk.specs.Course.Laws.{results-yes, words-short}
 use Rattle.step.specs.Only.{rebuilt, Single, Marked, Follows, Rebuilds}
 use Rattle.step.specs.Only.Marks.{grown-kept, grown-moved}
 

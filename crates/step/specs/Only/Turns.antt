@@ -19,11 +19,11 @@ use Rattle.table.specs.Node.{termOf}
 use Rattle.step.specs.declared.only.Way.{Way}
 use Rattle.step.specs.declared.only.Way.the-variants.{Still, One, Many}
 use Rattle.step.specs.declared.only.WayAt.{WayAt}
-use Rattle.step.specs.Words.{termOfWord, kindAt, holdsAt}
-use Rattle.step.specs.Residual.{Residual, leaf, pair, words}
-use Rattle.step.specs.Forest.{Valid}
-use Rattle.step.specs.Forest.Laws.{kind-of-node}
-use Rattle.step.specs.Course.Laws.{words-positive}
+use Rattle.residual.specs.Words.{termOfWord, kindAt, holdsAt}
+use Rattle.residual.specs.Residual.{Residual, leaf, pair, words}
+use Rattle.walk.specs.Forest.{Valid}
+use Rattle.walk.specs.Forest.Laws.{kind-of-node}
+use Rattle.walk.specs.Course.Laws.{words-positive}
 use Rattle.step.specs.Takes.Laws.{first-word, sides, skipped}
 use Rattle.step.specs.Only.{marksOf, countWay, leafWay, joined, wayOf, ShortTree, Only, Rooted, WayIn}
 use Rattle.step.specs.Only.Marks.{marks-fit}

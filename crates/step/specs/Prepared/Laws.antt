@@ -14,18 +14,18 @@ use lib.Seq.{getD-take, take-take, getD-set-same, take-set-le, drop-set-lt, take
 use borrow.Author.Tests.{eq-eqb, ne-eqb}
 use Rattle.table.specs.Table.{Table, termCount}
 use Rattle.table.specs.Node.{termOf, kindOf}
-use Rattle.step.specs.Lawful.{Lawful, follower-in}
-use Rattle.step.specs.Residual.{Residual, leaf, pair, words, resolved, nth}
-use Rattle.step.specs.Words.{remember, termOfWord, memoryOfWord, kindAt, holdsAt, KnownWord}
-use Rattle.step.specs.Residual.Resolved.{length-resolved}
-use Rattle.step.specs.Distinct.{window, kept, slotAt, Resolvable, Stored}
-use Rattle.step.specs.Distinct.Laws.{at-window, length-window, window-none}
-use Rattle.step.specs.Walk.{leafKept, leafResults, longest, room}
-use Rattle.step.specs.Forest.{Valid, AllValid, wordsAll}
-use Rattle.step.specs.Forest.Laws.{known-node}
-use Rattle.step.specs.Course.{nodeCount, nodesFrom, Node, Ready}
-use Rattle.step.specs.Course.Laws.{results-yes, kept-yes, kept-not-kind, kept-not-held, words-short}
-use Rattle.step.specs.Course.Laws.{leaf-length}
+use Rattle.residual.specs.Lawful.{Lawful, follower-in}
+use Rattle.residual.specs.Residual.{Residual, leaf, pair, words, resolved, nth}
+use Rattle.residual.specs.Words.{remember, termOfWord, memoryOfWord, kindAt, holdsAt, KnownWord}
+use Rattle.residual.specs.Residual.Resolved.{length-resolved}
+use Rattle.residual.specs.Distinct.{window, kept, slotAt, Resolvable, Stored}
+use Rattle.residual.specs.Distinct.Laws.{at-window, length-window, window-none}
+use Rattle.walk.specs.Walk.{leafKept, leafResults, longest, room}
+use Rattle.walk.specs.Forest.{Valid, AllValid, wordsAll}
+use Rattle.walk.specs.Forest.Laws.{known-node}
+use Rattle.walk.specs.Course.{nodeCount, nodesFrom, Node, Ready}
+use Rattle.walk.specs.Course.Laws.{results-yes, kept-yes, kept-not-kind, kept-not-held, words-short}
+use Rattle.walk.specs.Course.Laws.{leaf-length}
 use Rattle.step.specs.Prepared.{Sound, Filled, UpTo}
 
 -- ---- what lies below p is the same

@@ -15,15 +15,15 @@ use Rattle.table.specs.Branches.Capped.{capped}
 use Rattle.table.specs.Node.{termOf}
 use Rattle.table.specs.Node.Parts.{size-positive}
 use Rattle.table.specs.Node.Laws.{body-node}
-use Rattle.step.specs.declared.slots.Held.{Held}
-use Rattle.step.specs.declared.slots.Held.the-variants.{Count, Exceeded}
-use Rattle.step.specs.Lawful.{Lawful}
-use Rattle.step.specs.Residual.{Residual, words, resolvedBelow, nth, pushAll, definitionInto}
-use Rattle.step.specs.Residual.Resolved.{length-resolved, resolved-definition}
-use Rattle.step.specs.Distinct.{empty}
-use Rattle.step.specs.Walk.{onto}
-use Rattle.step.specs.Holding.{said, putOne, putAll, Gave}
-use Rattle.step.specs.Holding.Laws.{put-none, put-single, put-then, put-stop}
+use Rattle.slots.specs.declared.slots.Held.{Held}
+use Rattle.slots.specs.declared.slots.Held.the-variants.{Count, Exceeded}
+use Rattle.residual.specs.Lawful.{Lawful}
+use Rattle.residual.specs.Residual.{Residual, words, resolvedBelow, nth, pushAll, definitionInto}
+use Rattle.residual.specs.Residual.Resolved.{length-resolved, resolved-definition}
+use Rattle.residual.specs.Distinct.{empty}
+use Rattle.walk.specs.Walk.{onto}
+use Rattle.slots.specs.Holding.{said, putOne, putAll, Gave}
+use Rattle.slots.specs.Holding.Laws.{put-none, put-single, put-then, put-stop}
 use Rattle.step.specs.Successors.{slotsOf}
 use Rattle.step.specs.Started.{initial}
 

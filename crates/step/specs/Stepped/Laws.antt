@@ -10,12 +10,12 @@ use mathlib.Core.List.{List}
 use lib.ListN.{length, getD, set, take, drop, length-drop}
 use lib.Seq.{take-suc, take-suc-set, getD-drop}
 use Rattle.table.specs.Table.{Table}
-use Rattle.step.specs.declared.slots.Held.{Held}
-use Rattle.step.specs.declared.slots.Held.the-variants.{Count, Exceeded}
-use Rattle.step.specs.Distinct.{window, empty}
-use Rattle.step.specs.Walk.{results, onto}
-use Rattle.step.specs.Holding.{said, putAll, Gave}
-use Rattle.step.specs.Holding.Laws.{put-none, put-then, put-stop}
+use Rattle.slots.specs.declared.slots.Held.{Held}
+use Rattle.slots.specs.declared.slots.Held.the-variants.{Count, Exceeded}
+use Rattle.residual.specs.Distinct.{window, empty}
+use Rattle.walk.specs.Walk.{results, onto}
+use Rattle.slots.specs.Holding.{said, putAll, Gave}
+use Rattle.slots.specs.Holding.Laws.{put-none, put-then, put-stop}
 use Rattle.step.specs.Stepped.{slotNodes, gathered, Source, StepsOne, steppedOne}
 
 -- ---- load

@@ -11,18 +11,18 @@ use mathlib.Core.List.{List, [], _∷_, _++_, map, append-nil}
 use lib.ListN.{length, getD, take, drop, take-append-drop}
 use lib.Seq.{getD-take}
 use Rattle.table.specs.Table.{Table}
-use Rattle.step.specs.declared.slots.Held.{Held}
-use Rattle.step.specs.declared.slots.Held.the-variants.{Count}
+use Rattle.slots.specs.declared.slots.Held.{Held}
+use Rattle.slots.specs.declared.slots.Held.the-variants.{Count}
 use Rattle.step.specs.declared.only.Way.{Way}
 use Rattle.step.specs.declared.only.Way.the-variants.{Still, One}
-use Rattle.step.specs.Residual.{words, pushAll}
-use Rattle.step.specs.Distinct.{window, empty}
-use Rattle.step.specs.Distinct.Laws.{at-window, length-window}
-use Rattle.step.specs.Walk.{room, onto}
-use Rattle.step.specs.Holding.{putOne, putAll, Gave}
-use Rattle.step.specs.Holding.Laws.{put-none, put-single}
-use Rattle.step.specs.Forest.{Forest, afterKept, wordsAll}
-use Rattle.step.specs.Course.{nodeCount, nodesFrom, Ready, Place, walked}
+use Rattle.residual.specs.Residual.{words, pushAll}
+use Rattle.residual.specs.Distinct.{window, empty}
+use Rattle.residual.specs.Distinct.Laws.{at-window, length-window}
+use Rattle.walk.specs.Walk.{room, onto}
+use Rattle.slots.specs.Holding.{putOne, putAll, Gave}
+use Rattle.slots.specs.Holding.Laws.{put-none, put-single}
+use Rattle.walk.specs.Forest.{Forest, afterKept, wordsAll}
+use Rattle.walk.specs.Course.{nodeCount, nodesFrom, Ready, Place, walked}
 use Rattle.step.specs.Only.{wayOf, rebuilt, Rooted, WayIn, Rebuilds}
 use Rattle.step.specs.Only.Laws.{OneResult, became}
 use Rattle.step.specs.Prepared.{Sound}

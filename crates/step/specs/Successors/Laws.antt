@@ -10,19 +10,19 @@ use mathlib.Core.Path.{_≡_, refl, ap, sym, _∙_}
 use mathlib.Core.List.{List, [], _∷_, map, append-nil, map-append}
 use lib.ListN.{length, replicate, length-replicate}
 use Rattle.table.specs.Table.{Table}
-use Rattle.step.specs.declared.slots.Held.the-variants.{Count, Exceeded}
-use Rattle.step.specs.Residual.{Residual, words, after, pushAll}
-use Rattle.step.specs.Residual.Into.{length-pushAll}
-use Rattle.step.specs.Distinct.{empty}
-use Rattle.step.specs.Walk.{results, joins, onto}
-use Rattle.step.specs.Holding.{said, putAll}
-use Rattle.step.specs.Walk.Results.{onto-append}
-use Rattle.step.specs.Forest.{Valid, afterKept}
-use Rattle.step.specs.Forest.Laws.{results-moved}
+use Rattle.slots.specs.declared.slots.Held.the-variants.{Count, Exceeded}
+use Rattle.residual.specs.Residual.{Residual, words, after, pushAll}
+use Rattle.residual.specs.Residual.Into.{length-pushAll}
+use Rattle.residual.specs.Distinct.{empty}
+use Rattle.walk.specs.Walk.{results, joins, onto}
+use Rattle.slots.specs.Holding.{said, putAll}
+use Rattle.walk.specs.Walk.Results.{onto-append}
+use Rattle.walk.specs.Forest.{Valid, afterKept}
+use Rattle.walk.specs.Forest.Laws.{results-moved}
 use Rattle.step.specs.Stepped.{gathered, SoundSlot, Source}
-use Rattle.step.specs.Canon.{canonFrom, joined, areaOf, Slots}
-use Rattle.step.specs.Canon.Laws.{put-canon, put-exceeded-canon}
-use Rattle.step.specs.Canon.Sets.{canon-members}
+use Rattle.slots.specs.Canon.{canonFrom, joined, areaOf, Slots}
+use Rattle.slots.specs.Canon.Laws.{put-canon, put-exceeded-canon}
+use Rattle.slots.specs.Canon.Sets.{canon-members}
 use Rattle.step.specs.Successors.Members.{Both, Short, short-of, same-after, append-both, sub-map}
 use Rattle.step.specs.Successors.{Holds, allAfter, allKept, slotsOf, canon}
 

@@ -17,16 +17,16 @@ use lib.Seq.{set-at, take-at, append-snoc, getD-append-seam}
 use lib.Dec.{eqb}
 use Rattle.table.specs.Table.{Table}
 use Rattle.table.specs.Node.{termOf}
-use Rattle.step.specs.Words.{inSet, nodeWord, remember, termOfWord, memoryOfWord, kindAt, holdsAt}
-use Rattle.step.specs.Residual.{Residual, leaf, pair, words, pairs, resolved, leafAfter, after, nth, pushed}
-use Rattle.step.specs.Residual.{pushAll, resolvedInto}
-use Rattle.step.specs.Distinct.{sameWords, heldIn, kept, empty, slotAt, Indices}
-use Rattle.step.specs.Distinct.Laws.{same-true, kept-held, kept-new, kept-below}
-use Rattle.step.specs.Walk.{leafKept, leafResults, joins, before, longest, room}
-use Rattle.step.specs.Forest.{Valid, afterKept}
-use Rattle.step.specs.Forest.Laws.{words-pairs, term-of-node, memory-of-node}
-use Rattle.step.specs.Course.Laws.{results-yes, kept-yes, kept-not-kind, kept-not-held, words-short}
-use Rattle.step.specs.Canon.Sets.{Mem}
+use Rattle.residual.specs.Words.{inSet, nodeWord, remember, termOfWord, memoryOfWord, kindAt, holdsAt}
+use Rattle.residual.specs.Residual.{Residual, leaf, pair, words, pairs, resolved, leafAfter, after, nth, pushed}
+use Rattle.residual.specs.Residual.{pushAll, resolvedInto}
+use Rattle.residual.specs.Distinct.{sameWords, heldIn, kept, empty, slotAt, Indices}
+use Rattle.residual.specs.Distinct.Laws.{same-true, kept-held, kept-new, kept-below}
+use Rattle.walk.specs.Walk.{leafKept, leafResults, joins, before, longest, room}
+use Rattle.walk.specs.Forest.{Valid, afterKept}
+use Rattle.walk.specs.Forest.Laws.{words-pairs, term-of-node, memory-of-node}
+use Rattle.walk.specs.Course.Laws.{results-yes, kept-yes, kept-not-kind, kept-not-held, words-short}
+use Rattle.slots.specs.Canon.Sets.{Mem}
 
 -- ---- a slot's words are known from the slot
 

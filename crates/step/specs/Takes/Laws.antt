@@ -18,13 +18,13 @@ use Rattle.table.specs.Table.{Table}
 use Rattle.table.specs.Branches.{branches}
 use Rattle.table.specs.Branches.Capped.{capped}
 use Rattle.table.specs.Node.{termOf, kindOf}
-use Rattle.step.specs.declared.walk.Tree.{Tree}
-use Rattle.step.specs.Words.{nodeWord, termOfWord, kindAt, holdsAt, inSet, remember, KnownWord}
-use Rattle.step.specs.Residual.{Residual, leaf, pair, words, pairs, leafAfter, after}
-use Rattle.step.specs.Residual.Resolved.{length-pairs, length-resolved}
-use Rattle.step.specs.Forest.{Valid}
-use Rattle.step.specs.Forest.Laws.{term-of-node, kind-of-node, holds-of-node, known-node}
-use Rattle.step.specs.Course.Laws.{words-positive}
+use Rattle.walk.specs.declared.nodes.Tree.{Tree}
+use Rattle.residual.specs.Words.{nodeWord, termOfWord, kindAt, holdsAt, inSet, remember, KnownWord}
+use Rattle.residual.specs.Residual.{Residual, leaf, pair, words, pairs, leafAfter, after}
+use Rattle.residual.specs.Residual.Resolved.{length-pairs, length-resolved}
+use Rattle.walk.specs.Forest.{Valid}
+use Rattle.walk.specs.Forest.Laws.{term-of-node, kind-of-node, holds-of-node, known-node}
+use Rattle.walk.specs.Course.Laws.{words-positive}
 use Rattle.step.specs.Takes.{TreeAt, Takes}
 
 -- ---- how many residuals stand after an event

@@ -15,8 +15,8 @@ use Rattle.step.proofs.only.only_at.Kinds as only-at-kinds
 use Rattle.step.proofs.only.+only_at.Lts-only_at as only-at-lts
 use Rattle.step.proofs.only.leaf_way.Reads as leaf-way-reads
 use Rattle.step.proofs.only.pair_way.Reads as pair-way-reads
-use Rattle.step.proofs.words.holds_at.Reads as holds-at-reads
-use Rattle.step.proofs.words.kind_at.Reads as kind-at-reads
+use Rattle.residual.proofs.holds_at.Reads as holds-at-reads
+use Rattle.residual.proofs.kind_at.Reads as kind-at-reads
 use Rattle.step.proofs.only.+only_at.{statement}
 use Rattle.step.proofs.only.+only_at.Tie.{close}
 

@@ -4,7 +4,7 @@ use native.Mathlib.Omega.{arith}
 use mathlib.Core.Path.{_∙_}
 use Rattle.table.specs.Index.{tableIn}
 use Rattle.index.specs.Facts.{terms-few}
-use Rattle.step.specs.Lawful.{lawful}
+use Rattle.residual.specs.Lawful.{lawful}
 use Rattle.step.specs.Only.Rebuilding.{Landing, follower-known, landing-first, landing-call, landing-body}
 use Rattle.step.specs.Only.Rebuilding.{landing-known, landing-next, landing-node, landing-leaf}
 use borrow.Author.Needs.{needs}

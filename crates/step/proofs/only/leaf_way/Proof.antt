@@ -4,8 +4,8 @@ use native.Mathlib.Omega.{arith}
 use mathlib.Core.Path.{sym, _∙_}
 use mathlib.Core.Logic.{inl}
 use Rattle.index.specs.Facts.{terms-few}
-use Rattle.step.specs.Words.{kindAt}
-use Rattle.step.specs.Lawful.{follower-in}
+use Rattle.residual.specs.Words.{kindAt}
+use Rattle.residual.specs.Lawful.{follower-in}
 use Rattle.step.specs.Only.Laws.{way-not-held}
 use Rattle.step.specs.Only.Turns.{way-none, way-one, way-many}
 use borrow.Author.Needs.{needs}

@@ -4,7 +4,7 @@ use native.Mathlib.Omega.{arith}
 use mathlib.Core.Path.{refl}
 use Prim.Native.Nat.{_-_, _≤_}
 use Rattle.table.specs.Index.{tableIn}
-use Rattle.step.specs.Residual.{pushed}
+use Rattle.residual.specs.Residual.{pushed}
 use Rattle.step.specs.Only.Rebuilding.{Rebuilding, rebuild-first, rebuild-room, rebuild-keep, rebuild-follows}
 use Rattle.step.specs.Only.Rebuilding.{rebuild-follow, rebuild-last}
 use borrow.Author.Needs.{needs}

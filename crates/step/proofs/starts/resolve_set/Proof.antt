@@ -9,17 +9,17 @@ use borrow.Author.Needs.{needs}
 use Rattle.table.specs.Index.{tableIn}
 use Rattle.index.proofs.body.Reads as body-reads
 use Rattle.index.proofs.branches.Reads as branches-reads
-use Rattle.step.specs.Lawful.{lawful}
-use Rattle.step.specs.Residual.{resolvedBelow}
-use Rattle.step.specs.Holding.{putAll}
+use Rattle.residual.specs.Lawful.{lawful}
+use Rattle.residual.specs.Residual.{resolvedBelow}
+use Rattle.slots.specs.Holding.{putAll}
 use Rattle.step.specs.Started.{initial}
 use Rattle.step.specs.Started.Laws.{body-in, all-branches, start-next, start-exceeded, start-end}
 use Rattle.step.proofs.starts.resolve_set.Statement.{statement}
 use Rattle.step.proofs.starts.resolve_set.Tie as tie
 use Rattle.step.proofs.starts.resolve_set.Reads as reads
 use Rattle.step.proofs.starts.resolve_set.Lts as lts
-use Rattle.step.proofs.resolve.resolve_definition.Reads as resolve-definition-reads
-use Rattle.step.proofs.slots.put.Reads as put-reads
+use Rattle.residual.proofs.resolve_definition.Reads as resolve-definition-reads
+use Rattle.slots.proofs.put.Reads as put-reads
 
 abbrev Inv-loop : tie.InvT-loop
 Inv-loop list work d area₀ n c₀ i₀ area c i =

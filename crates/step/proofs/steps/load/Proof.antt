@@ -4,8 +4,8 @@ use native.Mathlib.Omega.{arith}
 use mathlib.Core.Path.{_≡_, refl, sym}
 use lib.ListN.{length, take, length-set}
 use borrow.Author.Needs.{needs}
-use Rattle.step.specs.Distinct.{window}
-use Rattle.step.specs.Distinct.Laws.{window-none}
+use Rattle.residual.specs.Distinct.{window}
+use Rattle.residual.specs.Distinct.Laws.{window-none}
 use Rattle.step.specs.Stepped.Laws.{load-next}
 use Rattle.step.proofs.steps.load.Statement.{statement}
 use Rattle.step.proofs.steps.load.Tie as tie

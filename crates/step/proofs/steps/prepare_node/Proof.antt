@@ -5,17 +5,17 @@ use mathlib.Core.Logic.{inl}
 use borrow.Author.Needs.{needs}
 use Rattle.index.specs.Facts.{terms-few}
 use Rattle.step.specs.Prepared.Laws.{node-known, fill-not-kind, fill-not-held, fill-resolves, fill-yes}
-use Rattle.step.specs.Lawful.{lawful}
+use Rattle.residual.specs.Lawful.{lawful}
 use Rattle.step.proofs.steps.prepare_node.Statement.{statement}
 use Rattle.step.proofs.steps.prepare_node.Tie as tie
 use Rattle.step.proofs.steps.prepare_node.Reads as reads
 use Rattle.step.proofs.steps.prepare_node.Lts as lts
-use Rattle.step.proofs.leaves.distinct.Reads as distinct-reads
-use Rattle.step.proofs.words.holds_at.Reads as holds-at-reads
-use Rattle.step.proofs.words.kind_at.Reads as kind-at-reads
-use Rattle.step.proofs.words.memory_of.Reads as memory-of-reads
-use Rattle.step.proofs.words.remember.Reads as remember-reads
-use Rattle.step.proofs.words.term_of.Reads as term-of-reads
+use Rattle.residual.proofs.distinct.Reads as distinct-reads
+use Rattle.residual.proofs.holds_at.Reads as holds-at-reads
+use Rattle.residual.proofs.kind_at.Reads as kind-at-reads
+use Rattle.residual.proofs.memory_of.Reads as memory-of-reads
+use Rattle.residual.proofs.remember.Reads as remember-reads
+use Rattle.residual.proofs.term_of.Reads as term-of-reads
 
 mul-w : tie.Need-mul-w
 mul-w c = search needs

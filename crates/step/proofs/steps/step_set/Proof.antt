@@ -4,7 +4,7 @@ use mathlib.Core.Path.{_≡_, refl, sym, _∙_}
 use Prim.Native.Nat.{_+_, _-_, _*_, _≤_}
 use lib.ListN.{length}
 use Rattle.table.specs.Index.{tableIn}
-use Rattle.step.specs.Holding.{putAll}
+use Rattle.slots.specs.Holding.{putAll}
 use Rattle.step.specs.Stepped.{gathered}
 use Rattle.step.specs.Stepped.Laws.{step-asks, step-next, step-exceeded, step-end}
 use borrow.Author.Needs.{needs}

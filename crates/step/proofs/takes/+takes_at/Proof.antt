@@ -9,16 +9,16 @@ use borrow.Fn.PlainCycle.{Measures, is, falls, and}
 use denote.Ref.{now}
 use Rattle.index.specs.Facts.{terms-few}
 use Rattle.index.proofs.branches.Reads as branches-reads
-use Rattle.step.specs.Words.{kindAt}
-use Rattle.step.specs.Lawful.{follower-in}
+use Rattle.residual.specs.Words.{kindAt}
+use Rattle.residual.specs.Lawful.{follower-in}
 use Rattle.step.specs.Takes.Laws.{tree-in, tree-known, tree-left, tree-right, takes-not-kind, takes-not-held}
 use Rattle.step.specs.Takes.Laws.{takes-leaf, takes-both-yes, takes-both-no, takes-either-yes, takes-either-no}
 use Rattle.step.proofs.takes.takes_at.Reads as takes-at
 use Rattle.step.proofs.takes.takes_at.Kinds as takes-at-kinds
 use Rattle.step.proofs.takes.+takes_at.Lts-takes_at as takes-at-lts
-use Rattle.step.proofs.words.holds_at.Reads as holds-at-reads
-use Rattle.step.proofs.words.kind_at.Reads as kind-at-reads
-use Rattle.step.proofs.words.term_of.Reads as term-of-reads
+use Rattle.residual.proofs.holds_at.Reads as holds-at-reads
+use Rattle.residual.proofs.kind_at.Reads as kind-at-reads
+use Rattle.residual.proofs.term_of.Reads as term-of-reads
 use Rattle.step.proofs.takes.+takes_at.{statement}
 use Rattle.step.proofs.takes.+takes_at.Tie.{close}
 

@@ -1,0 +1,17 @@
+// Residuals as words (01, "Residuals"): node words, the residuals that a term is resolved to, and a
+// leaf's distinct results. The definitions are in `specs/`; `specs/Lib.antt` lists them in reading
+// order.
+mod leaves;
+mod resolve;
+mod words;
+
+pub use leaves::distinct;
+pub use resolve::push;
+pub use resolve::resolve_definition;
+pub use resolve::resolve_term;
+pub use words::holds_at;
+pub use words::kind_at;
+pub use words::memory_of;
+pub use words::node;
+pub use words::remember;
+pub use words::term_of;

@@ -1,0 +1,56 @@
+-- Loops that store one word a turn: words that move up by sixteen, from the last on, and a slot over an area.
+--     gap-none, gap-step, gap-length     of `gapped`
+--     stored-none, stored-step           of `stored`
+-- Assumes nothing.
+use Prim.Native.Nat.{ℕ, suc, _+_, _≤_, _<_}
+use native.Mathlib.Omega.{arith}
+use mathlib.Core.Path.{_≡_, _∙_}
+use mathlib.Core.List.{List, [], _∷_, _++_}
+use lib.ListN.{length, getD, set, take, drop, length-append, length-take, length-drop, List·getD-append}
+use lib.ListN.{take-append-drop}
+use lib.Seq.{slice, slice-empty, slice-cons, take-suc, append-snoc, set-at, getD-take, length-take-le, paste-zero}
+use lib.Seq.{paste-suc}
+use Rattle.slots.specs.Slots.{gapped, stored}
+
+module _ (l : List ℕ) (n : ℕ) (room : n + 16 ≤ length l) where
+  pub gap-none : l ≡ gapped l n n
+  unfolding gapped
+  gap-none = simp (slice-empty, take-append-drop)
+
+  pub gap-length : (p : ℕ) → p ≤ n → length (gapped l p n) ≡ length l
+  unfolding gapped
+  gap-length p h = simp (length-append, length-take, length-drop) (omega arith)
+
+  module _ (m : ℕ) (h : m < n) where
+    read : getD (gapped l (suc m) n) m 0 ≡ getD l m 0
+    unfolding gapped
+    read =
+        List·getD-append (take (suc m + 16) l) _ 0 m (simp length-take (omega arith))
+        ∙ getD-take (suc m + 16) l m 0 (omega arith)
+
+    split : gapped l (suc m) n ≡ take (m + 16) l ++ getD l (m + 16) 0 ∷ (slice (suc m) n l ++ drop (n + 16) l)
+    unfolding gapped
+    split =
+        let e : suc m + 16 ≡ suc (m + 16) = omega arith in
+        rw (e, take-suc l (m + 16) 0 (omega arith))
+        (append-snoc (take (m + 16) l) (getD l (m + 16) 0) (slice (suc m) n l ++ drop (n + 16) l))
+
+    pub gap-step : (k : ℕ) → k ≡ suc m → set (gapped l k n) (m + 16) (getD (gapped l k n) m 0) ≡ gapped l m n
+    unfolding gapped
+    gap-step k e =
+        rw (e, read)
+        (rw split
+        (rw (
+          set-at (take (m + 16) l) (getD l (m + 16) 0) (slice (suc m) n l ++ drop (n + 16) l) (getD l m 0)
+              (m + 16) (length-take-le (m + 16) l (omega arith)),
+          slice-cons m n l 0 h (omega arith),
+        )))
+
+pub stored-none : (l : List ℕ) (p : ℕ) (s : List ℕ) (n : ℕ) → n ≡ 0 → l ≡ stored l p s n
+unfolding stored
+stored-none l p s n e = rw e (paste-zero l p s)
+
+pub stored-step : (l : List ℕ) (p : ℕ) (s : List ℕ) (j k : ℕ) → k ≡ suc j → p + j < length l → j < length s
+    → set (stored l p s j) (p + j) (getD s j 0) ≡ stored l p s k
+unfolding stored
+stored-step l p s j k e h i = rw e (paste-suc l p s j 0 h i)

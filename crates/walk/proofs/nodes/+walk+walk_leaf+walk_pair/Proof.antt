@@ -1,0 +1,1895 @@
+-- `step::walk::walk`, `step::walk::walk_leaf` and `step::walk::walk_pair` meet their contracts: one law of
+-- `Course/Laws.antt` per way out. A leaf's loop: what is left of its results gives what was left at the start. The
+-- measure is the nodes left, and for the same node a walk stands above a pair and a leaf. Assumes nothing.
+use Prim.Native.Nat.{_+_, _-_, _*_, _≤_, ℕ, _<_}
+use native.Mathlib.Omega.{arith}
+use mathlib.Core.Path.{_≡_, refl, sym, _∙_}
+use mathlib.Core.Logic.{inr}
+use lib.ListN.{length}
+use borrow.Author.Needs.{needs}
+use borrow.Fn.Kinds.{In}
+use borrow.Fn.PlainCycle.{Measures, is, falls, and}
+use Rattle.table.specs.Index.{tableIn}
+use Rattle.index.specs.Facts.{terms-few}
+use Rattle.walk.specs.Course.{leafRest}
+use Rattle.walk.specs.Course.Laws.{walk-end, push-room, bits-fit, next-place, next-pair, next-leaf, known}
+use Rattle.walk.specs.Course.Laws.{head-forest, stands-left, stands-right, walk-kept-pair, walk-kept-leaf}
+use Rattle.walk.specs.Course.Laws.{odd-place, odd-gave, pair-both, pair-left-stuck, pair-right-stuck, pair-left}
+use Rattle.walk.specs.Course.Laws.{pair-right, pair-no-side, pair-then, pair-room, pair-exceeded, leaf-few}
+use Rattle.walk.specs.Course.Laws.{leaf-start, leaf-end, go-resolves, go-place, go-next, go-exceeded}
+use Rattle.walk.proofs.nodes.walk.Reads as walk
+use Rattle.walk.proofs.nodes.walk.Kinds as walk-kinds
+use Rattle.walk.proofs.nodes.+walk+walk_leaf+walk_pair.Lts-walk as walk-lts
+use Rattle.walk.proofs.nodes.walk_leaf.Reads as walk-leaf
+use Rattle.walk.proofs.nodes.walk_leaf.Kinds as walk-leaf-kinds
+use Rattle.walk.proofs.nodes.+walk+walk_leaf+walk_pair.Lts-walk_leaf as walk-leaf-lts
+use Rattle.walk.proofs.nodes.walk_pair.Reads as walk-pair
+use Rattle.walk.proofs.nodes.walk_pair.Kinds as walk-pair-kinds
+use Rattle.walk.proofs.nodes.+walk+walk_leaf+walk_pair.Lts-walk_pair as walk-pair-lts
+use Rattle.residual.proofs.push.Reads as push-reads
+use Rattle.residual.proofs.resolve_term.Reads as resolve-term-reads
+use Rattle.walk.proofs.nodes.can_at.Reads as can-at-reads
+use Rattle.residual.proofs.holds_at.Reads as holds-at-reads
+use Rattle.residual.proofs.kind_at.Reads as kind-at-reads
+use Rattle.residual.proofs.memory_of.Reads as memory-of-reads
+use Rattle.slots.proofs.put.Reads as put-reads
+use Rattle.residual.proofs.remember.Reads as remember-reads
+use Rattle.residual.proofs.term_of.Reads as term-of-reads
+use Rattle.walk.proofs.nodes.+walk+walk_leaf+walk_pair.{statement}
+use Rattle.walk.proofs.nodes.+walk+walk_leaf+walk_pair.Tie.{close}
+
+abbrev μ-walk : Measures 4 walk-kinds.ps ℕ
+μ-walk κs a = (16 - a .1 .1 .1 .1 .1 .0) * 2 + 1
+
+abbrev μ-walk-leaf : Measures 4 walk-leaf-kinds.ps ℕ
+μ-walk-leaf κs a = (16 - a .1 .1 .1 .1 .1 .0) * 2
+
+abbrev μ-walk-pair : Measures 4 walk-pair-kinds.ps ℕ
+μ-walk-pair κs a = (16 - a .1 .1 .1 .1 .1 .0) * 2
+
+abbrev walk-at : ℕ → In 4 walk-kinds.ps
+walk-at t = and 4 walk-kinds.ps (is 4 walk-kinds.ps μ-walk t) walk.Pre
+
+abbrev walk-below : ℕ → In 4 walk-kinds.ps
+walk-below t = and 4 walk-kinds.ps (falls 4 walk-kinds.ps _<_ μ-walk t) walk.Pre
+
+abbrev walk-leaf-at : ℕ → In 4 walk-leaf-kinds.ps
+walk-leaf-at t = and 4 walk-leaf-kinds.ps (is 4 walk-leaf-kinds.ps μ-walk-leaf t) walk-leaf.Pre
+
+abbrev walk-leaf-below : ℕ → In 4 walk-leaf-kinds.ps
+walk-leaf-below t =
+    and 4 walk-leaf-kinds.ps (falls 4 walk-leaf-kinds.ps _<_ μ-walk-leaf t) walk-leaf.Pre
+
+abbrev walk-pair-at : ℕ → In 4 walk-pair-kinds.ps
+walk-pair-at t = and 4 walk-pair-kinds.ps (is 4 walk-pair-kinds.ps μ-walk-pair t) walk-pair.Pre
+
+abbrev walk-pair-below : ℕ → In 4 walk-pair-kinds.ps
+walk-pair-below t =
+    and 4 walk-pair-kinds.ps (falls 4 walk-pair-kinds.ps _<_ μ-walk-pair t) walk-pair.Pre
+
+walk-shared-slice-read-n : (t : ℕ) → walk-lts.Need-shared-slice-read-n (
+  put-reads.Asked,
+  put-reads.Learnt,
+  kind-at-reads.Asked,
+  kind-at-reads.Learnt,
+  push-reads.Asked,
+  push-reads.Learnt,
+  walk-below t,
+  walk.Post,
+  walk-pair-below t,
+  walk-pair.Post,
+  walk-leaf-below t,
+  walk-leaf.Post,
+) (walk-at t) walk.Post
+walk-shared-slice-read-n t c =
+    let at-start = c .before .before .before .before .before in
+    omega (arith, at-start .pre .1 .1 .0 .size, at-start .pre .1 .1 .0 .few)
+
+walk-put-requires : (t : ℕ) → walk-lts.Need-put-requires (
+  put-reads.Asked,
+  put-reads.Learnt,
+  kind-at-reads.Asked,
+  kind-at-reads.Learnt,
+  push-reads.Asked,
+  push-reads.Learnt,
+  walk-below t,
+  walk.Post,
+  walk-pair-below t,
+  walk-pair.Post,
+  walk-leaf-below t,
+  walk-leaf.Post,
+) (walk-at t) walk.Post
+walk-put-requires t c κs = c .before .before .before .before .before .before .before .pre .1 .1 .1 .held
+
+walk-same-length : (t : ℕ) → walk-lts.Need-same-length (
+  put-reads.Asked,
+  put-reads.Learnt,
+  kind-at-reads.Asked,
+  kind-at-reads.Learnt,
+  push-reads.Asked,
+  push-reads.Learnt,
+  walk-below t,
+  walk.Post,
+  walk-pair-below t,
+  walk-pair.Post,
+  walk-leaf-below t,
+  walk-leaf.Post,
+) (walk-at t) walk.Post
+walk-same-length t c = search needs
+
+walk-returns : (t : ℕ) → walk-lts.Need-returns (
+  put-reads.Asked,
+  put-reads.Learnt,
+  kind-at-reads.Asked,
+  kind-at-reads.Learnt,
+  push-reads.Asked,
+  push-reads.Learnt,
+  walk-below t,
+  walk.Post,
+  walk-pair-below t,
+  walk-pair.Post,
+  walk-leaf-below t,
+  walk-leaf.Post,
+) (walk-at t) walk.Post
+walk-returns t c =
+    let at-start = c .before .before .before .before .before .before .before .before .before .before in
+    walk-end (at-start .pre .1 .1 .0) _ _ _ _ _ (c .before .before .before .before .if1 .taken) _ _
+    (c .before .before .put .ensures)
+
+walk-mul-w : (t : ℕ) → walk-lts.Need-mul-w (
+  put-reads.Asked,
+  put-reads.Learnt,
+  kind-at-reads.Asked,
+  kind-at-reads.Learnt,
+  push-reads.Asked,
+  push-reads.Learnt,
+  walk-below t,
+  walk.Post,
+  walk-pair-below t,
+  walk-pair.Post,
+  walk-leaf-below t,
+  walk-leaf.Post,
+) (walk-at t) walk.Post
+walk-mul-w t c =
+    let at-start = c .before .before .before .before .before .before in
+    omega (arith, at-start .pre .1 .1 .0 .size, at-start .pre .1 .1 .0 .few, c .if1 .left)
+
+walk-shared-slice-read-w : (t : ℕ) → walk-lts.Need-shared-slice-read-w (
+  put-reads.Asked,
+  put-reads.Learnt,
+  kind-at-reads.Asked,
+  kind-at-reads.Learnt,
+  push-reads.Asked,
+  push-reads.Learnt,
+  walk-below t,
+  walk.Post,
+  walk-pair-below t,
+  walk-pair.Post,
+  walk-leaf-below t,
+  walk-leaf.Post,
+) (walk-at t) walk.Post
+walk-shared-slice-read-w t c =
+    let at-start = c .before .before .before .before .before .before .before in
+    omega (arith, at-start .pre .1 .1 .0 .size, at-start .pre .1 .1 .0 .few, c .before .if1 .left)
+
+walk-kind-at-requires : (t : ℕ) → walk-lts.Need-kind-at-requires (
+  put-reads.Asked,
+  put-reads.Learnt,
+  kind-at-reads.Asked,
+  kind-at-reads.Learnt,
+  push-reads.Asked,
+  push-reads.Learnt,
+  walk-below t,
+  walk.Post,
+  walk-pair-below t,
+  walk-pair.Post,
+  walk-leaf-below t,
+  walk-leaf.Post,
+) (walk-at t) walk.Post
+walk-kind-at-requires t c κs =
+    let at-start = c .before .before .before .before .before .before .before in (
+      at-start .pre .1 .0,
+      known (at-start .pre .1 .1 .0) _ _ _ _ _ (at-start .pre .1 .1 .1)
+          (c .before .if1 .left) .within,
+    )
+
+walk-push-requires : (t : ℕ) → walk-lts.Need-push-requires (
+  put-reads.Asked,
+  put-reads.Learnt,
+  kind-at-reads.Asked,
+  kind-at-reads.Learnt,
+  push-reads.Asked,
+  push-reads.Learnt,
+  walk-below t,
+  walk.Post,
+  walk-pair-below t,
+  walk-pair.Post,
+  walk-leaf-below t,
+  walk-leaf.Post,
+) (walk-at t) walk.Post
+walk-push-requires t c κs =
+    let at-start = c .before .before .before .before .before .before .before .before .before in
+    push-room (at-start .pre .1 .1 .0) _ _ _ _ _ (at-start .pre .1 .1 .1) (c .before .before .before .if1 .left)
+
+walk-add-walk : (t : ℕ) → walk-lts.Need-add-walk (
+  put-reads.Asked,
+  put-reads.Learnt,
+  kind-at-reads.Asked,
+  kind-at-reads.Learnt,
+  push-reads.Asked,
+  push-reads.Learnt,
+  walk-below t,
+  walk.Post,
+  walk-pair-below t,
+  walk-pair.Post,
+  walk-leaf-below t,
+  walk-leaf.Post,
+) (walk-at t) walk.Post
+walk-add-walk t c =
+    let at-start = c .before .before .before .before .before .before .before .before .before .before .before in
+    omega (arith, at-start .pre .1 .1 .0 .few, c .before .before .before .before .before .if1 .left)
+
+walk-mul-walk : (t : ℕ) → walk-lts.Need-mul-walk (
+  put-reads.Asked,
+  put-reads.Learnt,
+  kind-at-reads.Asked,
+  kind-at-reads.Learnt,
+  push-reads.Asked,
+  push-reads.Learnt,
+  walk-below t,
+  walk.Post,
+  walk-pair-below t,
+  walk-pair.Post,
+  walk-leaf-below t,
+  walk-leaf.Post,
+) (walk-at t) walk.Post
+walk-mul-walk t c =
+    let at-start = c .before .before .before .before .before .before .before .before .before .before .before in
+    omega (
+      arith,
+      bits-fit (at-start .pre .1 .1 .0) _ _ _ _ _ (at-start .pre .1 .1 .1)
+          (c .before .before .before .before .before .if1 .left),
+    )
+
+walk-walk-requires : (t : ℕ) → walk-lts.Need-walk-requires (
+  put-reads.Asked,
+  put-reads.Learnt,
+  kind-at-reads.Asked,
+  kind-at-reads.Learnt,
+  push-reads.Asked,
+  push-reads.Learnt,
+  walk-below t,
+  walk.Post,
+  walk-pair-below t,
+  walk-pair.Post,
+  walk-leaf-below t,
+  walk-leaf.Post,
+) (walk-at t) walk.Post
+walk-walk-requires t c κs =
+    let at-if1 = c .before .before .before .before .before .before in
+    let at-start = at-if1 .before .before .before .before .before .before in (
+      omega (arith, at-start .pre .0, at-start .pre .1 .1 .0 .few, at-if1 .if1 .left),
+      (
+        at-start .pre .1 .0,
+        (
+          at-start .pre .1 .1 .0,
+          next-place (at-start .pre .1 .1 .0) _ _ _ _ _ (at-start .pre .1 .1 .1)
+              (at-if1 .if1 .left) _ _ _ _ (omega arith) (c .before .before .push .ensures) (at-start .pre .1 .1 .1 .held)
+              (next-pair (at-start .pre .1 .1 .0) _ _ _ _ _ (at-start .pre .1 .1 .1) (at-if1 .if1 .left)
+              (sym (c .before .before .before .before .kind-at .ensures) ∙ c .before .if3 .taken)),
+        ),
+      ),
+    )
+
+walk-same-length-2 : (t : ℕ) → walk-lts.Need-same-length-2 (
+  put-reads.Asked,
+  put-reads.Learnt,
+  kind-at-reads.Asked,
+  kind-at-reads.Learnt,
+  push-reads.Asked,
+  push-reads.Learnt,
+  walk-below t,
+  walk.Post,
+  walk-pair-below t,
+  walk-pair.Post,
+  walk-leaf-below t,
+  walk-leaf.Post,
+) (walk-at t) walk.Post
+walk-same-length-2 t c = search needs
+
+walk-returns-2 : (t : ℕ) → walk-lts.Need-returns-2 (
+  put-reads.Asked,
+  put-reads.Learnt,
+  kind-at-reads.Asked,
+  kind-at-reads.Learnt,
+  push-reads.Asked,
+  push-reads.Learnt,
+  walk-below t,
+  walk.Post,
+  walk-pair-below t,
+  walk-pair.Post,
+  walk-leaf-below t,
+  walk-leaf.Post,
+) (walk-at t) walk.Post
+walk-returns-2 t c =
+    let at-if2 = c .before .before .before .before .before .before in let at-kind-at = at-if2 .before in
+    let at-if1 = at-kind-at .before .before in
+    let at-start = at-if1 .before .before .before .before .before .before in
+    walk-kept-pair (at-start .pre .1 .1 .0) _ _ _ _ _ (at-start .pre .1 .1 .1) (at-if1 .if1 .left)
+    (at-if2 .if2 .taken) (sym (at-kind-at .kind-at .ensures) ∙ c .before .before .before .before .if3 .taken) _
+    (c .before .before .before .before .before .push .ensures) _ _ (c .before .before .walk .ensures)
+
+walk-add-walk-2 : (t : ℕ) → walk-lts.Need-add-walk-2 (
+  put-reads.Asked,
+  put-reads.Learnt,
+  kind-at-reads.Asked,
+  kind-at-reads.Learnt,
+  push-reads.Asked,
+  push-reads.Learnt,
+  walk-below t,
+  walk.Post,
+  walk-pair-below t,
+  walk-pair.Post,
+  walk-leaf-below t,
+  walk-leaf.Post,
+) (walk-at t) walk.Post
+walk-add-walk-2 t c =
+    let at-start = c .before .before .before .before .before .before .before .before .before .before .before in
+    omega (arith, at-start .pre .1 .1 .0 .few, c .before .before .before .before .before .if1 .left)
+
+walk-walk-requires-2 : (t : ℕ) → walk-lts.Need-walk-requires-2 (
+  put-reads.Asked,
+  put-reads.Learnt,
+  kind-at-reads.Asked,
+  kind-at-reads.Learnt,
+  push-reads.Asked,
+  push-reads.Learnt,
+  walk-below t,
+  walk.Post,
+  walk-pair-below t,
+  walk-pair.Post,
+  walk-leaf-below t,
+  walk-leaf.Post,
+) (walk-at t) walk.Post
+walk-walk-requires-2 t c κs =
+    let at-if1 = c .before .before .before .before .before .before in
+    let at-start = at-if1 .before .before .before .before .before .before in (
+      omega (arith, at-start .pre .0, at-start .pre .1 .1 .0 .few, at-if1 .if1 .left),
+      (
+        at-start .pre .1 .0,
+        (
+          at-start .pre .1 .1 .0,
+          next-place (at-start .pre .1 .1 .0) _ _ _ _ _ (at-start .pre .1 .1 .1)
+              (at-if1 .if1 .left) _ _ _ _ (omega arith) (c .before .before .push .ensures) (at-start .pre .1 .1 .1 .held)
+              (next-leaf (at-start .pre .1 .1 .0) _ _ _ _ _ (at-start .pre .1 .1 .1) (at-if1 .if1 .left)
+              (λ e. c .before .if3 .left (c .before .before .before .before .kind-at .ensures ∙ e))),
+        ),
+      ),
+    )
+
+walk-same-length-3 : (t : ℕ) → walk-lts.Need-same-length-3 (
+  put-reads.Asked,
+  put-reads.Learnt,
+  kind-at-reads.Asked,
+  kind-at-reads.Learnt,
+  push-reads.Asked,
+  push-reads.Learnt,
+  walk-below t,
+  walk.Post,
+  walk-pair-below t,
+  walk-pair.Post,
+  walk-leaf-below t,
+  walk-leaf.Post,
+) (walk-at t) walk.Post
+walk-same-length-3 t c = search needs
+
+walk-returns-3 : (t : ℕ) → walk-lts.Need-returns-3 (
+  put-reads.Asked,
+  put-reads.Learnt,
+  kind-at-reads.Asked,
+  kind-at-reads.Learnt,
+  push-reads.Asked,
+  push-reads.Learnt,
+  walk-below t,
+  walk.Post,
+  walk-pair-below t,
+  walk-pair.Post,
+  walk-leaf-below t,
+  walk-leaf.Post,
+) (walk-at t) walk.Post
+walk-returns-3 t c =
+    let at-if2 = c .before .before .before .before .before .before in let at-kind-at = at-if2 .before in
+    let at-if1 = at-kind-at .before .before in
+    let at-start = at-if1 .before .before .before .before .before .before in
+    walk-kept-leaf (at-start .pre .1 .1 .0) _ _ _ _ _ (at-start .pre .1 .1 .1) (at-if1 .if1 .left)
+    (at-if2 .if2 .taken) (λ e. c .before .before .before .before .if3 .left (at-kind-at .kind-at .ensures ∙ e)) _
+    (c .before .before .before .before .before .push .ensures) _ _ (c .before .before .walk2 .ensures)
+
+walk-walk-pair-requires : (t : ℕ) → walk-lts.Need-walk-pair-requires (
+  put-reads.Asked,
+  put-reads.Learnt,
+  kind-at-reads.Asked,
+  kind-at-reads.Learnt,
+  push-reads.Asked,
+  push-reads.Learnt,
+  walk-below t,
+  walk.Post,
+  walk-pair-below t,
+  walk-pair.Post,
+  walk-leaf-below t,
+  walk-leaf.Post,
+) (walk-at t) walk.Post
+walk-walk-pair-requires t c κs =
+    let at-if1 = c .before .before .before .before .before in
+    let at-start = at-if1 .before .before .before .before .before .before in (
+      omega (arith, at-start .pre .0, at-start .pre .1 .1 .0 .few, at-if1 .if1 .left),
+      (
+        at-start .pre .1 .0,
+        (
+          at-start .pre .1 .1 .0,
+          (
+            odd-place _ _ _ _ _ _ _ _ (c .before .before .if2 .left) (at-start .pre .1 .1 .1),
+            at-if1 .if1 .left,
+            sym (c .before .before .before .kind-at .ensures) ∙ c .before .if4 .taken,
+          ),
+        ),
+      ),
+    )
+
+walk-same-length-4 : (t : ℕ) → walk-lts.Need-same-length-4 (
+  put-reads.Asked,
+  put-reads.Learnt,
+  kind-at-reads.Asked,
+  kind-at-reads.Learnt,
+  push-reads.Asked,
+  push-reads.Learnt,
+  walk-below t,
+  walk.Post,
+  walk-pair-below t,
+  walk-pair.Post,
+  walk-leaf-below t,
+  walk-leaf.Post,
+) (walk-at t) walk.Post
+walk-same-length-4 t c = search needs
+
+walk-returns-4 : (t : ℕ) → walk-lts.Need-returns-4 (
+  put-reads.Asked,
+  put-reads.Learnt,
+  kind-at-reads.Asked,
+  kind-at-reads.Learnt,
+  push-reads.Asked,
+  push-reads.Learnt,
+  walk-below t,
+  walk.Post,
+  walk-pair-below t,
+  walk-pair.Post,
+  walk-leaf-below t,
+  walk-leaf.Post,
+) (walk-at t) walk.Post
+walk-returns-4 t c =
+    odd-gave _ _ _ _ _ _ _ _ (c .before .before .before .before .before .if2 .left)
+    (c .before .before .walk-pair .ensures)
+
+walk-walk-leaf-requires : (t : ℕ) → walk-lts.Need-walk-leaf-requires (
+  put-reads.Asked,
+  put-reads.Learnt,
+  kind-at-reads.Asked,
+  kind-at-reads.Learnt,
+  push-reads.Asked,
+  push-reads.Learnt,
+  walk-below t,
+  walk.Post,
+  walk-pair-below t,
+  walk-pair.Post,
+  walk-leaf-below t,
+  walk-leaf.Post,
+) (walk-at t) walk.Post
+walk-walk-leaf-requires t c κs =
+    let at-if1 = c .before .before .before .before .before in
+    let at-start = at-if1 .before .before .before .before .before .before in (
+      omega (arith, at-start .pre .0, at-start .pre .1 .1 .0 .few, at-if1 .if1 .left),
+      (
+        at-start .pre .1 .0,
+        (
+          at-start .pre .1 .1 .0,
+          (
+            odd-place _ _ _ _ _ _ _ _ (c .before .before .if2 .left) (at-start .pre .1 .1 .1),
+            at-if1 .if1 .left,
+            λ e. c .before .if4 .left (c .before .before .before .kind-at .ensures ∙ e),
+          ),
+        ),
+      ),
+    )
+
+walk-same-length-5 : (t : ℕ) → walk-lts.Need-same-length-5 (
+  put-reads.Asked,
+  put-reads.Learnt,
+  kind-at-reads.Asked,
+  kind-at-reads.Learnt,
+  push-reads.Asked,
+  push-reads.Learnt,
+  walk-below t,
+  walk.Post,
+  walk-pair-below t,
+  walk-pair.Post,
+  walk-leaf-below t,
+  walk-leaf.Post,
+) (walk-at t) walk.Post
+walk-same-length-5 t c = search needs
+
+walk-returns-5 : (t : ℕ) → walk-lts.Need-returns-5 (
+  put-reads.Asked,
+  put-reads.Learnt,
+  kind-at-reads.Asked,
+  kind-at-reads.Learnt,
+  push-reads.Asked,
+  push-reads.Learnt,
+  walk-below t,
+  walk.Post,
+  walk-pair-below t,
+  walk-pair.Post,
+  walk-leaf-below t,
+  walk-leaf.Post,
+) (walk-at t) walk.Post
+walk-returns-5 t c =
+    odd-gave _ _ _ _ _ _ _ _ (c .before .before .before .before .before .if2 .left)
+    (c .before .before .walk-leaf .ensures)
+
+abbrev walk-leaf-Inv-loop : walk-leaf-lts.InvT-loop
+walk-leaf-Inv-loop list work store bound e k rest slot area₀ count w f t m c₀ j₀ area c j =
+    (j ≤ f) × (length area ≡ length area₀) × (c * 16 ≤ length area)
+    × (leafRest (tableIn list) e store k rest slot area c j ≡ leafRest (tableIn list) e store k rest slot area₀ count
+    0)
+
+abbrev walk-leaf-μ-loop : walk-leaf-lts.MeasureT-loop
+walk-leaf-μ-loop list work store bound e k rest slot area₀ count w f t m c₀ j₀ area c j = f - j
+
+walk-leaf-mul-w : (t : ℕ) → walk-leaf-lts.Need-mul-w (
+  term-of-reads.Asked,
+  term-of-reads.Learnt,
+  memory-of-reads.Asked,
+  memory-of-reads.Learnt,
+  remember-reads.Asked,
+  remember-reads.Learnt,
+  resolve-term-reads.Asked,
+  resolve-term-reads.Learnt,
+  walk-below t,
+  walk.Post,
+) (walk-leaf-at t) walk-leaf.Post walk-leaf-Inv-loop walk-leaf-μ-loop
+walk-leaf-mul-w t c =
+    let at-start = c .before .before .before .before in
+    omega (arith, at-start .pre .1 .1 .0 .size, at-start .pre .1 .1 .0 .few, at-start .pre .1 .1 .1 .1)
+
+walk-leaf-shared-slice-read-w : (t : ℕ) → walk-leaf-lts.Need-shared-slice-read-w (
+  term-of-reads.Asked,
+  term-of-reads.Learnt,
+  memory-of-reads.Asked,
+  memory-of-reads.Learnt,
+  remember-reads.Asked,
+  remember-reads.Learnt,
+  resolve-term-reads.Asked,
+  resolve-term-reads.Learnt,
+  walk-below t,
+  walk.Post,
+) (walk-leaf-at t) walk-leaf.Post walk-leaf-Inv-loop walk-leaf-μ-loop
+walk-leaf-shared-slice-read-w t c =
+    let at-start = c .before .before .before .before .before in
+    omega (arith, at-start .pre .1 .1 .0 .size, at-start .pre .1 .1 .0 .few, at-start .pre .1 .1 .1 .1)
+
+walk-leaf-mul-f : (t : ℕ) → walk-leaf-lts.Need-mul-f (
+  term-of-reads.Asked,
+  term-of-reads.Learnt,
+  memory-of-reads.Asked,
+  memory-of-reads.Learnt,
+  remember-reads.Asked,
+  remember-reads.Learnt,
+  resolve-term-reads.Asked,
+  resolve-term-reads.Learnt,
+  walk-below t,
+  walk.Post,
+) (walk-leaf-at t) walk-leaf.Post walk-leaf-Inv-loop walk-leaf-μ-loop
+walk-leaf-mul-f t c =
+    let at-start = c .before .before .before .before .before in
+    omega (arith, at-start .pre .1 .1 .0 .size, at-start .pre .1 .1 .0 .few, at-start .pre .1 .1 .1 .1)
+
+walk-leaf-mul-f-2 : (t : ℕ) → walk-leaf-lts.Need-mul-f-2 (
+  term-of-reads.Asked,
+  term-of-reads.Learnt,
+  memory-of-reads.Asked,
+  memory-of-reads.Learnt,
+  remember-reads.Asked,
+  remember-reads.Learnt,
+  resolve-term-reads.Asked,
+  resolve-term-reads.Learnt,
+  walk-below t,
+  walk.Post,
+) (walk-leaf-at t) walk-leaf.Post walk-leaf-Inv-loop walk-leaf-μ-loop
+walk-leaf-mul-f-2 t c =
+    let at-start = c .before .before .before .before .before in
+    omega (arith, at-start .pre .1 .1 .0 .size, at-start .pre .1 .1 .0 .few, at-start .pre .1 .1 .1 .1)
+
+walk-leaf-shared-slice-read-f : (t : ℕ) → walk-leaf-lts.Need-shared-slice-read-f (
+  term-of-reads.Asked,
+  term-of-reads.Learnt,
+  memory-of-reads.Asked,
+  memory-of-reads.Learnt,
+  remember-reads.Asked,
+  remember-reads.Learnt,
+  resolve-term-reads.Asked,
+  resolve-term-reads.Learnt,
+  walk-below t,
+  walk.Post,
+) (walk-leaf-at t) walk-leaf.Post walk-leaf-Inv-loop walk-leaf-μ-loop
+walk-leaf-shared-slice-read-f t c =
+    let at-start = c .before .before .before .before .before .before in
+    omega (arith, at-start .pre .1 .1 .0 .size, at-start .pre .1 .1 .0 .few, at-start .pre .1 .1 .1 .1)
+
+walk-leaf-term-of-requires : (t : ℕ) → walk-leaf-lts.Need-term-of-requires (
+  term-of-reads.Asked,
+  term-of-reads.Learnt,
+  memory-of-reads.Asked,
+  memory-of-reads.Learnt,
+  remember-reads.Asked,
+  remember-reads.Learnt,
+  resolve-term-reads.Asked,
+  resolve-term-reads.Learnt,
+  walk-below t,
+  walk.Post,
+) (walk-leaf-at t) walk-leaf.Post walk-leaf-Inv-loop walk-leaf-μ-loop
+walk-leaf-term-of-requires t c κs = search needs
+
+walk-leaf-memory-of-requires : (t : ℕ) → walk-leaf-lts.Need-memory-of-requires (
+  term-of-reads.Asked,
+  term-of-reads.Learnt,
+  memory-of-reads.Asked,
+  memory-of-reads.Learnt,
+  remember-reads.Asked,
+  remember-reads.Learnt,
+  resolve-term-reads.Asked,
+  resolve-term-reads.Learnt,
+  walk-below t,
+  walk.Post,
+) (walk-leaf-at t) walk-leaf.Post walk-leaf-Inv-loop walk-leaf-μ-loop
+walk-leaf-memory-of-requires t c κs = search needs
+
+walk-leaf-remember-requires : (t : ℕ) → walk-leaf-lts.Need-remember-requires (
+  term-of-reads.Asked,
+  term-of-reads.Learnt,
+  memory-of-reads.Asked,
+  memory-of-reads.Learnt,
+  remember-reads.Asked,
+  remember-reads.Learnt,
+  resolve-term-reads.Asked,
+  resolve-term-reads.Learnt,
+  walk-below t,
+  walk.Post,
+) (walk-leaf-at t) walk-leaf.Post walk-leaf-Inv-loop walk-leaf-μ-loop
+walk-leaf-remember-requires t c κs =
+    let at-start = c .before .before .before .before .before .before .before .before in at-start .pre .1 .1 .0 .event
+
+walk-leaf-loop-holds : (t : ℕ) → walk-leaf-lts.Need-loop-holds (
+  term-of-reads.Asked,
+  term-of-reads.Learnt,
+  memory-of-reads.Asked,
+  memory-of-reads.Learnt,
+  remember-reads.Asked,
+  remember-reads.Learnt,
+  resolve-term-reads.Asked,
+  resolve-term-reads.Learnt,
+  walk-below t,
+  walk.Post,
+) (walk-leaf-at t) walk-leaf.Post walk-leaf-Inv-loop walk-leaf-μ-loop
+walk-leaf-loop-holds t c =
+    let at-start = c .before .before .before .before .before .before .before .before .before in
+    (omega arith, refl, at-start .pre .1 .1 .1 .0 .held, refl)
+
+walk-leaf-mul-i : (t : ℕ) → walk-leaf-lts.Need-mul-i (
+  term-of-reads.Asked,
+  term-of-reads.Learnt,
+  memory-of-reads.Asked,
+  memory-of-reads.Learnt,
+  remember-reads.Asked,
+  remember-reads.Learnt,
+  resolve-term-reads.Asked,
+  resolve-term-reads.Learnt,
+  walk-below t,
+  walk.Post,
+) (walk-leaf-at t) walk-leaf.Post walk-leaf-Inv-loop walk-leaf-μ-loop
+walk-leaf-mul-i t c =
+    let at-start = c .before .before .before .before .before .before .before .before .before .before .before in
+    omega (arith, at-start .pre .1 .1 .0 .size, at-start .pre .1 .1 .0 .few, at-start .pre .1 .1 .1 .1)
+
+walk-leaf-add-i : (t : ℕ) → walk-leaf-lts.Need-add-i (
+  term-of-reads.Asked,
+  term-of-reads.Learnt,
+  memory-of-reads.Asked,
+  memory-of-reads.Learnt,
+  remember-reads.Asked,
+  remember-reads.Learnt,
+  resolve-term-reads.Asked,
+  resolve-term-reads.Learnt,
+  walk-below t,
+  walk.Post,
+) (walk-leaf-at t) walk-leaf.Post walk-leaf-Inv-loop walk-leaf-μ-loop
+walk-leaf-add-i t c =
+    let at-start = c .before .before .before .before .before .before .before .before .before .before .before in
+    omega (arith, at-start .pre .1 .1 .0 .size, at-start .pre .1 .1 .0 .few, at-start .pre .1 .1 .1 .1)
+
+walk-leaf-add-i-2 : (t : ℕ) → walk-leaf-lts.Need-add-i-2 (
+  term-of-reads.Asked,
+  term-of-reads.Learnt,
+  memory-of-reads.Asked,
+  memory-of-reads.Learnt,
+  remember-reads.Asked,
+  remember-reads.Learnt,
+  resolve-term-reads.Asked,
+  resolve-term-reads.Learnt,
+  walk-below t,
+  walk.Post,
+) (walk-leaf-at t) walk-leaf.Post walk-leaf-Inv-loop walk-leaf-μ-loop
+walk-leaf-add-i-2 t c =
+    let at-start = c .before .before .before .before .before .before .before .before .before .before .before in
+    omega (
+      arith,
+      at-start .pre .1 .1 .0 .size,
+      at-start .pre .1 .1 .0 .few,
+      at-start .pre .1 .1 .1 .1,
+      leaf-few (at-start .pre .1 .1 .0) _ _ _ _ _ (at-start .pre .1 .1 .1 .0) (at-start .pre .1 .1 .1 .1)
+          (at-start .pre .1 .1 .1 .2) _ _ (c .loop-test .taken) refl,
+    )
+
+walk-leaf-mul-i-2 : (t : ℕ) → walk-leaf-lts.Need-mul-i-2 (
+  term-of-reads.Asked,
+  term-of-reads.Learnt,
+  memory-of-reads.Asked,
+  memory-of-reads.Learnt,
+  remember-reads.Asked,
+  remember-reads.Learnt,
+  resolve-term-reads.Asked,
+  resolve-term-reads.Learnt,
+  walk-below t,
+  walk.Post,
+) (walk-leaf-at t) walk-leaf.Post walk-leaf-Inv-loop walk-leaf-μ-loop
+walk-leaf-mul-i-2 t c =
+    let at-start = c .before .before .before .before .before .before .before .before .before .before .before in
+    omega (
+      arith,
+      at-start .pre .1 .1 .0 .size,
+      at-start .pre .1 .1 .0 .few,
+      at-start .pre .1 .1 .1 .1,
+      leaf-few (at-start .pre .1 .1 .0) _ _ _ _ _ (at-start .pre .1 .1 .1 .0) (at-start .pre .1 .1 .1 .1)
+          (at-start .pre .1 .1 .1 .2) _ _ (c .loop-test .taken) refl,
+    )
+
+walk-leaf-shared-slice-read-i : (t : ℕ) → walk-leaf-lts.Need-shared-slice-read-i (
+  term-of-reads.Asked,
+  term-of-reads.Learnt,
+  memory-of-reads.Asked,
+  memory-of-reads.Learnt,
+  remember-reads.Asked,
+  remember-reads.Learnt,
+  resolve-term-reads.Asked,
+  resolve-term-reads.Learnt,
+  walk-below t,
+  walk.Post,
+) (walk-leaf-at t) walk-leaf.Post walk-leaf-Inv-loop walk-leaf-μ-loop
+walk-leaf-shared-slice-read-i t c =
+    let at-start = c .before .before .before .before .before .before .before .before .before .before .before .before
+    in omega (
+      arith,
+      at-start .pre .1 .1 .0 .size,
+      at-start .pre .1 .1 .0 .few,
+      at-start .pre .1 .1 .1 .1,
+      leaf-few (at-start .pre .1 .1 .0) _ _ _ _ _ (at-start .pre .1 .1 .1 .0) (at-start .pre .1 .1 .1 .1)
+          (at-start .pre .1 .1 .1 .2) _ _ (c .before .loop-test .taken) refl,
+    )
+
+walk-leaf-add-resolve-term : (t : ℕ) → walk-leaf-lts.Need-add-resolve-term (
+  term-of-reads.Asked,
+  term-of-reads.Learnt,
+  memory-of-reads.Asked,
+  memory-of-reads.Learnt,
+  remember-reads.Asked,
+  remember-reads.Learnt,
+  resolve-term-reads.Asked,
+  resolve-term-reads.Learnt,
+  walk-below t,
+  walk.Post,
+) (walk-leaf-at t) walk-leaf.Post walk-leaf-Inv-loop walk-leaf-μ-loop
+walk-leaf-add-resolve-term t c =
+    let at-start = c .before .before .before .before .before .before .before .before .before .before .before .before
+    in omega (
+      arith,
+      c .before .before .before .before .before .term-of .ensures,
+      known (at-start .pre .1 .1 .0) _ _ _
+          _ _ (at-start .pre .1 .1 .1 .0) (at-start .pre .1 .1 .1 .1) .within,
+      terms-few (at-start .pre .1 .0),
+    )
+
+walk-leaf-resolve-term-requires : (t : ℕ) → walk-leaf-lts.Need-resolve-term-requires (
+  term-of-reads.Asked,
+  term-of-reads.Learnt,
+  memory-of-reads.Asked,
+  memory-of-reads.Learnt,
+  remember-reads.Asked,
+  remember-reads.Learnt,
+  resolve-term-reads.Asked,
+  resolve-term-reads.Learnt,
+  walk-below t,
+  walk.Post,
+) (walk-leaf-at t) walk-leaf.Post walk-leaf-Inv-loop walk-leaf-μ-loop
+walk-leaf-resolve-term-requires t c κs =
+    let at-start = c .before .before .before .before .before .before .before .before .before .before .before .before
+    in (
+      at-start .pre .1 .0,
+      (go-resolves (at-start .pre .1 .1 .0) _ _ _ _ _ (at-start .pre .1 .1 .1 .0) (at-start .pre .1 .1 .1 .1)
+          (at-start .pre .1 .1 .1 .2) _ _ (c .before .loop-test .taken) refl _ _ _
+          (c .before .before .before .before .before .term-of .ensures)
+          (c .before .before .before .before .memory-of .ensures) (c .before .before .before .remember .ensures)),
+    )
+
+walk-leaf-add-walk : (t : ℕ) → walk-leaf-lts.Need-add-walk (
+  term-of-reads.Asked,
+  term-of-reads.Learnt,
+  memory-of-reads.Asked,
+  memory-of-reads.Learnt,
+  remember-reads.Asked,
+  remember-reads.Learnt,
+  resolve-term-reads.Asked,
+  resolve-term-reads.Learnt,
+  walk-below t,
+  walk.Post,
+) (walk-leaf-at t) walk-leaf.Post walk-leaf-Inv-loop walk-leaf-μ-loop
+walk-leaf-add-walk t c =
+    let at-start
+    = c .before .before .before .before .before .before .before .before .before .before .before .before .before in
+    omega (arith, at-start .pre .1 .1 .0 .size, at-start .pre .1 .1 .0 .few, at-start .pre .1 .1 .1 .1)
+
+walk-leaf-walk-requires : (t : ℕ) → walk-leaf-lts.Need-walk-requires (
+  term-of-reads.Asked,
+  term-of-reads.Learnt,
+  memory-of-reads.Asked,
+  memory-of-reads.Learnt,
+  remember-reads.Asked,
+  remember-reads.Learnt,
+  resolve-term-reads.Asked,
+  resolve-term-reads.Learnt,
+  walk-below t,
+  walk.Post,
+) (walk-leaf-at t) walk-leaf.Post walk-leaf-Inv-loop walk-leaf-μ-loop
+walk-leaf-walk-requires t c κs =
+    let at-memory-of = c .before .before .before .before .before .before in let at-term-of = at-memory-of .before in
+    let at-start = at-term-of .before .before .before .before .before .before .before in (
+      omega (arith, at-start .pre .0, at-start .pre .1 .1 .0 .few, at-start .pre .1 .1 .1 .1),
+      (
+        at-start .pre .1 .0,
+        (
+          at-start .pre .1 .1 .0,
+          go-place (at-start .pre .1 .1 .0) _ _ _ _ _ (at-start .pre .1 .1 .1 .0)
+              (at-start .pre .1 .1 .1 .1) (at-start .pre .1 .1 .1 .2) _ _ (c .before .before .before .loop-test .taken) refl _ _
+              _ (at-term-of .term-of .ensures) (at-memory-of .memory-of .ensures)
+              (c .before .before .before .before .before .remember .ensures) _ (c .before .resolve-term .ensures) _ _
+              (c .before .before .before .before .loop .inv .2),
+        ),
+      ),
+    )
+
+walk-leaf-enum-known-d : (t : ℕ) → walk-leaf-lts.Need-enum-known-d (
+  term-of-reads.Asked,
+  term-of-reads.Learnt,
+  memory-of-reads.Asked,
+  memory-of-reads.Learnt,
+  remember-reads.Asked,
+  remember-reads.Learnt,
+  resolve-term-reads.Asked,
+  resolve-term-reads.Learnt,
+  walk-below t,
+  walk.Post,
+) (walk-leaf-at t) walk-leaf.Post walk-leaf-Inv-loop walk-leaf-μ-loop
+walk-leaf-enum-known-d t c = search needs
+
+walk-leaf-add-j : (t : ℕ) → walk-leaf-lts.Need-add-j (
+  term-of-reads.Asked,
+  term-of-reads.Learnt,
+  memory-of-reads.Asked,
+  memory-of-reads.Learnt,
+  remember-reads.Asked,
+  remember-reads.Learnt,
+  resolve-term-reads.Asked,
+  resolve-term-reads.Learnt,
+  walk-below t,
+  walk.Post,
+) (walk-leaf-at t) walk-leaf.Post walk-leaf-Inv-loop walk-leaf-μ-loop
+walk-leaf-add-j t c =
+    let at-loop-test = c .before .before .before .before .before .before .before .before .before in
+    let at-start
+    = at-loop-test .before .before .before .before .before .before .before .before .before .before .before in omega (
+      arith,
+      at-start .pre .1 .1 .0 .size,
+      at-start .pre .1 .1 .0 .few,
+      at-start .pre .1 .1 .1 .1,
+      leaf-few (at-start .pre .1 .1 .0) _ _ _ _ _ (at-start .pre .1 .1 .1 .0) (at-start .pre .1 .1 .1 .1)
+          (at-start .pre .1 .1 .1 .2) _ _ (at-loop-test .loop-test .taken) refl,
+    )
+
+walk-leaf-loop-less : (t : ℕ) → walk-leaf-lts.Need-loop-less (
+  term-of-reads.Asked,
+  term-of-reads.Learnt,
+  memory-of-reads.Asked,
+  memory-of-reads.Learnt,
+  remember-reads.Asked,
+  remember-reads.Learnt,
+  resolve-term-reads.Asked,
+  resolve-term-reads.Learnt,
+  walk-below t,
+  walk.Post,
+) (walk-leaf-at t) walk-leaf.Post walk-leaf-Inv-loop walk-leaf-μ-loop
+walk-leaf-loop-less t c = search needs
+
+walk-leaf-loop-again : (t : ℕ) → walk-leaf-lts.Need-loop-again (
+  term-of-reads.Asked,
+  term-of-reads.Learnt,
+  memory-of-reads.Asked,
+  memory-of-reads.Learnt,
+  remember-reads.Asked,
+  remember-reads.Learnt,
+  resolve-term-reads.Asked,
+  resolve-term-reads.Learnt,
+  walk-below t,
+  walk.Post,
+) (walk-leaf-at t) walk-leaf.Post walk-leaf-Inv-loop walk-leaf-μ-loop
+walk-leaf-loop-again t c =
+    let at-walk = c .before .before .before .before .before in let at-resolve-term = at-walk .before .before in
+    let at-loop-test = at-resolve-term .before .before in let at-loop = at-loop-test .before in
+    let at-remember = at-loop .before in let at-memory-of = at-remember .before in
+    let at-term-of = at-memory-of .before in
+    let at-start = at-term-of .before .before .before .before .before .before .before in
+    let q = go-next (at-start .pre .1 .1 .0) _ _ _ _ _ (at-start .pre .1 .1 .1 .0) (at-start .pre .1 .1 .1 .1)
+    (at-start .pre .1 .1 .1 .2) _ _ (at-loop-test .loop-test .taken) refl _ _ _ (at-term-of .term-of .ensures)
+    (at-memory-of .memory-of .ensures) (at-remember .remember .ensures) _ (at-resolve-term .resolve-term .ensures) _ _
+    _ _ (at-walk .walk .ensures) _ (c .before .d .given .1) in (
+      omega (arith, at-loop-test .loop-test .taken),
+      at-walk .walk .kept .1 .1 .1 .1 .1 .1 .1 .1 .0
+          ∙ at-loop .loop .inv .1,
+      q .1,
+      q .0 ∙ at-loop .loop .inv .3,
+    )
+
+walk-leaf-enum-told : (t : ℕ) → walk-leaf-lts.Need-enum-told (
+  term-of-reads.Asked,
+  term-of-reads.Learnt,
+  memory-of-reads.Asked,
+  memory-of-reads.Learnt,
+  remember-reads.Asked,
+  remember-reads.Learnt,
+  resolve-term-reads.Asked,
+  resolve-term-reads.Learnt,
+  walk-below t,
+  walk.Post,
+) (walk-leaf-at t) walk-leaf.Post walk-leaf-Inv-loop walk-leaf-μ-loop
+walk-leaf-enum-told t c = search needs
+
+walk-leaf-same-length : (t : ℕ) → walk-leaf-lts.Need-same-length (
+  term-of-reads.Asked,
+  term-of-reads.Learnt,
+  memory-of-reads.Asked,
+  memory-of-reads.Learnt,
+  remember-reads.Asked,
+  remember-reads.Learnt,
+  resolve-term-reads.Asked,
+  resolve-term-reads.Learnt,
+  walk-below t,
+  walk.Post,
+) (walk-leaf-at t) walk-leaf.Post walk-leaf-Inv-loop walk-leaf-μ-loop
+walk-leaf-same-length t c = search needs
+
+walk-leaf-returns : (t : ℕ) → walk-leaf-lts.Need-returns (
+  term-of-reads.Asked,
+  term-of-reads.Learnt,
+  memory-of-reads.Asked,
+  memory-of-reads.Learnt,
+  remember-reads.Asked,
+  remember-reads.Learnt,
+  resolve-term-reads.Asked,
+  resolve-term-reads.Learnt,
+  walk-below t,
+  walk.Post,
+) (walk-leaf-at t) walk-leaf.Post walk-leaf-Inv-loop walk-leaf-μ-loop
+walk-leaf-returns t c =
+    let at-resolve-term = c .before .before .before .before .before .before in
+    let at-loop-test = at-resolve-term .before .before in let at-loop = at-loop-test .before in
+    let at-remember = at-loop .before in let at-memory-of = at-remember .before in
+    let at-term-of = at-memory-of .before in
+    let at-start = at-term-of .before .before .before .before .before .before .before in
+    record {
+      same = go-exceeded (at-start .pre .1 .1 .0) _ _ _ _ _ (at-start .pre .1 .1 .1 .0)
+          (at-start .pre .1 .1 .1 .1) (at-start .pre .1 .1 .1 .2) _ _ (at-loop-test .loop-test .taken) refl _ _ _
+          (at-term-of .term-of .ensures) (at-memory-of .memory-of .ensures) (at-remember .remember .ensures) _
+          (at-resolve-term .resolve-term .ensures) _ _ _ _ (c .before .before .before .before .walk .ensures)
+          (c .enum-told .given .1) ∙ at-loop .loop .inv .3
+          ∙ leaf-start (at-start .pre .1 .1 .0) _ _ _ _ _ (at-start .pre .1 .1 .1 .0) (at-start .pre .1 .1 .1 .1)
+          (at-start .pre .1 .1 .1 .2);
+      fits = omega arith;
+    }
+
+walk-leaf-same-length-2 : (t : ℕ) → walk-leaf-lts.Need-same-length-2 (
+  term-of-reads.Asked,
+  term-of-reads.Learnt,
+  memory-of-reads.Asked,
+  memory-of-reads.Learnt,
+  remember-reads.Asked,
+  remember-reads.Learnt,
+  resolve-term-reads.Asked,
+  resolve-term-reads.Learnt,
+  walk-below t,
+  walk.Post,
+) (walk-leaf-at t) walk-leaf.Post walk-leaf-Inv-loop walk-leaf-μ-loop
+walk-leaf-same-length-2 t c = search needs
+
+walk-leaf-returns-2 : (t : ℕ) → walk-leaf-lts.Need-returns-2 (
+  term-of-reads.Asked,
+  term-of-reads.Learnt,
+  memory-of-reads.Asked,
+  memory-of-reads.Learnt,
+  remember-reads.Asked,
+  remember-reads.Learnt,
+  resolve-term-reads.Asked,
+  resolve-term-reads.Learnt,
+  walk-below t,
+  walk.Post,
+) (walk-leaf-at t) walk-leaf.Post walk-leaf-Inv-loop walk-leaf-μ-loop
+walk-leaf-returns-2 t c =
+    let at-start = c .before .before .before .before .before .before .before .before .before .before .before in
+    record {
+      same = leaf-end (at-start .pre .1 .1 .0) _ _ _ _ _ (at-start .pre .1 .1 .1 .0)
+          (at-start .pre .1 .1 .1 .1) (at-start .pre .1 .1 .1 .2) _ _ _ (c .loop-test .left) ∙ c .before .loop .inv .3
+          ∙ leaf-start (at-start .pre .1 .1 .0) _ _ _ _ _ (at-start .pre .1 .1 .1 .0) (at-start .pre .1 .1 .1 .1)
+          (at-start .pre .1 .1 .1 .2);
+      fits = c .before .loop .inv .2;
+    }
+
+walk-pair-mul-w : (t : ℕ) → walk-pair-lts.Need-mul-w (
+  push-reads.Asked,
+  push-reads.Learnt,
+  can-at-reads.Asked,
+  can-at-reads.Learnt,
+  holds-at-reads.Asked,
+  holds-at-reads.Learnt,
+  walk-below t,
+  walk.Post,
+) (walk-pair-at t) walk-pair.Post
+walk-pair-mul-w t c =
+    let at-start = c .before .before .before .before in
+    omega (arith, at-start .pre .1 .1 .0 .size, at-start .pre .1 .1 .0 .few, at-start .pre .1 .1 .1 .1)
+
+walk-pair-shared-slice-read-w : (t : ℕ) → walk-pair-lts.Need-shared-slice-read-w (
+  push-reads.Asked,
+  push-reads.Learnt,
+  can-at-reads.Asked,
+  can-at-reads.Learnt,
+  holds-at-reads.Asked,
+  holds-at-reads.Learnt,
+  walk-below t,
+  walk.Post,
+) (walk-pair-at t) walk-pair.Post
+walk-pair-shared-slice-read-w t c =
+    let at-start = c .before .before .before .before .before in
+    omega (arith, at-start .pre .1 .1 .0 .size, at-start .pre .1 .1 .0 .few, at-start .pre .1 .1 .1 .1)
+
+walk-pair-push-requires : (t : ℕ) → walk-pair-lts.Need-push-requires (
+  push-reads.Asked,
+  push-reads.Learnt,
+  can-at-reads.Asked,
+  can-at-reads.Learnt,
+  holds-at-reads.Asked,
+  holds-at-reads.Learnt,
+  walk-below t,
+  walk.Post,
+) (walk-pair-at t) walk-pair.Post
+walk-pair-push-requires t c κs =
+    let at-start = c .before .before .before .before .before in
+    push-room (at-start .pre .1 .1 .0) _ _ _ _ _ (at-start .pre .1 .1 .1 .0) (at-start .pre .1 .1 .1 .1)
+
+walk-pair-add-can-at : (t : ℕ) → walk-pair-lts.Need-add-can-at (
+  push-reads.Asked,
+  push-reads.Learnt,
+  can-at-reads.Asked,
+  can-at-reads.Learnt,
+  holds-at-reads.Asked,
+  holds-at-reads.Learnt,
+  walk-below t,
+  walk.Post,
+) (walk-pair-at t) walk-pair.Post
+walk-pair-add-can-at t c =
+    let at-start = c .before .before .before .before .before .before in
+    omega (arith, at-start .pre .1 .1 .0 .size, at-start .pre .1 .1 .0 .few, at-start .pre .1 .1 .1 .1)
+
+walk-pair-can-at-requires : (t : ℕ) → walk-pair-lts.Need-can-at-requires (
+  push-reads.Asked,
+  push-reads.Learnt,
+  can-at-reads.Asked,
+  can-at-reads.Learnt,
+  holds-at-reads.Asked,
+  holds-at-reads.Learnt,
+  walk-below t,
+  walk.Post,
+) (walk-pair-at t) walk-pair.Post
+walk-pair-can-at-requires t c κs =
+    let at-start = c .before .before .before .before .before .before in (
+      at-start .pre .1 .0,
+      (
+        at-start .pre .1 .1 .0,
+        stands-left _ (at-start .args .e) _ _
+            (omega (arith, at-start .pre .1 .1 .0 .size, at-start .pre .1 .1 .0 .few))
+            (head-forest (at-start .pre .1 .1 .0) _ _ _ _ _ (at-start .pre .1 .1 .1 .0) (at-start .pre .1 .1 .1 .1))
+            (at-start .pre .1 .1 .1 .2),
+      ),
+    )
+
+walk-pair-can-at-requires-2 : (t : ℕ) → walk-pair-lts.Need-can-at-requires-2 (
+  push-reads.Asked,
+  push-reads.Learnt,
+  can-at-reads.Asked,
+  can-at-reads.Learnt,
+  holds-at-reads.Asked,
+  holds-at-reads.Learnt,
+  walk-below t,
+  walk.Post,
+) (walk-pair-at t) walk-pair.Post
+walk-pair-can-at-requires-2 t c κs =
+    let at-start = c .before .before .before .before .before .before .before in (
+      at-start .pre .1 .0,
+      (
+        at-start .pre .1 .1 .0,
+        stands-right _ (at-start .args .e) _ _
+            (omega (arith, at-start .pre .1 .1 .0 .size, at-start .pre .1 .1 .0 .few))
+            (head-forest (at-start .pre .1 .1 .0) _ _ _ _ _ (at-start .pre .1 .1 .1 .0) (at-start .pre .1 .1 .1 .1))
+            (at-start .pre .1 .1 .1 .2) _ (c .can-at .ensures) .0,
+      ),
+    )
+
+walk-pair-holds-at-requires : (t : ℕ) → walk-pair-lts.Need-holds-at-requires (
+  push-reads.Asked,
+  push-reads.Learnt,
+  can-at-reads.Asked,
+  can-at-reads.Learnt,
+  holds-at-reads.Asked,
+  holds-at-reads.Learnt,
+  walk-below t,
+  walk.Post,
+) (walk-pair-at t) walk-pair.Post
+walk-pair-holds-at-requires t c κs =
+    let at-start = c .before .before .before .before .before .before .before .before in (
+      at-start .pre .1 .0,
+      (
+        known (at-start .pre .1 .1 .0) _ _ _ _ _ (at-start .pre .1 .1 .1 .0) (at-start .pre .1 .1 .1 .1),
+        (inr (at-start .pre .1 .1 .1 .2), at-start .pre .1 .1 .0 .event),
+      ),
+    )
+
+walk-pair-add-walk : (t : ℕ) → walk-pair-lts.Need-add-walk (
+  push-reads.Asked,
+  push-reads.Learnt,
+  can-at-reads.Asked,
+  can-at-reads.Learnt,
+  holds-at-reads.Asked,
+  holds-at-reads.Learnt,
+  walk-below t,
+  walk.Post,
+) (walk-pair-at t) walk-pair.Post
+walk-pair-add-walk t c =
+    let at-start = c .before .before .before .before .before .before .before .before .before .before .before .before
+    in omega (arith, at-start .pre .1 .1 .0 .size, at-start .pre .1 .1 .0 .few, at-start .pre .1 .1 .1 .1)
+
+walk-pair-mul-walk : (t : ℕ) → walk-pair-lts.Need-mul-walk (
+  push-reads.Asked,
+  push-reads.Learnt,
+  can-at-reads.Asked,
+  can-at-reads.Learnt,
+  holds-at-reads.Asked,
+  holds-at-reads.Learnt,
+  walk-below t,
+  walk.Post,
+) (walk-pair-at t) walk-pair.Post
+walk-pair-mul-walk t c =
+    let at-start = c .before .before .before .before .before .before .before .before .before .before .before .before
+    in omega
+    (arith, bits-fit (at-start .pre .1 .1 .0) _ _ _ _ _ (at-start .pre .1 .1 .1 .0) (at-start .pre .1 .1 .1 .1))
+
+walk-pair-add-walk-2 : (t : ℕ) → walk-pair-lts.Need-add-walk-2 (
+  push-reads.Asked,
+  push-reads.Learnt,
+  can-at-reads.Asked,
+  can-at-reads.Learnt,
+  holds-at-reads.Asked,
+  holds-at-reads.Learnt,
+  walk-below t,
+  walk.Post,
+) (walk-pair-at t) walk-pair.Post
+walk-pair-add-walk-2 t c =
+    let at-start = c .before .before .before .before .before .before .before .before .before .before .before .before
+    in omega
+    (arith, bits-fit (at-start .pre .1 .1 .0) _ _ _ _ _ (at-start .pre .1 .1 .1 .0) (at-start .pre .1 .1 .1 .1))
+
+walk-pair-walk-requires : (t : ℕ) → walk-pair-lts.Need-walk-requires (
+  push-reads.Asked,
+  push-reads.Learnt,
+  can-at-reads.Asked,
+  can-at-reads.Learnt,
+  holds-at-reads.Asked,
+  holds-at-reads.Learnt,
+  walk-below t,
+  walk.Post,
+) (walk-pair-at t) walk-pair.Post
+walk-pair-walk-requires t c κs =
+    let at-push = c .before .before .before .before .before .before .before in
+    let at-start = at-push .before .before .before .before .before .before in (
+      omega (arith, at-start .pre .0, at-start .pre .1 .1 .0 .few, at-start .pre .1 .1 .1 .1),
+      (
+        at-start .pre .1 .0,
+        (
+          at-start .pre .1 .1 .0,
+          next-place (at-start .pre .1 .1 .0) _ _ _ _ _ (at-start .pre .1 .1 .1 .0)
+              (at-start .pre .1 .1 .1 .1) _ _ _ _ (omega arith) (at-push .push .ensures) (at-start .pre .1 .1 .1 .0 .held)
+              (next-pair (at-start .pre .1 .1 .0) _ _ _ _ _ (at-start .pre .1 .1 .1 .0) (at-start .pre .1 .1 .1 .1)
+              (at-start .pre .1 .1 .1 .2)),
+        ),
+      ),
+    )
+
+walk-pair-same-length : (t : ℕ) → walk-pair-lts.Need-same-length (
+  push-reads.Asked,
+  push-reads.Learnt,
+  can-at-reads.Asked,
+  can-at-reads.Learnt,
+  holds-at-reads.Asked,
+  holds-at-reads.Learnt,
+  walk-below t,
+  walk.Post,
+) (walk-pair-at t) walk-pair.Post
+walk-pair-same-length t c = search needs
+
+walk-pair-returns : (t : ℕ) → walk-pair-lts.Need-returns (
+  push-reads.Asked,
+  push-reads.Learnt,
+  can-at-reads.Asked,
+  can-at-reads.Learnt,
+  holds-at-reads.Asked,
+  holds-at-reads.Learnt,
+  walk-below t,
+  walk.Post,
+) (walk-pair-at t) walk-pair.Post
+walk-pair-returns t c =
+    let at-if1 = c .before .before .before .before .before .before in let at-holds-at = at-if1 .before in
+    let at-can-at2 = at-holds-at .before in let at-can-at = at-can-at2 .before in let at-push = at-can-at .before in
+    let at-start = at-push .before .before .before .before .before .before in
+    pair-both (at-start .pre .1 .1 .0) _ _ _ _ _ (at-start .pre .1 .1 .1 .0) (at-start .pre .1 .1 .1 .1)
+    (at-start .pre .1 .1 .1 .2) _ (at-can-at .can-at .ensures) _ (at-can-at2 .can-at2 .ensures)
+    (sym (at-holds-at .holds-at .ensures) ∙ at-if1 .if1 .taken) _ (at-push .push .ensures) _ _
+    (c .before .before .walk .ensures)
+
+walk-pair-returns-2 : (t : ℕ) → walk-pair-lts.Need-returns-2 (
+  push-reads.Asked,
+  push-reads.Learnt,
+  can-at-reads.Asked,
+  can-at-reads.Learnt,
+  holds-at-reads.Asked,
+  holds-at-reads.Learnt,
+  walk-below t,
+  walk.Post,
+) (walk-pair-at t) walk-pair.Post
+walk-pair-returns-2 t c =
+    let at-start = c .before .before .before .before .before .before .before .before .before .before .before .before
+    in pair-right-stuck (at-start .pre .1 .1 .0) _ _ _ _ _ (at-start .pre .1 .1 .1 .0) (at-start .pre .1 .1 .1 .1)
+    (at-start .pre .1 .1 .1 .2) _ (c .before .before .before .before .before .can-at .ensures) _
+    (c .before .before .before .before .can-at2 .ensures) (sym (c .before .before .before .holds-at .ensures)
+    ∙ c .before .before .if1 .taken) (c .if3 .left)
+
+walk-pair-returns-3 : (t : ℕ) → walk-pair-lts.Need-returns-3 (
+  push-reads.Asked,
+  push-reads.Learnt,
+  can-at-reads.Asked,
+  can-at-reads.Learnt,
+  holds-at-reads.Asked,
+  holds-at-reads.Learnt,
+  walk-below t,
+  walk.Post,
+) (walk-pair-at t) walk-pair.Post
+walk-pair-returns-3 t c =
+    let at-start = c .before .before .before .before .before .before .before .before .before .before .before in
+    pair-left-stuck (at-start .pre .1 .1 .0) _ _ _ _ _ (at-start .pre .1 .1 .1 .0) (at-start .pre .1 .1 .1 .1)
+    (at-start .pre .1 .1 .1 .2) _ (c .before .before .before .before .can-at .ensures) _
+    (c .before .before .before .can-at2 .ensures) (sym (c .before .before .holds-at .ensures) ∙ c .before .if1 .taken)
+    (c .if2 .left)
+
+walk-pair-add-walk-3 : (t : ℕ) → walk-pair-lts.Need-add-walk-3 (
+  push-reads.Asked,
+  push-reads.Learnt,
+  can-at-reads.Asked,
+  can-at-reads.Learnt,
+  holds-at-reads.Asked,
+  holds-at-reads.Learnt,
+  walk-below t,
+  walk.Post,
+) (walk-pair-at t) walk-pair.Post
+walk-pair-add-walk-3 t c =
+    let at-start = c .before .before .before .before .before .before .before .before .before .before .before .before
+    in omega (arith, at-start .pre .1 .1 .0 .size, at-start .pre .1 .1 .0 .few, at-start .pre .1 .1 .1 .1)
+
+walk-pair-mul-walk-2 : (t : ℕ) → walk-pair-lts.Need-mul-walk-2 (
+  push-reads.Asked,
+  push-reads.Learnt,
+  can-at-reads.Asked,
+  can-at-reads.Learnt,
+  holds-at-reads.Asked,
+  holds-at-reads.Learnt,
+  walk-below t,
+  walk.Post,
+) (walk-pair-at t) walk-pair.Post
+walk-pair-mul-walk-2 t c =
+    let at-start = c .before .before .before .before .before .before .before .before .before .before .before .before
+    in omega
+    (arith, bits-fit (at-start .pre .1 .1 .0) _ _ _ _ _ (at-start .pre .1 .1 .1 .0) (at-start .pre .1 .1 .1 .1))
+
+walk-pair-add-walk-4 : (t : ℕ) → walk-pair-lts.Need-add-walk-4 (
+  push-reads.Asked,
+  push-reads.Learnt,
+  can-at-reads.Asked,
+  can-at-reads.Learnt,
+  holds-at-reads.Asked,
+  holds-at-reads.Learnt,
+  walk-below t,
+  walk.Post,
+) (walk-pair-at t) walk-pair.Post
+walk-pair-add-walk-4 t c =
+    let at-start = c .before .before .before .before .before .before .before .before .before .before .before .before
+    in omega
+    (arith, bits-fit (at-start .pre .1 .1 .0) _ _ _ _ _ (at-start .pre .1 .1 .1 .0) (at-start .pre .1 .1 .1 .1))
+
+walk-pair-walk-requires-2 : (t : ℕ) → walk-pair-lts.Need-walk-requires-2 (
+  push-reads.Asked,
+  push-reads.Learnt,
+  can-at-reads.Asked,
+  can-at-reads.Learnt,
+  holds-at-reads.Asked,
+  holds-at-reads.Learnt,
+  walk-below t,
+  walk.Post,
+) (walk-pair-at t) walk-pair.Post
+walk-pair-walk-requires-2 t c κs =
+    let at-push = c .before .before .before .before .before .before .before in
+    let at-start = at-push .before .before .before .before .before .before in (
+      omega (arith, at-start .pre .0, at-start .pre .1 .1 .0 .few, at-start .pre .1 .1 .1 .1),
+      (
+        at-start .pre .1 .0,
+        (
+          at-start .pre .1 .1 .0,
+          next-place (at-start .pre .1 .1 .0) _ _ _ _ _ (at-start .pre .1 .1 .1 .0)
+              (at-start .pre .1 .1 .1 .1) _ _ _ _ (omega arith) (at-push .push .ensures) (at-start .pre .1 .1 .1 .0 .held)
+              (next-pair (at-start .pre .1 .1 .0) _ _ _ _ _ (at-start .pre .1 .1 .1 .0) (at-start .pre .1 .1 .1 .1)
+              (at-start .pre .1 .1 .1 .2)),
+        ),
+      ),
+    )
+
+walk-pair-enum-known-c : (t : ℕ) → walk-pair-lts.Need-enum-known-c (
+  push-reads.Asked,
+  push-reads.Learnt,
+  can-at-reads.Asked,
+  can-at-reads.Learnt,
+  holds-at-reads.Asked,
+  holds-at-reads.Learnt,
+  walk-below t,
+  walk.Post,
+) (walk-pair-at t) walk-pair.Post
+walk-pair-enum-known-c t c = search needs
+
+walk-pair-add-walk-5 : (t : ℕ) → walk-pair-lts.Need-add-walk-5 (
+  push-reads.Asked,
+  push-reads.Learnt,
+  can-at-reads.Asked,
+  can-at-reads.Learnt,
+  holds-at-reads.Asked,
+  holds-at-reads.Learnt,
+  walk-below t,
+  walk.Post,
+) (walk-pair-at t) walk-pair.Post
+walk-pair-add-walk-5 t c =
+    let after-can = c .before .before .before .before .before .before .before .before .before .before in
+    let at-start = after-can .before .before .before .before .before .before .before .before .before in
+    omega (arith, at-start .pre .1 .1 .0 .size, at-start .pre .1 .1 .0 .few, at-start .pre .1 .1 .1 .1)
+
+walk-pair-mul-walk-3 : (t : ℕ) → walk-pair-lts.Need-mul-walk-3 (
+  push-reads.Asked,
+  push-reads.Learnt,
+  can-at-reads.Asked,
+  can-at-reads.Learnt,
+  holds-at-reads.Asked,
+  holds-at-reads.Learnt,
+  walk-below t,
+  walk.Post,
+) (walk-pair-at t) walk-pair.Post
+walk-pair-mul-walk-3 t c =
+    let after-can = c .before .before .before .before .before .before .before .before .before .before in
+    let at-start = after-can .before .before .before .before .before .before .before .before .before in
+    omega (arith, bits-fit (at-start .pre .1 .1 .0) _ _ _ _ _ (at-start .pre .1 .1 .1 .0) (at-start .pre .1 .1 .1 .1))
+
+walk-pair-add-walk-6 : (t : ℕ) → walk-pair-lts.Need-add-walk-6 (
+  push-reads.Asked,
+  push-reads.Learnt,
+  can-at-reads.Asked,
+  can-at-reads.Learnt,
+  holds-at-reads.Asked,
+  holds-at-reads.Learnt,
+  walk-below t,
+  walk.Post,
+) (walk-pair-at t) walk-pair.Post
+walk-pair-add-walk-6 t c =
+    let after-can = c .before .before .before .before .before .before .before .before .before .before in
+    let at-start = after-can .before .before .before .before .before .before .before .before .before in
+    omega (arith, bits-fit (at-start .pre .1 .1 .0) _ _ _ _ _ (at-start .pre .1 .1 .1 .0) (at-start .pre .1 .1 .1 .1))
+
+walk-pair-walk-requires-3 : (t : ℕ) → walk-pair-lts.Need-walk-requires-3 (
+  push-reads.Asked,
+  push-reads.Learnt,
+  can-at-reads.Asked,
+  can-at-reads.Learnt,
+  holds-at-reads.Asked,
+  holds-at-reads.Learnt,
+  walk-below t,
+  walk.Post,
+) (walk-pair-at t) walk-pair.Post
+walk-pair-walk-requires-3 t c κs =
+    let at-walk2 = c .before .before .before .before .before .before in
+    let at-if1 = at-walk2 .before .before .before .before in let at-holds-at = at-if1 .before in
+    let at-can-at2 = at-holds-at .before in let at-can-at = at-can-at2 .before in let at-push = at-can-at .before in
+    let at-start = at-push .before .before .before .before .before .before in (
+      omega (arith, at-start .pre .0, at-start .pre .1 .1 .0 .few, at-start .pre .1 .1 .1 .1),
+      (
+        at-start .pre .1 .0,
+        (
+          at-start .pre .1 .1 .0,
+          next-place (at-start .pre .1 .1 .0) _ _ _ _ _ (at-start .pre .1 .1 .1 .0)
+              (at-start .pre .1 .1 .1 .1) _ _ _ _ (omega arith) (at-push .push .ensures)
+              (pair-room (at-start .pre .1 .1 .0) _ _ _ _ _ (at-start .pre .1 .1 .1 .0) (at-start .pre .1 .1 .1 .1)
+              (at-start .pre .1 .1 .1 .2) _ (at-can-at .can-at .ensures) _ (at-can-at2 .can-at2 .ensures)
+              (sym (at-holds-at .holds-at .ensures) ∙ at-if1 .if1 .left) _ (at-push .push .ensures) _ _
+              (at-walk2 .walk2 .ensures) _ (c .before .before .c .given .1))
+              (next-pair (at-start .pre .1 .1 .0) _ _ _ _ _ (at-start .pre .1 .1 .1 .0) (at-start .pre .1 .1 .1 .1)
+              (at-start .pre .1 .1 .1 .2)),
+        ),
+      ),
+    )
+
+walk-pair-enum-told : (t : ℕ) → walk-pair-lts.Need-enum-told (
+  push-reads.Asked,
+  push-reads.Learnt,
+  can-at-reads.Asked,
+  can-at-reads.Learnt,
+  holds-at-reads.Asked,
+  holds-at-reads.Learnt,
+  walk-below t,
+  walk.Post,
+) (walk-pair-at t) walk-pair.Post
+walk-pair-enum-told t c = search needs
+
+walk-pair-same-length-2 : (t : ℕ) → walk-pair-lts.Need-same-length-2 (
+  push-reads.Asked,
+  push-reads.Learnt,
+  can-at-reads.Asked,
+  can-at-reads.Learnt,
+  holds-at-reads.Asked,
+  holds-at-reads.Learnt,
+  walk-below t,
+  walk.Post,
+) (walk-pair-at t) walk-pair.Post
+walk-pair-same-length-2 t c = search needs
+
+walk-pair-returns-4 : (t : ℕ) → walk-pair-lts.Need-returns-4 (
+  push-reads.Asked,
+  push-reads.Learnt,
+  can-at-reads.Asked,
+  can-at-reads.Learnt,
+  holds-at-reads.Asked,
+  holds-at-reads.Learnt,
+  walk-below t,
+  walk.Post,
+) (walk-pair-at t) walk-pair.Post
+walk-pair-returns-4 t c =
+    let at-walk2 = c .before .before .before .before .before .before .before .before .before in
+    let at-if1 = at-walk2 .before .before .before .before in let at-holds-at = at-if1 .before in
+    let at-can-at2 = at-holds-at .before in let at-can-at = at-can-at2 .before in let at-push = at-can-at .before in
+    let at-start = at-push .before .before .before .before .before .before in
+    pair-then (at-start .pre .1 .1 .0) _ _ _ _ _ (at-start .pre .1 .1 .1 .0) (at-start .pre .1 .1 .1 .1)
+    (at-start .pre .1 .1 .1 .2) _ (at-can-at .can-at .ensures) _ (at-can-at2 .can-at2 .ensures)
+    (sym (at-holds-at .holds-at .ensures) ∙ at-if1 .if1 .left) _ (at-push .push .ensures) _ _
+    (at-walk2 .walk2 .ensures) _ (c .before .before .before .before .before .c .given .1) _ _
+    (c .before .before .walk3 .ensures)
+
+walk-pair-same-length-3 : (t : ℕ) → walk-pair-lts.Need-same-length-3 (
+  push-reads.Asked,
+  push-reads.Learnt,
+  can-at-reads.Asked,
+  can-at-reads.Learnt,
+  holds-at-reads.Asked,
+  holds-at-reads.Learnt,
+  walk-below t,
+  walk.Post,
+) (walk-pair-at t) walk-pair.Post
+walk-pair-same-length-3 t c = search needs
+
+walk-pair-returns-5 : (t : ℕ) → walk-pair-lts.Need-returns-5 (
+  push-reads.Asked,
+  push-reads.Learnt,
+  can-at-reads.Asked,
+  can-at-reads.Learnt,
+  holds-at-reads.Asked,
+  holds-at-reads.Learnt,
+  walk-below t,
+  walk.Post,
+) (walk-pair-at t) walk-pair.Post
+walk-pair-returns-5 t c =
+    let at-if1 = c .before .before .before .before .before .before .before .before in
+    let at-holds-at = at-if1 .before in let at-can-at2 = at-holds-at .before in let at-can-at = at-can-at2 .before in
+    let at-push = at-can-at .before in let at-start = at-push .before .before .before .before .before .before in
+    pair-exceeded (at-start .pre .1 .1 .0) _ _ _ _ _ (at-start .pre .1 .1 .1 .0) (at-start .pre .1 .1 .1 .1)
+    (at-start .pre .1 .1 .1 .2) _ (at-can-at .can-at .ensures) _ (at-can-at2 .can-at2 .ensures)
+    (sym (at-holds-at .holds-at .ensures) ∙ at-if1 .if1 .left) _ (at-push .push .ensures) _ _
+    (c .before .before .before .before .walk2 .ensures) (c .enum-told .given .1)
+
+walk-pair-add-walk-7 : (t : ℕ) → walk-pair-lts.Need-add-walk-7 (
+  push-reads.Asked,
+  push-reads.Learnt,
+  can-at-reads.Asked,
+  can-at-reads.Learnt,
+  holds-at-reads.Asked,
+  holds-at-reads.Learnt,
+  walk-below t,
+  walk.Post,
+) (walk-pair-at t) walk-pair.Post
+walk-pair-add-walk-7 t c =
+    let at-start = c .before .before .before .before .before .before .before .before .before .before .before .before
+    in omega (arith, at-start .pre .1 .1 .0 .size, at-start .pre .1 .1 .0 .few, at-start .pre .1 .1 .1 .1)
+
+walk-pair-mul-walk-4 : (t : ℕ) → walk-pair-lts.Need-mul-walk-4 (
+  push-reads.Asked,
+  push-reads.Learnt,
+  can-at-reads.Asked,
+  can-at-reads.Learnt,
+  holds-at-reads.Asked,
+  holds-at-reads.Learnt,
+  walk-below t,
+  walk.Post,
+) (walk-pair-at t) walk-pair.Post
+walk-pair-mul-walk-4 t c =
+    let at-start = c .before .before .before .before .before .before .before .before .before .before .before .before
+    in omega
+    (arith, bits-fit (at-start .pre .1 .1 .0) _ _ _ _ _ (at-start .pre .1 .1 .1 .0) (at-start .pre .1 .1 .1 .1))
+
+walk-pair-add-walk-8 : (t : ℕ) → walk-pair-lts.Need-add-walk-8 (
+  push-reads.Asked,
+  push-reads.Learnt,
+  can-at-reads.Asked,
+  can-at-reads.Learnt,
+  holds-at-reads.Asked,
+  holds-at-reads.Learnt,
+  walk-below t,
+  walk.Post,
+) (walk-pair-at t) walk-pair.Post
+walk-pair-add-walk-8 t c =
+    let at-start = c .before .before .before .before .before .before .before .before .before .before .before .before
+    in omega
+    (arith, bits-fit (at-start .pre .1 .1 .0) _ _ _ _ _ (at-start .pre .1 .1 .1 .0) (at-start .pre .1 .1 .1 .1))
+
+walk-pair-walk-requires-4 : (t : ℕ) → walk-pair-lts.Need-walk-requires-4 (
+  push-reads.Asked,
+  push-reads.Learnt,
+  can-at-reads.Asked,
+  can-at-reads.Learnt,
+  holds-at-reads.Asked,
+  holds-at-reads.Learnt,
+  walk-below t,
+  walk.Post,
+) (walk-pair-at t) walk-pair.Post
+walk-pair-walk-requires-4 t c κs =
+    let at-push = c .before .before .before .before .before .before .before in
+    let at-start = at-push .before .before .before .before .before .before in (
+      omega (arith, at-start .pre .0, at-start .pre .1 .1 .0 .few, at-start .pre .1 .1 .1 .1),
+      (
+        at-start .pre .1 .0,
+        (
+          at-start .pre .1 .1 .0,
+          next-place (at-start .pre .1 .1 .0) _ _ _ _ _ (at-start .pre .1 .1 .1 .0)
+              (at-start .pre .1 .1 .1 .1) _ _ _ _ (omega arith) (at-push .push .ensures) (at-start .pre .1 .1 .1 .0 .held)
+              (next-pair (at-start .pre .1 .1 .0) _ _ _ _ _ (at-start .pre .1 .1 .1 .0) (at-start .pre .1 .1 .1 .1)
+              (at-start .pre .1 .1 .1 .2)),
+        ),
+      ),
+    )
+
+walk-pair-same-length-4 : (t : ℕ) → walk-pair-lts.Need-same-length-4 (
+  push-reads.Asked,
+  push-reads.Learnt,
+  can-at-reads.Asked,
+  can-at-reads.Learnt,
+  holds-at-reads.Asked,
+  holds-at-reads.Learnt,
+  walk-below t,
+  walk.Post,
+) (walk-pair-at t) walk-pair.Post
+walk-pair-same-length-4 t c = search needs
+
+walk-pair-returns-6 : (t : ℕ) → walk-pair-lts.Need-returns-6 (
+  push-reads.Asked,
+  push-reads.Learnt,
+  can-at-reads.Asked,
+  can-at-reads.Learnt,
+  holds-at-reads.Asked,
+  holds-at-reads.Learnt,
+  walk-below t,
+  walk.Post,
+) (walk-pair-at t) walk-pair.Post
+walk-pair-returns-6 t c =
+    let at-if1 = c .before .before .before .before .before .before in let at-holds-at = at-if1 .before in
+    let at-can-at2 = at-holds-at .before in let at-can-at = at-can-at2 .before in let at-push = at-can-at .before in
+    let at-start = at-push .before .before .before .before .before .before in
+    pair-left (at-start .pre .1 .1 .0) _ _ _ _ _ (at-start .pre .1 .1 .1 .0) (at-start .pre .1 .1 .1 .1)
+    (at-start .pre .1 .1 .1 .2) _ (at-can-at .can-at .ensures) _ (at-can-at2 .can-at2 .ensures)
+    (sym (at-holds-at .holds-at .ensures) ∙ at-if1 .if1 .left) (c .before .before .before .before .if5 .left) _
+    (at-push .push .ensures) _ _ (c .before .before .walk4 .ensures)
+
+walk-pair-add-walk-9 : (t : ℕ) → walk-pair-lts.Need-add-walk-9 (
+  push-reads.Asked,
+  push-reads.Learnt,
+  can-at-reads.Asked,
+  can-at-reads.Learnt,
+  holds-at-reads.Asked,
+  holds-at-reads.Learnt,
+  walk-below t,
+  walk.Post,
+) (walk-pair-at t) walk-pair.Post
+walk-pair-add-walk-9 t c =
+    let at-start = c .before .before .before .before .before .before .before .before .before .before .before .before
+    in omega (arith, at-start .pre .1 .1 .0 .size, at-start .pre .1 .1 .0 .few, at-start .pre .1 .1 .1 .1)
+
+walk-pair-mul-walk-5 : (t : ℕ) → walk-pair-lts.Need-mul-walk-5 (
+  push-reads.Asked,
+  push-reads.Learnt,
+  can-at-reads.Asked,
+  can-at-reads.Learnt,
+  holds-at-reads.Asked,
+  holds-at-reads.Learnt,
+  walk-below t,
+  walk.Post,
+) (walk-pair-at t) walk-pair.Post
+walk-pair-mul-walk-5 t c =
+    let at-start = c .before .before .before .before .before .before .before .before .before .before .before .before
+    in omega
+    (arith, bits-fit (at-start .pre .1 .1 .0) _ _ _ _ _ (at-start .pre .1 .1 .1 .0) (at-start .pre .1 .1 .1 .1))
+
+walk-pair-add-walk-10 : (t : ℕ) → walk-pair-lts.Need-add-walk-10 (
+  push-reads.Asked,
+  push-reads.Learnt,
+  can-at-reads.Asked,
+  can-at-reads.Learnt,
+  holds-at-reads.Asked,
+  holds-at-reads.Learnt,
+  walk-below t,
+  walk.Post,
+) (walk-pair-at t) walk-pair.Post
+walk-pair-add-walk-10 t c =
+    let at-start = c .before .before .before .before .before .before .before .before .before .before .before .before
+    in omega
+    (arith, bits-fit (at-start .pre .1 .1 .0) _ _ _ _ _ (at-start .pre .1 .1 .1 .0) (at-start .pre .1 .1 .1 .1))
+
+walk-pair-walk-requires-5 : (t : ℕ) → walk-pair-lts.Need-walk-requires-5 (
+  push-reads.Asked,
+  push-reads.Learnt,
+  can-at-reads.Asked,
+  can-at-reads.Learnt,
+  holds-at-reads.Asked,
+  holds-at-reads.Learnt,
+  walk-below t,
+  walk.Post,
+) (walk-pair-at t) walk-pair.Post
+walk-pair-walk-requires-5 t c κs =
+    let at-push = c .before .before .before .before .before .before .before in
+    let at-start = at-push .before .before .before .before .before .before in (
+      omega (arith, at-start .pre .0, at-start .pre .1 .1 .0 .few, at-start .pre .1 .1 .1 .1),
+      (
+        at-start .pre .1 .0,
+        (
+          at-start .pre .1 .1 .0,
+          next-place (at-start .pre .1 .1 .0) _ _ _ _ _ (at-start .pre .1 .1 .1 .0)
+              (at-start .pre .1 .1 .1 .1) _ _ _ _ (omega arith) (at-push .push .ensures) (at-start .pre .1 .1 .1 .0 .held)
+              (next-pair (at-start .pre .1 .1 .0) _ _ _ _ _ (at-start .pre .1 .1 .1 .0) (at-start .pre .1 .1 .1 .1)
+              (at-start .pre .1 .1 .1 .2)),
+        ),
+      ),
+    )
+
+walk-pair-same-length-5 : (t : ℕ) → walk-pair-lts.Need-same-length-5 (
+  push-reads.Asked,
+  push-reads.Learnt,
+  can-at-reads.Asked,
+  can-at-reads.Learnt,
+  holds-at-reads.Asked,
+  holds-at-reads.Learnt,
+  walk-below t,
+  walk.Post,
+) (walk-pair-at t) walk-pair.Post
+walk-pair-same-length-5 t c = search needs
+
+walk-pair-returns-7 : (t : ℕ) → walk-pair-lts.Need-returns-7 (
+  push-reads.Asked,
+  push-reads.Learnt,
+  can-at-reads.Asked,
+  can-at-reads.Learnt,
+  holds-at-reads.Asked,
+  holds-at-reads.Learnt,
+  walk-below t,
+  walk.Post,
+) (walk-pair-at t) walk-pair.Post
+walk-pair-returns-7 t c =
+    let at-if1 = c .before .before .before .before .before .before in let at-holds-at = at-if1 .before in
+    let at-can-at2 = at-holds-at .before in let at-can-at = at-can-at2 .before in let at-push = at-can-at .before in
+    let at-start = at-push .before .before .before .before .before .before in
+    pair-right (at-start .pre .1 .1 .0) _ _ _ _ _ (at-start .pre .1 .1 .1 .0) (at-start .pre .1 .1 .1 .1)
+    (at-start .pre .1 .1 .1 .2) _ (at-can-at .can-at .ensures) _ (at-can-at2 .can-at2 .ensures)
+    (sym (at-holds-at .holds-at .ensures) ∙ at-if1 .if1 .left) (c .before .before .before .before .before .if4 .left)
+    _ (at-push .push .ensures) _ _ (c .before .before .walk5 .ensures)
+
+walk-pair-returns-8 : (t : ℕ) → walk-pair-lts.Need-returns-8 (
+  push-reads.Asked,
+  push-reads.Learnt,
+  can-at-reads.Asked,
+  can-at-reads.Learnt,
+  holds-at-reads.Asked,
+  holds-at-reads.Learnt,
+  walk-below t,
+  walk.Post,
+) (walk-pair-at t) walk-pair.Post
+walk-pair-returns-8 t c =
+    let at-start = c .before .before .before .before .before .before .before .before .before .before .before .before
+    in pair-no-side (at-start .pre .1 .1 .0) _ _ _ _ _ (at-start .pre .1 .1 .1 .0) (at-start .pre .1 .1 .1 .1)
+    (at-start .pre .1 .1 .1 .2) _ (c .before .before .before .before .before .can-at .ensures) _
+    (c .before .before .before .before .can-at2 .ensures) (sym (c .before .before .before .holds-at .ensures)
+    ∙ c .before .before .if1 .left) (c .before .if4 .left) (c .if6 .left)
+
+pub +walk+walk-leaf+walk-pair-spec : {M : Type 1} → statement M
++walk+walk-leaf+walk-pair-spec = close μ-walk μ-walk-leaf μ-walk-pair (λ t. walk-lts.spec (
+  put-reads.Asked,
+  put-reads.Learnt,
+  kind-at-reads.Asked,
+  kind-at-reads.Learnt,
+  push-reads.Asked,
+  push-reads.Learnt,
+  walk-below t,
+  walk.Post,
+  walk-pair-below t,
+  walk-pair.Post,
+  walk-leaf-below t,
+  walk-leaf.Post,
+)
+    (walk-at t)
+    walk.Post
+    (walk-shared-slice-read-n t)
+    (walk-put-requires t)
+    (walk-same-length t)
+    (walk-returns t)
+    (walk-mul-w t)
+    (walk-shared-slice-read-w t)
+    (walk-kind-at-requires t)
+    (walk-push-requires t)
+    (walk-add-walk t)
+    (walk-mul-walk t)
+    (walk-walk-requires t)
+    (walk-same-length-2 t)
+    (walk-returns-2 t)
+    (walk-add-walk-2 t)
+    (walk-walk-requires-2 t)
+    (walk-same-length-3 t)
+    (walk-returns-3 t)
+    (walk-walk-pair-requires t)
+    (walk-same-length-4 t)
+    (walk-returns-4 t)
+    (walk-walk-leaf-requires t)
+    (walk-same-length-5 t)
+    (walk-returns-5 t))
+    (λ t. walk-leaf-lts.spec (
+      term-of-reads.Asked,
+      term-of-reads.Learnt,
+      memory-of-reads.Asked,
+      memory-of-reads.Learnt,
+      remember-reads.Asked,
+      remember-reads.Learnt,
+      resolve-term-reads.Asked,
+      resolve-term-reads.Learnt,
+      walk-below t,
+      walk.Post,
+    )
+    (walk-leaf-at t)
+    walk-leaf.Post
+    walk-leaf-Inv-loop
+    walk-leaf-μ-loop
+    (walk-leaf-mul-w t)
+    (walk-leaf-shared-slice-read-w t)
+    (walk-leaf-mul-f t)
+    (walk-leaf-mul-f-2 t)
+    (walk-leaf-shared-slice-read-f t)
+    (walk-leaf-term-of-requires t)
+    (walk-leaf-memory-of-requires t)
+    (walk-leaf-remember-requires t)
+    (walk-leaf-loop-holds t)
+    (walk-leaf-mul-i t)
+    (walk-leaf-add-i t)
+    (walk-leaf-add-i-2 t)
+    (walk-leaf-mul-i-2 t)
+    (walk-leaf-shared-slice-read-i t)
+    (walk-leaf-add-resolve-term t)
+    (walk-leaf-resolve-term-requires t)
+    (walk-leaf-add-walk t)
+    (walk-leaf-walk-requires t)
+    (walk-leaf-enum-known-d t)
+    (walk-leaf-add-j t)
+    (walk-leaf-loop-less t)
+    (walk-leaf-loop-again t)
+    (walk-leaf-enum-told t)
+    (walk-leaf-same-length t)
+    (walk-leaf-returns t)
+    (walk-leaf-same-length-2 t)
+    (walk-leaf-returns-2 t))
+    λ t. walk-pair-lts.spec (
+      push-reads.Asked,
+      push-reads.Learnt,
+      can-at-reads.Asked,
+      can-at-reads.Learnt,
+      holds-at-reads.Asked,
+      holds-at-reads.Learnt,
+      walk-below t,
+      walk.Post,
+    )
+    (walk-pair-at t)
+    walk-pair.Post
+    (walk-pair-mul-w t)
+    (walk-pair-shared-slice-read-w t)
+    (walk-pair-push-requires t)
+    (walk-pair-add-can-at t)
+    (walk-pair-can-at-requires t)
+    (walk-pair-can-at-requires-2 t)
+    (walk-pair-holds-at-requires t)
+    (walk-pair-add-walk t)
+    (walk-pair-mul-walk t)
+    (walk-pair-add-walk-2 t)
+    (walk-pair-walk-requires t)
+    (walk-pair-same-length t)
+    (walk-pair-returns t)
+    (walk-pair-returns-2 t)
+    (walk-pair-returns-3 t)
+    (walk-pair-add-walk-3 t)
+    (walk-pair-mul-walk-2 t)
+    (walk-pair-add-walk-4 t)
+    (walk-pair-walk-requires-2 t)
+    (walk-pair-enum-known-c t)
+    (walk-pair-add-walk-5 t)
+    (walk-pair-mul-walk-3 t)
+    (walk-pair-add-walk-6 t)
+    (walk-pair-walk-requires-3 t)
+    (walk-pair-enum-told t)
+    (walk-pair-same-length-2 t)
+    (walk-pair-returns-4 t)
+    (walk-pair-same-length-3 t)
+    (walk-pair-returns-5 t)
+    (walk-pair-add-walk-7 t)
+    (walk-pair-mul-walk-4 t)
+    (walk-pair-add-walk-8 t)
+    (walk-pair-walk-requires-4 t)
+    (walk-pair-same-length-4 t)
+    (walk-pair-returns-6 t)
+    (walk-pair-add-walk-9 t)
+    (walk-pair-mul-walk-5 t)
+    (walk-pair-add-walk-10 t)
+    (walk-pair-walk-requires-5 t)
+    (walk-pair-same-length-5 t)
+    (walk-pair-returns-7 t)
+    (walk-pair-returns-8 t)

@@ -1,0 +1,250 @@
+// One residual and one event: every result, held in an area. The nodes are gone through once, in
+// reading order; for each tree a mode says whether it takes the event or is kept. The definitions
+// are in `specs/Walk.antt`, `specs/Forest.antt` and `specs/Course.antt`.
+use residual::push;
+use residual::resolve_term;
+use slots::Held;
+use slots::put;
+use residual::holds_at;
+use residual::kind_at;
+use residual::memory_of;
+use residual::remember;
+use residual::term_of;
+ghost use mathlib.Core.Path.{_≡_};
+ghost use Prim.Native.Nat.{ℕ, _+_, _*_, _<_, _≤_};
+ghost use lib.ListN.{length, getD};
+ghost use Rattle.table.specs.Index.{tableIn, Indexed};
+ghost use Rattle.residual.specs.Words.{kindAt};
+ghost use Rattle.slots.specs.Holding.{Gave};
+ghost use Rattle.walk.specs.Course.{nodeCount, Ready, Place, walked, Stands, Told};
+
+// Of the tree at a node: whether it may take the event, and the node after it.
+pub struct Tree {
+    pub moves: bool,
+    pub next: usize,
+}
+
+// Whether the tree at node k may take the event, and the node after it.
+pub fn can_at(list: &[u16], work: &[u64], store: &[u64], bound: usize, e: u64, k: usize) -> Tree
+    requires { ⌜ Indexed (now list) (now work) ⌝ }
+    requires { ⌜ Ready (tableIn (now list)) bound e (now store) ⌝ }
+    requires { ⌜ Stands (tableIn (now list)) (now store) k ⌝ }
+    ensures { λ r. ⌜ Told (tableIn (now (list .entry))) e (now (store .entry)) k r ⌝ }
+{
+    let w = store[k];
+    if kind_at(list, work, w) == 4 {
+        let a = can_at(list, work, store, bound, e, k + 1);
+        let p = a.next;
+        let b = can_at(list, work, store, bound, e, p);
+        let q = b.next;
+        if holds_at(list, work, w, e) {
+            if a.moves {
+                return Tree {
+                    moves: b.moves,
+                    next: q,
+                };
+            }
+            return Tree {
+                moves: false,
+                next: q,
+            };
+        }
+        if a.moves {
+            return Tree {
+                moves: true,
+                next: q,
+            };
+        }
+        return Tree {
+            moves: b.moves,
+            next: q,
+        };
+    }
+    let f = store[k * 257];
+    Tree {
+        moves: 0 < f,
+        next: k + 1,
+    }
+}
+
+// All ways to go on from node k: the lowest bit of `modes` says whether that node's tree takes the
+// event (1) or is kept (0), the others say it of the trees after it. Each whole result is held in
+// `area`.
+pub fn walk(
+    list: &[u16],
+    work: &[u64],
+    store: &[u64],
+    bound: usize,
+    e: u64,
+    k: usize,
+    modes: u64,
+    slot: [u64; 16],
+    area: &mut [u64],
+    count: usize,
+) -> Held
+    requires { ⌜ Indexed (now list) (now work) ⌝ }
+    requires { ⌜ Ready (tableIn (now list)) bound e (now store) ⌝ }
+    requires { ⌜ Place (tableIn (now list)) e (now store) k modes slot (now area) count ⌝ }
+    ensures { λ r.
+        ⌜ Gave (walked (tableIn (now (list .entry))) e (now (store .entry)) k modes slot
+        (now (area .entry)) count) r (now (area .exit)) ⌝ }
+{
+    let n = store[0] as usize;
+    if n < k {
+        return put(area, count, slot);
+    }
+    let w = store[k];
+    let rest = modes / 2;
+    let kind = kind_at(list, work, w);
+    if modes % 2 == 0 {
+        let s = push(slot, w);
+        if kind == 4 {
+            return walk(list, work, store, bound, e, k + 1, rest * 4, s, area, count);
+        }
+        return walk(list, work, store, bound, e, k + 1, rest, s, area, count);
+    }
+    if kind == 4 {
+        return walk_pair(list, work, store, bound, e, k, rest, slot, area, count);
+    }
+    walk_leaf(list, work, store, bound, e, k, rest, slot, area, count)
+}
+
+// A pair that takes the event.
+fn walk_pair(
+    list: &[u16],
+    work: &[u64],
+    store: &[u64],
+    bound: usize,
+    e: u64,
+    k: usize,
+    rest: u64,
+    slot: [u64; 16],
+    area: &mut [u64],
+    count: usize,
+) -> Held
+    requires { ⌜ Indexed (now list) (now work) ⌝ }
+    requires { ⌜ Ready (tableIn (now list)) bound e (now store) ⌝ }
+    requires { ⌜ Place (tableIn (now list)) e (now store) k (rest * 2 + 1) slot (now area) count
+        × (k ≤ nodeCount (now store)) × (kindAt (tableIn (now list)) (getD (now store) k 0) ≡ 4) ⌝ }
+    ensures { λ r.
+        ⌜ Gave (walked (tableIn (now (list .entry))) e (now (store .entry)) k (rest * 2 + 1) slot
+        (now (area .entry)) count) r (now (area .exit)) ⌝ }
+{
+    let w = store[k];
+    let s = push(slot, w);
+    let a = can_at(list, work, store, bound, e, k + 1);
+    let p = a.next;
+    let b = can_at(list, work, store, bound, e, p);
+    if holds_at(list, work, w, e) {
+        if a.moves {
+            if b.moves {
+                return walk(
+                    list,
+                    work,
+                    store,
+                    bound,
+                    e,
+                    k + 1,
+                    rest * 4 + 3,
+                    s,
+                    area,
+                    count,
+                );
+            }
+            return Held::Count(count);
+        }
+        return Held::Count(count);
+    }
+    if a.moves {
+        if b.moves {
+            return match walk(
+                list,
+                work,
+                store,
+                bound,
+                e,
+                k + 1,
+                rest * 4 + 1,
+                s,
+                area,
+                count,
+            ) {
+                Held::Count(c) => {
+                    walk(list, work, store, bound, e, k + 1, rest * 4 + 2, s, area, c)
+                }
+                Held::Exceeded => Held::Exceeded,
+            };
+        }
+        return walk(
+            list,
+            work,
+            store,
+            bound,
+            e,
+            k + 1,
+            rest * 4 + 1,
+            s,
+            area,
+            count,
+        );
+    }
+    if b.moves {
+        return walk(
+            list,
+            work,
+            store,
+            bound,
+            e,
+            k + 1,
+            rest * 4 + 2,
+            s,
+            area,
+            count,
+        );
+    }
+    Held::Count(count)
+}
+
+// A leaf that takes the event.
+fn walk_leaf(
+    list: &[u16],
+    work: &[u64],
+    store: &[u64],
+    bound: usize,
+    e: u64,
+    k: usize,
+    rest: u64,
+    slot: [u64; 16],
+    area: &mut [u64],
+    count: usize,
+) -> Held
+    requires { ⌜ Indexed (now list) (now work) ⌝ }
+    requires { ⌜ Ready (tableIn (now list)) bound e (now store) ⌝ }
+    requires { ⌜ Place (tableIn (now list)) e (now store) k (rest * 2 + 1) slot (now area) count
+        × (k ≤ nodeCount (now store))
+        × (kindAt (tableIn (now list)) (getD (now store) k 0) ≡ 4 → ⊥) ⌝ }
+    ensures { λ r.
+        ⌜ Gave (walked (tableIn (now (list .entry))) e (now (store .entry)) k (rest * 2 + 1) slot
+        (now (area .entry)) count) r (now (area .exit)) ⌝ }
+{
+    let w = store[k];
+    let f = store[k * 257];
+    let t = term_of(w);
+    let m = remember(e, memory_of(w));
+    let mut c = count;
+    let mut j = 0;
+    while j < f {
+        let i = store[k * 257 + 1 + j as usize];
+        let s = resolve_term(list, work, bound, t + 1, m, i, slot);
+        match walk(list, work, store, bound, e, k + 1, rest, s, area, c) {
+            Held::Count(d) => {
+                c = d;
+                j += 1;
+            }
+            Held::Exceeded => {
+                return Held::Exceeded;
+            }
+        }
+    }
+    Held::Count(c)
+}
