@@ -6,12 +6,12 @@
 use crate::areas;
 use crate::lent::Done;
 use crate::lent::Lent;
-use crate::lent::Outcome;
 use crate::lent::Record;
 use crate::lent::malformed;
 use crate::lent::no_record;
 use crate::lent::record_of;
 use crate::lent::with_record;
+use cases::Outcome;
 use monitor::Answer;
 use monitor::Offered;
 

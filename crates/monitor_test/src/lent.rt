@@ -4,6 +4,7 @@
 //     Done                   what came of a line, and what is lent after it
 //     change_list, change    what a line changes
 use crate::areas;
+use cases::Outcome;
 use monitor::State;
 use monitor::Verdict;
 
@@ -20,14 +21,6 @@ pub struct Lent {
     pub length0: usize,
     pub length1: usize,
     pub record: Record,
-}
-
-// What came of a line.
-pub enum Outcome {
-    Changed,
-    Right,
-    Wrong,
-    Malformed,
 }
 
 // What came of a line, and what is lent after it.
@@ -106,7 +99,7 @@ pub fn malformed(l: Lent) -> Done {
 
 fn changed(l: Lent) -> Done {
     Done {
-        outcome: Outcome::Changed,
+        outcome: Outcome::Part,
         lent: l,
     }
 }

@@ -9,9 +9,9 @@ use crate::lent::change_list;
 use crate::lent::malformed;
 use crate::lent::no_record;
 use crate::lent::with_record;
-use crate::text::after;
-use crate::text::byte_at;
-use crate::text::take_numbers;
+use cases::after;
+use cases::byte_at;
+use cases::take_numbers;
 
 // A call, with the beginnings of the buffers lent.
 fn lend(

@@ -1,12 +1,12 @@
 // What becomes of a residual that takes an event, where that is nothing or one residual; such a
 // residual needs no store. The definitions are in `specs/Only.antt`.
-use residual::push;
-use residual::resolve_term;
 use residual::holds_at;
 use residual::kind_at;
 use residual::memory_of;
 use residual::node;
+use residual::push;
 use residual::remember;
+use residual::resolve_term;
 use residual::term_of;
 ghost use mathlib.Core.Path.{_≡_};
 ghost use Prim.Native.Nat.{ℕ, _+_, _*_, _^_, _<_, _≤_};

@@ -1,18 +1,18 @@
 // A set of residuals and one event: all results of all residuals, held in another area. The
 // definitions are in `specs/Prepared.antt` and `specs/Stepped.antt`; `specs/Claims.antt` says what
 // they come to.
-use residual::distinct;
 use crate::only::Way;
 use crate::only::rebuild;
 use crate::only::way_of;
-use slots::Held;
-use slots::put;
-use walk::walk;
+use residual::distinct;
 use residual::holds_at;
 use residual::kind_at;
 use residual::memory_of;
 use residual::remember;
 use residual::term_of;
+use slots::Held;
+use slots::put;
+use walk::walk;
 ghost use mathlib.Core.Path.{_≡_};
 ghost use Prim.Native.Nat.{ℕ, _+_, _*_, _<_, _≤_};
 ghost use lib.ListN.{length, getD, take};

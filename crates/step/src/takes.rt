@@ -1,9 +1,9 @@
 // Whether a residual in an area may take an event: whether there is a residual after it.
 // The definitions are in `specs/Takes.antt`.
-use walk::Tree;
 use residual::holds_at;
 use residual::kind_at;
 use residual::term_of;
+use walk::Tree;
 ghost use mathlib.Core.Path.{_≡_};
 ghost use Prim.Native.Nat.{ℕ, _<_};
 ghost use Rattle.table.specs.Index.{tableIn, Indexed};

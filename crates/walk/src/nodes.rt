@@ -1,15 +1,15 @@
 // One residual and one event: every result, held in an area. The nodes are gone through once, in
 // reading order; for each tree a mode says whether it takes the event or is kept. The definitions
 // are in `specs/Walk.antt`, `specs/Forest.antt` and `specs/Course.antt`.
-use residual::push;
-use residual::resolve_term;
-use slots::Held;
-use slots::put;
 use residual::holds_at;
 use residual::kind_at;
 use residual::memory_of;
+use residual::push;
 use residual::remember;
+use residual::resolve_term;
 use residual::term_of;
+use slots::Held;
+use slots::put;
 ghost use mathlib.Core.Path.{_≡_};
 ghost use Prim.Native.Nat.{ℕ, _+_, _*_, _<_, _≤_};
 ghost use lib.ListN.{length, getD};
