@@ -1,17 +1,11 @@
-// The monitor of CSP_E tables: residuals, Start, Feed, Offer, View (document 01, "Residuals",
-// "Operations"). What each operation comes to is defined in crate monitor_spec; `specs/Lib.antt`
-// lists what the code says in those terms. The record and View are those of crate state.
-mod answer;
-mod event;
-mod feeder;
-mod offerer;
-mod starter;
-
-pub use answer::Answer;
-pub use answer::Offered;
-pub use feeder::feed;
-pub use offerer::offer;
-pub use starter::start;
+// The monitor of CSP_E tables: Start, Feed, Offer, View, the record and the answers (document 01,
+// "Operations"). Each operation is a crate of its own, proved equal to its definition in crate
+// monitor_spec; this one brings them together.
+pub use feeding::feed;
+pub use offering::offer;
+pub use starting::start;
+pub use state::Answer;
+pub use state::Offered;
 pub use state::State;
 pub use state::Verdict;
 pub use state::view;

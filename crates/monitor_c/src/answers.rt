@@ -1,7 +1,7 @@
 // What Start and Feed answer, in words. The definitions are in `specs/Calls.antt`.
 ghost use mathlib.Core.Path.{_≡_};
 ghost use lib.ListN.{length};
-ghost use Rattle.monitor.specs.Answers.{answerOf};
+ghost use Rattle.state.specs.Answers.{answerOf};
 ghost use Rattle.monitor_c.specs.Calls.{Told};
 use crate::words::store;
 use monitor::Answer;

@@ -1,6 +1,6 @@
 // Offer for C. What a call returns and leaves is `offerCall` of `specs/Calls.antt`.
 ghost use mathlib.Core.Path.{_≡_};
-ghost use Rattle.monitor.specs.Answers.{offeredOf};
+ghost use Rattle.state.specs.Answers.{offeredOf};
 ghost use Rattle.monitor_c.specs.Calls.{OfferTold, offerSaid, offerCall};
 use crate::words::load;
 use monitor::Offered;

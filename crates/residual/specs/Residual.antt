@@ -20,6 +20,7 @@ use Rattle.residual.specs.Words.{nodeWord, remember, inSet}
 use Rattle.residual.specs.Lawful.{Below}
 pub mod Resolved
 pub mod Into
+pub mod Descent
 
 pub data Residual : Type 0 where
   leaf : ℕ → ℕ → Residual

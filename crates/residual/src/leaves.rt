@@ -1,21 +1,24 @@
 // A leaf's distinct results: the indices of the residuals of a term that did not occur before.
-// The definitions are in `specs/Distinct.antt`.
-use crate::resolve::resolve_term;
+// A result is compared with those kept by its key first. The definitions are in
+// `specs/Distinct.antt`.
+use crate::descend::resolve_at;
+use slots::store;
 ghost use mathlib.Core.Path.{_≡_};
-ghost use Prim.Native.Nat.{ℕ, _+_, _*_, _<_, _≤_};
-ghost use lib.ListN.{length, getD};
+ghost use Prim.Native.Nat.{_+_, _*_, _<_, _≤_};
+ghost use lib.ListN.{length};
 ghost use Rattle.table.specs.Index.{tableIn, Indexed};
 ghost use Rattle.residual.specs.Residual.{resolved};
-ghost use Rattle.residual.specs.Distinct.{sameWords, window, heldIn, kept};
-ghost use Rattle.residual.specs.Distinct.{slotAt, Resolvable, Stored};
+ghost use Rattle.residual.specs.Distinct.{sameWords, window, keyFrom, heldIn, kept};
+ghost use Rattle.residual.specs.Distinct.{slotAt, Resolvable, Known, heldSlots, Stored};
 
-// Whether two slots are equal.
-fn same(a: [u64; 16], b: [u64; 16]) -> bool
-    ensures { λ r. ⌜ r ≡ sameWords a b ⌝ }
+// Whether a slot's words stand in a list from p on.
+fn same_at(words: &[u64], p: usize, slot: &[u64]) -> bool
+    requires { ⌜ (p + 16 ≤ length (now words)) × (length (now slot) ≡ 16) ⌝ }
+    ensures { λ r. ⌜ r ≡ sameWords (now (slot .entry)) (window p 16 (now (words .entry))) ⌝ }
 {
     let mut j = 0;
     while j < 16 {
-        if a[j] != b[j] {
+        if slot[j] != words[p + j] {
             return false;
         }
         j += 1;
@@ -23,41 +26,79 @@ fn same(a: [u64; 16], b: [u64; 16]) -> bool
     true
 }
 
-// The i-th residual of a term, in a slot of its own.
-fn result(list: &[u16], work: &[u64], bound: usize, n: usize, m: u64, i: u64) -> [u64; 16]
+// A slot's key: equal slots have equal keys.
+fn key_of(slot: &[u64]) -> u64
+    requires { ⌜ length (now slot) ≡ 16 ⌝ }
+    ensures { λ r. ⌜ r ≡ keyFrom 0 (now (slot .entry)) ⌝ }
+{
+    let mut key = 0;
+    let mut j = 0;
+    while j < 16 {
+        key = key % 288230376151711744 * 31 + slot[j] % 288230376151711744;
+        j += 1;
+    }
+    key
+}
+
+// Whether the j-th result kept, which has index i, is this one: the first eight stand in `slots`.
+fn same_kept(
+    list: &[u16],
+    work: &[u64],
+    bound: usize,
+    n: usize,
+    m: u64,
+    i: u64,
+    slots: &[u64],
+    j: usize,
+    slot: &[u64],
+) -> bool
     requires { ⌜ Indexed (now list) (now work) ⌝ }
     requires { ⌜ Resolvable (tableIn (now list)) bound n m ⌝ }
     requires { ⌜ i < length (resolved (tableIn (now list)) n m) ⌝ }
-    ensures { λ r. ⌜ r ≡ slotAt (tableIn (now (list .entry))) n m i ⌝ }
+    requires { ⌜ (128 ≤ length (now slots)) × (length (now slot) ≡ 16) ⌝ }
+    requires { ⌜ (j < 8 → window (j * 16) 16 (now slots) ≡ slotAt (tableIn (now list)) n m i) ⌝ }
+    ensures { λ r.
+        ⌜ r ≡ sameWords (now (slot .entry)) (slotAt (tableIn (now (list .entry))) n m i) ⌝ }
 {
-    resolve_term(list, work, bound, n, m, i, [0u64; 16])
+    if j < 8 {
+        return same_at(slots, j * 16, slot);
+    }
+    let s = resolve_at(list, work, bound, n, m, i, [0u64; 16]);
+    same_at(&s, 0, slot)
 }
 
-// Whether one of the c results whose indices stand from `at` on is this one.
+// Whether one of the k results kept, whose indices stand from `at` on, is this one.
 fn found(
     list: &[u16],
     work: &[u64],
     bound: usize,
     n: usize,
     m: u64,
-    store: &[u64],
+    indices: &[u64],
     at: usize,
-    c: usize,
-    slot: [u64; 16],
+    k: usize,
+    keys: &[u64],
+    slots: &[u64],
+    slot: &[u64],
 ) -> bool
     requires { ⌜ Indexed (now list) (now work) ⌝ }
     requires { ⌜ Resolvable (tableIn (now list)) bound n m ⌝ }
-    requires { ⌜ at + c ≤ length (now store) ⌝ }
-    requires { ⌜ ((j : ℕ) → j < c
-        → getD (now store) (at + j) 0 < length (resolved (tableIn (now list)) n m)) ⌝ }
+    requires { ⌜ (at + k ≤ length (now indices)) × (k ≤ length (now keys)) ⌝ }
+    requires { ⌜ (128 ≤ length (now slots)) × (length (now slot) ≡ 16) ⌝ }
+    requires { ⌜ Known (slotAt (tableIn (now list)) n m) (length (resolved (tableIn (now list)) n m))
+        (now indices) at k (now keys) (now slots) ⌝ }
     ensures { λ r.
         ⌜ r ≡ heldIn (slotAt (tableIn (now (list .entry))) n m)
-        (window at c (now (store .entry))) slot ⌝ }
+        (window at k (now (indices .entry))) (now (slot .entry)) ⌝ }
 {
+    let key = key_of(slot);
     let mut j = 0;
-    while j < c {
-        let i = store[at + j];
-        if same(slot, result(list, work, bound, n, m, i)) {
+    while j < k {
+        if keys[j] != key {
+            j += 1;
+            continue;
+        }
+        if same_kept(list, work, bound, n, m, indices[at + j], slots, j, slot) {
             return true;
         }
         j += 1;
@@ -65,8 +106,89 @@ fn found(
     false
 }
 
-// Keeps the indices of a term's distinct residuals from `at` on; gives how many. The first is kept
-// without a look at it: mostly it is the only one.
+// Holds the slot of the k-th result kept, where it is one of the first eight.
+fn hold(slots: &mut [u64], k: usize, slot: &[u64])
+    requires { ⌜ (128 ≤ length (now slots)) × (length (now slot) ≡ 16) ⌝ }
+    ensures { λ _.
+        ⌜ now (slots .exit) ≡ heldSlots (now (slots .entry)) k (now (slot .entry)) ⌝ }
+{
+    if k < 8 {
+        store(slots, k * 16, slot);
+    }
+}
+
+// Keeps the indices of the distinct ones among a term's c residuals from `at` on; gives how many.
+// The keys of those kept and the slots of the first of them are at hand.
+fn distinct_in(
+    list: &[u16],
+    work: &[u64],
+    bound: usize,
+    n: usize,
+    m: u64,
+    c: u64,
+    indices: &mut [u64],
+    at: usize,
+    keys: &mut [u64],
+    slots: &mut [u64],
+) -> usize
+    requires { ⌜ Indexed (now list) (now work) ⌝ }
+    requires { ⌜ Resolvable (tableIn (now list)) bound n m ⌝ }
+    requires { ⌜ c ≡ length (resolved (tableIn (now list)) n m) ⌝ }
+    requires { ⌜ (at + c ≤ length (now indices)) × (c ≤ length (now keys)) ⌝ }
+    requires { ⌜ 128 ≤ length (now slots) ⌝ }
+    ensures { λ r.
+        ⌜ Stored (now (indices .entry)) (now (indices .exit)) at r
+        (kept (slotAt (tableIn (now (list .entry))) n m)
+        (length (resolved (tableIn (now (list .entry))) n m))) ⌝ }
+{
+    let mut k = 0;
+    let mut i = 0;
+    while i < c {
+        let slot = resolve_at(list, work, bound, n, m, i, [0u64; 16]);
+        if found(list, work, bound, n, m, indices, at, k, keys, slots, &slot) {
+            i += 1;
+            continue;
+        }
+        keys[k] = key_of(&slot);
+        hold(slots, k, &slot);
+        indices[at + k] = i;
+        k += 1;
+        i += 1;
+    }
+    k
+}
+
+// The same for a term of two residuals, where no keys are needed.
+fn distinct_two(
+    list: &[u16],
+    work: &[u64],
+    bound: usize,
+    n: usize,
+    m: u64,
+    indices: &mut [u64],
+    at: usize,
+) -> usize
+    requires { ⌜ Indexed (now list) (now work) ⌝ }
+    requires { ⌜ Resolvable (tableIn (now list)) bound n m ⌝ }
+    requires { ⌜ length (resolved (tableIn (now list)) n m) ≡ 2 ⌝ }
+    requires { ⌜ at + 2 ≤ length (now indices) ⌝ }
+    ensures { λ r.
+        ⌜ Stored (now (indices .entry)) (now (indices .exit)) at r
+        (kept (slotAt (tableIn (now (list .entry))) n m)
+        (length (resolved (tableIn (now (list .entry))) n m))) ⌝ }
+{
+    let first = resolve_at(list, work, bound, n, m, 0, [0u64; 16]);
+    let second = resolve_at(list, work, bound, n, m, 1, [0u64; 16]);
+    indices[at] = 0;
+    if same_at(&first, 0, &second) {
+        return 1;
+    }
+    indices[at + 1] = 1;
+    2
+}
+
+// Keeps the indices of a term's distinct residuals from `at` on; gives how many. An only one is
+// kept without a look at it.
 pub fn distinct(
     list: &[u16],
     work: &[u64],
@@ -88,18 +210,14 @@ pub fn distinct(
     if c == 0 {
         return 0;
     }
-    store[at] = 0;
-    let mut k = 1;
-    let mut i = 1;
-    while i < c {
-        let s = result(list, work, bound, n, m, i);
-        if found(list, work, bound, n, m, store, at, k, s) {
-            i += 1;
-            continue;
-        }
-        store[at + k] = i;
-        k += 1;
-        i += 1;
+    if c == 1 {
+        store[at] = 0;
+        return 1;
     }
-    k
+    if c == 2 {
+        return distinct_two(list, work, bound, n, m, store, at);
+    }
+    let mut keys = [0u64; 256];
+    let mut slots = [0u64; 128];
+    distinct_in(list, work, bound, n, m, c, store, at, &mut keys, &mut slots)
 }

@@ -4,7 +4,7 @@
 --     joined, areaOf            the words of slots; an area that holds them
 --     Slots                     lists of sixteen words
 -- The laws are in `Canon/Compare.antt` (the order of slots), `Canon/Sets.antt` (what comes out is ascending, and
--- depends on the members only), `Canon/Places.antt` and `Canon/Laws.antt` (areas). Assumes nothing.
+-- depends on the members only), `Canon/Members.antt`, `Canon/Places.antt` and `Canon/Laws.antt` (areas). Assumes nothing.
 use Prim.Native.Nat.{ℕ, _-_, _*_}
 use mathlib.Core.Path.{_≡_}
 use mathlib.Core.List.{List, [], _∷_, _++_}
@@ -12,6 +12,7 @@ use lib.ListN.{length, replicate}
 use Rattle.slots.specs.Slots.{Order, below, same, above, order}
 pub mod Compare
 pub mod Sets
+pub mod Members
 pub mod Places
 pub mod Laws
 

@@ -1,12 +1,15 @@
 -- Slots of sixteen words in an area (01, "Residuals": "ascending by first differing word").
 --     Order, order                  how a new slot stands to a held one, word by word
---     seek, placeIn                 the place of a slot among those held: from the first on; the last looked at first
+--     seek                          the place of a slot among those held, from one of them on
+--     middleOf, halved, narrowed    from which one: by halving, the last looked at first
+--     placeIn                       the place by both
 --     gapped, stored                words moved on by sixteen; a slot over the words from a place on
 --     insertAnswer, insertWords     holding one slot more: what is said, and the words afterwards
--- The laws are in `Slots/Laws.antt` and `Slots/Gap.antt`. Assumes nothing.
+-- The laws are in `Slots/Laws.antt`, `Slots/Narrow.antt` and `Slots/Gap.antt`. Assumes nothing.
 pub mod Laws
+pub mod Narrow
 pub mod Gap
-use Prim.Native.Nat.{ℕ, zero, suc, _+_, _-_, _*_}
+use Prim.Native.Nat.{ℕ, zero, suc, _+_, _-_, _*_, _/_}
 use mathlib.Core.List.{List, _++_}
 use mathlib.Core.Bool.{Bool, true, false, cond}
 use lib.ListN.{length, getD, take, drop}
@@ -32,7 +35,7 @@ order (suc n) a p b q =
       | false ↦ elim (ltb (getD a p 0) (getD b q 0)) [ true ↦ above | false ↦ order n a (p + 1) b (q + 1) ]
     ]
 
--- the place among n slots from the i-th on
+-- the place among the n slots from the i-th on
 abbrev pub placeBy : Order → Place → Place → Place
 placeBy below here next = here
 placeBy same here next = Held
@@ -42,15 +45,43 @@ unfoldable pub seek : ℕ → List ℕ → List ℕ → ℕ → Place
 seek zero a b i = At i
 seek (suc n) a b i = placeBy (order 16 a (i * 16) b 0) (At i) (seek n a b (i + 1))
 
--- the same place where the slots are ascending, but the last is looked at first: slots come mostly ascending
-abbrev pub lastBy : Order → Place → Place → Place
-lastBy below end search = search
-lastBy same end search = Held
-lastBy above end search = end
+-- ---- the place, by halving
 
+abbrev pub isAbove : Order → Bool
+isAbove below = false
+isAbove same = false
+isAbove above = true
+
+-- which of the slots from lo up to hi to compare with: the middle one, or none (hi) where they are at most four
+unfoldable pub middleOf : ℕ → ℕ → ℕ
+middleOf lo hi = elim (ltb 4 (hi - lo)) [ true ↦ lo + (hi - lo) / 2 | false ↦ hi ]
+
+-- the slots from lo up to hi, halved n times at most, first at the slot mid: the first of those left
+unfoldable pub halved : ℕ → List ℕ → List ℕ → ℕ → ℕ → ℕ → ℕ
+halved zero a b lo hi mid = lo
+halved (suc n) a b lo hi mid =
+    elim (ltb mid hi) [
+      | true ↦ elim (isAbove (order 16 a (mid * 16) b 0)) [
+        | true ↦ halved n a b (mid + 1) hi (middleOf (mid + 1) hi)
+        | false ↦ halved n a b lo mid (middleOf lo mid)
+      ]
+      | false ↦ lo
+    ]
+
+-- from which of n slots on to search: the last is looked at first, since slots come mostly ascending
+unfoldable pub narrowed : ℕ → List ℕ → List ℕ → ℕ
+narrowed zero a b = 0
+narrowed (suc n) a b = halved (suc n) a b 0 (suc n) n
+
+-- the place among n slots, searched from the i-th on
+abbrev pub seekFrom : ℕ → List ℕ → List ℕ → ℕ → Place
+seekFrom n a b i = seek (n - i) a b i
+
+-- where the slots are ascending, the place searched from the first on (`place-in` of `Canon/Places.antt`)
 unfoldable pub placeIn : ℕ → List ℕ → List ℕ → Place
-placeIn zero a b = At 0
-placeIn (suc n) a b = lastBy (order 16 a (n * 16) b 0) (At (suc n)) (seek (suc n) a b 0)
+placeIn n a b = seekFrom n a b (narrowed n a b)
+
+-- ---- holding one more
 
 -- the words from p up to n, moved on by sixteen
 unfoldable pub gapped : List ℕ → ℕ → ℕ → List ℕ

@@ -4,3 +4,4 @@ mod slots;
 
 pub use slots::Held;
 pub use slots::put;
+pub use slots::store;

@@ -2,10 +2,10 @@
 // where a slot belongs among those held, and holding one more. The definitions are in
 // `specs/Slots.antt`.
 ghost use mathlib.Core.Path.{_≡_};
-ghost use Prim.Native.Nat.{ℕ, _+_, _*_, _≤_};
+ghost use Prim.Native.Nat.{ℕ, _+_, _-_, _*_, _≤_};
 ghost use lib.ListN.{length};
-ghost use Rattle.slots.specs.Slots.{seek, placeIn, gapped, stored, insertAnswer};
-ghost use Rattle.slots.specs.Slots.{insertWords};
+ghost use Rattle.slots.specs.Slots.{order, isAbove, middleOf, narrowed, seek, placeIn};
+ghost use Rattle.slots.specs.Slots.{gapped, stored, insertAnswer, insertWords};
 ghost use Rattle.slots.specs.Holding.{putOne, Gave};
 
 // Where a slot belongs among those held, ascending: it is held already, or its place.
@@ -14,12 +14,68 @@ enum Place {
     At(usize),
 }
 
-// The search: slot by slot, each left at its first differing word.
-fn find_place(area: &[u64], count: usize, slot: &[u64]) -> Place
-    requires { ⌜ (count * 16 ≤ length (now area)) × (length (now slot) ≡ 16) ⌝ }
-    ensures { λ r. ⌜ r ≡ seek count (now (area .entry)) (now (slot .entry)) 0 ⌝ }
+// Whether a slot is above the held one whose words stand from p on.
+fn is_above(area: &[u64], p: usize, slot: &[u64]) -> bool
+    requires { ⌜ (p + 16 ≤ length (now area)) × (length (now slot) ≡ 16) ⌝ }
+    ensures { λ r. ⌜ r ≡ isAbove (order 16 (now (area .entry)) p (now (slot .entry)) 0) ⌝ }
 {
-    let mut i = 0;
+    let mut k = 0;
+    while k < 16 {
+        let held = area[p + k];
+        let new = slot[k];
+        if held < new {
+            return true;
+        }
+        if new < held {
+            return false;
+        }
+        k += 1;
+    }
+    false
+}
+
+// Which of the slots from low up to high to compare with: the middle one, or none, which is high,
+// where they are at most four.
+fn middle_of(low: usize, high: usize) -> usize
+    requires { ⌜ low ≤ high ⌝ }
+    ensures { λ r. ⌜ r ≡ middleOf low high ⌝ }
+{
+    if 4 < high - low {
+        return low + (high - low) / 2;
+    }
+    high
+}
+
+// From which slot on to search. Slots come mostly ascending, so the last is looked at first; then
+// those left are halved. Among ascending slots all before the one found are below the new one.
+fn narrow(area: &[u64], count: usize, slot: &[u64]) -> usize
+    requires { ⌜ (count * 16 ≤ length (now area)) × (length (now slot) ≡ 16) ⌝ }
+    ensures { λ r. ⌜ r ≡ narrowed count (now (area .entry)) (now (slot .entry)) ⌝ }
+{
+    if count == 0 {
+        return 0;
+    }
+    let mut low = 0;
+    let mut high = count;
+    let mut middle = count - 1;
+    while middle < high {
+        if is_above(area, middle * 16, slot) {
+            low = middle + 1;
+            middle = middle_of(low, high);
+            continue;
+        }
+        high = middle;
+        middle = middle_of(low, high);
+    }
+    low
+}
+
+// The search, from a slot on: slot by slot, each left at its first differing word.
+fn find_place(area: &[u64], count: usize, from: usize, slot: &[u64]) -> Place
+    requires { ⌜ (count * 16 ≤ length (now area)) × (length (now slot) ≡ 16) ⌝ }
+    ensures { λ r. ⌜ r ≡ seek (count - from) (now (area .entry)) (now (slot .entry)) from ⌝ }
+{
+    let mut i = from;
     'slots: while i < count {
         let mut j = 0;
         while j < 16 {
@@ -39,29 +95,13 @@ fn find_place(area: &[u64], count: usize, slot: &[u64]) -> Place
     Place::At(i)
 }
 
-// The place of a slot among those held, ascending: slots come mostly ascending, so the last is
-// looked at before the search.
+// The place of a slot among those held, ascending.
 fn place_of(area: &[u64], count: usize, slot: &[u64]) -> Place
     requires { ⌜ (count * 16 ≤ length (now area)) × (length (now slot) ≡ 16) ⌝ }
     ensures { λ r. ⌜ r ≡ placeIn count (now (area .entry)) (now (slot .entry)) ⌝ }
 {
-    if count == 0 {
-        return Place::At(0);
-    }
-    let p = (count - 1) * 16;
-    let mut k = 0;
-    while k < 16 {
-        let held = area[p + k];
-        let new = slot[k];
-        if held < new {
-            return Place::At(count);
-        }
-        if new < held {
-            return find_place(area, count, slot);
-        }
-        k += 1;
-    }
-    Place::Held
+    let from = narrow(area, count, slot);
+    find_place(area, count, from, slot)
 }
 
 // Moves the words from p up to n on by sixteen.
@@ -78,7 +118,7 @@ fn open_gap(area: &mut [u64], p: usize, n: usize)
 }
 
 // Stores a slot's words from p on.
-fn store(area: &mut [u64], p: usize, slot: &[u64])
+pub fn store(area: &mut [u64], p: usize, slot: &[u64])
     requires { ⌜ (p + 16 ≤ length (now area)) × (length (now slot) ≡ 16) ⌝ }
     ensures { λ _. ⌜ now (area .exit) ≡ stored (now (area .entry)) p (now (slot .entry)) 16 ⌝ }
 {

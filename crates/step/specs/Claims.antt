@@ -2,10 +2,9 @@
 -- The proof of each is in `proofs/Theorems.antt`, under the same name.
 --     StepHolds       the slots of the residuals after the event, where they fit
 --     StepExceeds     no room, where they do not
---     Examples        the worked examples, in `Examples.antt`
--- The first two are of `putAll .. (gathered ..)`, the value that `step_set` promises, from a zeroed area of `most`
--- slots,
--- where an area holds the residuals `rs`. Assumes nothing.
+--     Examples, WayExamples        the worked examples, in `Examples.antt`
+-- The first two are of `putAll` of slots with the members of `gathered ..`, as `step_set` promises, from a zeroed area
+-- of `most` slots, where an area holds the residuals `rs`. Assumes nothing.
 use Prim.Native.Nat.{ℕ, _*_, _<_, _≤_}
 use mathlib.Core.Path.{_≡_}
 use mathlib.Core.List.{List}
@@ -15,6 +14,7 @@ use Rattle.slots.specs.declared.slots.Held.the-variants.{Count, Exceeded}
 use Rattle.slots.specs.Holding.{said, putAll}
 use Rattle.residual.specs.Residual.{Residual}
 use Rattle.slots.specs.Canon.{areaOf}
+use Rattle.slots.specs.Canon.Sets.{SameMembers}
 use Rattle.step.specs.Stepped.{gathered, Source}
 use Rattle.step.specs.Successors.{Holds, allAfter, canon}
 
@@ -23,13 +23,15 @@ use Rattle.step.specs.Successors.{Holds, allAfter, canon}
 unfoldable pub StepHolds : Type 0
 StepHolds =
     (t : Table) (e : ℕ) (src : List ℕ) (rs : List Residual) → Holds t src 0 rs → Source t e src (length rs)
-    → (most : ℕ) → length (canon (allAfter t e rs)) ≤ most
-    → putAll (replicate (most * 16) 0) 0 (gathered t e src (length rs) 0)
+    → (most : ℕ) (xs : List (List ℕ)) → SameMembers xs (gathered t e src (length rs) 0)
+    → length (canon (allAfter t e rs)) ≤ most
+    → putAll (replicate (most * 16) 0) 0 xs
     ≡ said (Count (length (canon (allAfter t e rs)))) (areaOf most (canon (allAfter t e rs)))
 
 -- 01, "When the monitor declines": "crowded", exactly where they are more
 unfoldable pub StepExceeds : Type 0
 StepExceeds =
     (t : Table) (e : ℕ) (src : List ℕ) (rs : List Residual) → Holds t src 0 rs → Source t e src (length rs)
-    → (most : ℕ) → most < length (canon (allAfter t e rs))
-    → (putAll (replicate (most * 16) 0) 0 (gathered t e src (length rs) 0)) .held ≡ Exceeded
+    → (most : ℕ) (xs : List (List ℕ)) → SameMembers xs (gathered t e src (length rs) 0)
+    → most < length (canon (allAfter t e rs))
+    → (putAll (replicate (most * 16) 0) 0 xs) .held ≡ Exceeded

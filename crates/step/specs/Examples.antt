@@ -1,14 +1,17 @@
--- Worked tables on the definitions: how many residuals stand at the start and after each of two events. Rows of one
--- statement, by computing. Assumes nothing.
+-- Worked tables on the definitions: how many residuals stand at the start and after each of two events; the way of the
+-- first residual at an event. Rows of one statement each, by computing. Assumes nothing.
 use Prim.Native.Nat.{ℕ}
-use mathlib.Core.Bool.{Bool, true, _&&_}
+use mathlib.Core.Bool.{Bool, true, false, _&&_}
 use mathlib.Core.List.{List, [], _∷_}
 use lib.ListN.{length}
 use lib.Dec.{T}
 use Rattle.table.specs.Table.{fixed, family, Term, stop, fail, prefix, choice, par, call, one, each, Definition}
 use Rattle.table.specs.Table.{Table}
-use Rattle.residual.specs.Residual.{resolved}
+use Rattle.moves.specs.declared.only.Way.{Way}
+use Rattle.moves.specs.declared.only.Way.the-variants.{Still, Moving, Many}
+use Rattle.residual.specs.Residual.{resolved, nth}
 use Rattle.residual.specs.Distinct.{sameWords}
+use Rattle.moves.specs.Only.{wayOf}
 use Rattle.step.specs.Successors.{allAfter, canon}
 
 -- {0}, {}, {1}, {0, 1}, and the family with row 0 {1}, row 1 {0}, row 2 {}
@@ -102,3 +105,46 @@ rows =
 
 unfoldable pub Examples : Type 0
 Examples = T (every rows)
+
+-- ---- ways
+
+-- a way in numbers: 0 no result; 1 moves, with their bits and whether it is one result; 2 perhaps others
+abbrev pub wayNumbers : Way → List ℕ
+wayNumbers Still = 0 ∷ []
+wayNumbers (Moving m) = 1 ∷ m .each ∷ m .also ∷ elim (m .lone) [ true ↦ 1 | false ↦ 0 ] ∷ []
+wayNumbers Many = 2 ∷ []
+
+pub record WayRow : Type 0 where
+  pub table : Table
+  pub event : ℕ
+  pub way : List ℕ
+
+unfoldable pub wayHolds : WayRow → Bool
+wayHolds r = sameWords (wayNumbers (wayOf (r .table) (r .event) (nth (resolved (r .table) 0 0) 0))) (r .way)
+
+abbrev pub everyWay : List WayRow → Bool
+everyWay [] = true
+everyWay (r ∷ rs) = wayHolds r && everyWay rs
+
+-- 0, then one of two
+abbrev pub two : Term
+two = a (choice (b stop) (a stop))
+
+abbrev pub wayRows : List WayRow
+wayRows =
+    -- a leaf: not this event; one result; two
+    record { table = alone (b stop); event = 0; way = 0 ∷ [] }
+    ∷ record { table = alone (a stop); event = 0; way = 1 ∷ 1 ∷ 0 ∷ 1 ∷ [] }
+    ∷ record { table = alone two; event = 0; way = 1 ∷ 1 ∷ 0 ∷ 0 ∷ [] }
+    -- one side at a time: either leaf
+    ∷ record { table = alone (par (fixed 1) (a stop) two); event = 0; way = 1 ∷ 6 ∷ 0 ∷ 0 ∷ [] }
+    -- both sides together: the right leaf, the left with it
+    ∷ record { table = alone (par (fixed 0) (a stop) (a stop)); event = 0; way = 1 ∷ 4 ∷ 2 ∷ 1 ∷ [] }
+    ∷ record { table = alone (par (fixed 0) (a stop) two); event = 0; way = 1 ∷ 4 ∷ 2 ∷ 0 ∷ [] }
+    ∷ record { table = alone (par (fixed 0) two (a stop)); event = 0; way = 1 ∷ 2 ∷ 4 ∷ 0 ∷ [] }
+    -- each pair of two and two
+    ∷ record { table = alone (par (fixed 0) two two); event = 0; way = 2 ∷ [] }
+    ∷ []
+
+unfoldable pub WayExamples : Type 0
+WayExamples = T (everyWay wayRows)

@@ -1,7 +1,5 @@
 -- The step in reading order: one residual and one event, a whole set and one event, and what that comes to; the
 -- residuals of a definition. Assumes nothing.
-pub mod Takes
-pub mod Only
 pub mod Prepared
 pub mod Stepped
 pub mod Successors

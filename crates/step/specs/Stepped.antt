@@ -2,7 +2,8 @@
 --     slotNodes              the node words of the i-th slot of an area
 --     gathered               the slots of all results of n residuals, from the i-th on
 --     SoundSlot, Source      what a step asks of the area it starts from
---     StepsOne, steppedOne   one residual: what its step asks, and what it gives
+--     StepsOne, steppedOne   one residual: what its step asks, and its results held
+--     SteppedOne, SteppedSet what is given: slots with the members of these are held
 -- The laws are in `Stepped/One.antt` (one residual) and `Stepped/Laws.antt` (a set). Assumes nothing.
 use Prim.Native.Nat.{ℕ, zero, suc, _+_, _*_, _<_, _≤_}
 use mathlib.Core.Path.{_≡_}
@@ -12,8 +13,10 @@ use Rattle.table.specs.Table.{Table}
 use Rattle.residual.specs.Distinct.{window, empty}
 use Rattle.residual.specs.Residual.{Residual, words}
 use Rattle.walk.specs.Walk.{room, results, onto}
-use Rattle.slots.specs.Holding.{Outcome, putAll}
+use Rattle.slots.specs.Holding.{Outcome, putAll, Gave}
 use Rattle.walk.specs.Forest.{Valid}
+use Rattle.slots.specs.Canon.Sets.{SameMembers}
+use Rattle.slots.specs.declared.slots.Held.{Held}
 pub mod One
 pub mod Laws
 
@@ -48,3 +51,17 @@ pub record StepsOne (t : Table) (bound e : ℕ) (src : List ℕ) (i : ℕ) (stor
 -- the results of the i-th residual, held
 unfoldable pub steppedOne : Table → ℕ → List ℕ → ℕ → List ℕ → ℕ → Outcome
 steppedOne t e src i dst c = putAll dst c (onto empty (results t e (slotNodes src i) 1))
+
+-- what is given: some slots are held, whose members are those of the results of the i-th residual
+pub record SteppedOne (t : Table) (e : ℕ) (src : List ℕ) (i : ℕ) (dst : List ℕ) (c : ℕ) (r : Held) (dst' : List ℕ)
+    : Type 0 where
+  pub slots : List (List ℕ)
+  pub members : SameMembers slots (onto empty (results t e (slotNodes src i) 1))
+  pub gave : Gave (putAll dst c slots) r dst'
+
+-- the same of n residuals
+pub record SteppedSet (t : Table) (e : ℕ) (src : List ℕ) (n : ℕ) (dst : List ℕ) (r : Held) (dst' : List ℕ)
+    : Type 0 where
+  pub slots : List (List ℕ)
+  pub members : SameMembers slots (gathered t e src n 0)
+  pub gave : Gave (putAll dst 0 slots) r dst'

@@ -4,7 +4,7 @@
 --     Holds                the slots of an area, from the i-th on, are those of residuals
 --     allAfter, allKept    the residuals after an event, of all; with each leaf's repeats dropped
 --     slotsOf, canon       the slots of residuals; ascending, none twice
--- The laws are in `Successors/Laws.antt` and `Successors/Members.antt`. Assumes nothing.
+-- The laws are in `Successors/Laws.antt`. Assumes nothing.
 use Prim.Native.Nat.{ℕ, _+_}
 use mathlib.Core.Path.{_≡_}
 use mathlib.Core.List.{List, [], _∷_, _++_, map}
@@ -15,7 +15,6 @@ use Rattle.walk.specs.Walk.{onto}
 use Rattle.walk.specs.Forest.{Valid, afterKept}
 use Rattle.step.specs.Stepped.{slotNodes}
 use Rattle.slots.specs.Canon.{canonFrom}
-pub mod Members
 pub mod Laws
 
 -- the slots of an area, from the i-th on, are those of residuals

@@ -1,9 +1,10 @@
 // A set of residuals and one event: all results of all residuals, held in another area. The
 // definitions are in `specs/Prepared.antt` and `specs/Stepped.antt`; `specs/Claims.antt` says what
 // they come to.
-use crate::only::Way;
-use crate::only::rebuild;
-use crate::only::way_of;
+use moves::Way;
+use moves::rebuild;
+use moves::step_moves;
+use moves::way_of;
 use residual::distinct;
 use residual::holds_at;
 use residual::kind_at;
@@ -14,14 +15,14 @@ use slots::Held;
 use slots::put;
 use walk::walk;
 ghost use mathlib.Core.Path.{_≡_};
-ghost use Prim.Native.Nat.{ℕ, _+_, _*_, _<_, _≤_};
-ghost use lib.ListN.{length, getD, take};
+ghost use Prim.Native.Nat.{_+_, _*_, _<_, _≤_};
+ghost use lib.ListN.{length, take};
 ghost use Rattle.table.specs.Index.{tableIn, Indexed};
 ghost use Rattle.residual.specs.Distinct.{window};
-ghost use Rattle.slots.specs.Holding.{putAll, Gave};
+ghost use Rattle.slots.specs.Holding.{Gave};
 ghost use Rattle.walk.specs.Course.{nodeCount, Ready};
 ghost use Rattle.step.specs.Prepared.{Sound, Filled};
-ghost use Rattle.step.specs.Stepped.{gathered, Source, StepsOne, steppedOne};
+ghost use Rattle.step.specs.Stepped.{Source, StepsOne, steppedOne, SteppedOne, SteppedSet};
 
 // Fills node k's part of the store: the number of its results and their indices.
 fn prepare_node(list: &[u16], work: &[u64], bound: usize, e: u64, store: &mut [u64], k: usize)
@@ -100,7 +101,8 @@ fn step_many(
     walk(list, work, store, bound, e, 1, 1, [0u64; 16], dst, c)
 }
 
-// The same; a residual that has no result or one needs no store.
+// Holds all results of the i-th residual of an area in another; only where its moves do not say them
+// is the store needed.
 fn step_one(
     list: &[u16],
     work: &[u64],
@@ -115,14 +117,35 @@ fn step_one(
     requires { ⌜ Indexed (now list) (now work) ⌝ }
     requires { ⌜ StepsOne (tableIn (now list)) bound e (now src) i (now store) (now dst) c ⌝ }
     ensures { λ r.
-        ⌜ Gave (steppedOne (tableIn (now (list .entry))) e (now (src .entry)) i (now (dst .entry)) c)
+        ⌜ SteppedOne (tableIn (now (list .entry))) e (now (src .entry)) i (now (dst .entry)) c
         r (now (dst .exit)) ⌝ }
 {
     let at = i * 16;
     let n = src[at] as usize;
     match way_of(list, work, src, at + 1, n, e) {
         Way::Still => Held::Count(c),
-        Way::One(marks) => { put(dst, c, rebuild(list, work, bound, e, src, at + 1, n, marks)) }
+        Way::Moving(moves) => {
+            if moves.lone {
+                let marks = moves.each + moves.also;
+                return put(dst, c, rebuild(list, work, bound, e, src, at + 1, n, marks));
+            }
+            let each = moves.each;
+            let also = moves.also;
+            step_moves(
+                list,
+                work,
+                bound,
+                e,
+                src,
+                at + 1,
+                n,
+                each,
+                also,
+                [0u64; 16],
+                dst,
+                c,
+            )
+        }
         Way::Many => step_many(list, work, bound, e, src, i, store, dst, c),
     }
 }
@@ -142,8 +165,7 @@ pub fn step_set(
     requires { ⌜ Source (tableIn (now list)) e (now src) n ⌝ }
     requires { ⌜ length (now store) ≡ 4112 ⌝ }
     ensures { λ r.
-        ⌜ Gave (putAll (now (dst .entry)) 0
-        (gathered (tableIn (now (list .entry))) e (now (src .entry)) n 0))
+        ⌜ SteppedSet (tableIn (now (list .entry))) e (now (src .entry)) n (now (dst .entry))
         r (now (dst .exit)) ⌝ }
 {
     let bound = index::definition_count(list, work);

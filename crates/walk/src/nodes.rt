@@ -6,7 +6,7 @@ use residual::kind_at;
 use residual::memory_of;
 use residual::push;
 use residual::remember;
-use residual::resolve_term;
+use residual::resolve_at;
 use residual::term_of;
 use slots::Held;
 use slots::put;
@@ -235,7 +235,7 @@ fn walk_leaf(
     let mut j = 0;
     while j < f {
         let i = store[k * 257 + 1 + j as usize];
-        let s = resolve_term(list, work, bound, t + 1, m, i, slot);
+        let s = resolve_at(list, work, bound, t + 1, m, i, slot);
         match walk(list, work, store, bound, e, k + 1, rest, s, area, c) {
             Held::Count(d) => {
                 c = d;

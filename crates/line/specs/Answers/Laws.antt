@@ -22,10 +22,10 @@ use Rattle.table.specs.declared.answer.Refusal.{Refusal}
 use Rattle.monitor_spec.specs.State.{Verdict, Outcome}
 use Rattle.state.specs.declared.record.Verdict.the-variants as verdict
 use Rattle.state.specs.declared.record.State.{State}
-use Rattle.monitor.specs.declared.answer.Answer as answer
-use Rattle.monitor.specs.declared.answer.Answer.the-variants as gave
+use Rattle.state.specs.declared.answer.Answer as answer
+use Rattle.state.specs.declared.answer.Answer.the-variants as gave
 use Rattle.state.specs.Record.{verdictOf, stateOf, monitorOf}
-use Rattle.monitor.specs.Answers.{outcome}
+use Rattle.state.specs.Answers.{outcome}
 use Rattle.line.specs.declared.answer.Head as head
 use Rattle.line.specs.declared.answer.Head.the-variants.{Parts, Wrong}
 use Rattle.line.specs.declared.answer.Line as code

@@ -26,11 +26,11 @@ use Rattle.monitor_spec.specs.Valid.Laws.{and-split}
 use Rattle.monitor_spec.specs.State.{Outcome}
 use Rattle.monitor_spec.specs.Start.{startOf}
 use Rattle.monitor_spec.specs.Feed.{feedOf}
-use Rattle.monitor.specs.declared.answer.Answer as code
-use Rattle.monitor.specs.declared.answer.Answer.the-variants as gave
+use Rattle.state.specs.declared.answer.Answer as code
+use Rattle.state.specs.declared.answer.Answer.the-variants as gave
 use Rattle.state.specs.declared.record.State.{State}
 use Rattle.state.specs.Record.{stateOf, monitorOf}
-use Rattle.monitor.specs.Answers.{outcome}
+use Rattle.state.specs.Answers.{outcome}
 use Rattle.line.specs.declared.answer.Opened.{Opened}
 use Rattle.line.specs.declared.answer.Opened.the-variants.{Started, Refused}
 use Rattle.line.specs.declared.answer.Head as headCode

@@ -6,17 +6,17 @@ use lib.ListN.{length}
 use borrow.Author.Tests.{eq-eqb, ne-eqb}
 use Rattle.state.specs.declared.record.State.{State as StateCode}
 use Rattle.table.specs.declared.answer.Refusal.{Refusal}
-use Rattle.monitor.specs.declared.answer.Answer as code
-use Rattle.monitor.specs.declared.answer.Answer.the-variants.{Given, Refused, Stopped}
-use Rattle.monitor.specs.declared.answer.Offered as offer
-use Rattle.monitor.specs.declared.answer.Offered.the-variants as variant
+use Rattle.state.specs.declared.answer.Answer as code
+use Rattle.state.specs.declared.answer.Answer.the-variants.{Given, Refused, Stopped}
+use Rattle.state.specs.declared.answer.Offered as offer
+use Rattle.state.specs.declared.answer.Offered.the-variants as variant
 use Rattle.monitor_spec.specs.State.{State, Outcome}
 use Rattle.monitor_spec.specs.Start.{startOf}
 use Rattle.monitor_spec.specs.Feed.{feedOf}
 use Rattle.monitor_spec.specs.Offer.{offerOf}
 use Rattle.monitor_spec.specs.View.{viewOf}
 use Rattle.state.specs.Record.{stateOf, monitorOf}
-use Rattle.monitor.specs.Answers.{answerOf, outcome, offeredOf, offerOutcome}
+use Rattle.state.specs.Answers.{answerOf, outcome, offeredOf, offerOutcome}
 use Rattle.monitor_c.specs.Words.{recordMeasured, stateIn, wordsOf}
 use Rattle.monitor_c.specs.Calls.{numberOf, placeOf, recordAfter, Told, said, monitorCall, monitorIn, unmeasured}
 use Rattle.monitor_c.specs.Calls.{startCall, feedCall}

@@ -2,19 +2,20 @@
 --     placeAmong                 the place by the list
 --     Split, split-at            what a place says of the list
 --     held-same                  a slot that is held
---     place-in                   among ascending slots the last may be looked at first
+--     place-in                   among ascending slots the last may be looked at first and the search be narrowed
 -- Assumes nothing.
-use Prim.Native.Nat.{ℕ, zero, suc, _+_, _*_, _≤_}
+use Prim.Native.Nat.{ℕ, zero, suc, _+_, _*_, _≤_, _<_}
 use native.Mathlib.Omega.{arith}
 use mathlib.Core.Path.{_≡_, refl, ap, sym, _∙_}
 use mathlib.Core.List.{List, [], _∷_, _++_, append-assoc}
 use lib.ListN.{length, getD, length-append, List·getD-append}
 use lib.Seq.{getD-append-add}
-use Rattle.slots.specs.Slots.{Order, below, same, above, order, seek, placeBy, lastBy, placeIn}
+use Rattle.slots.specs.Slots.{Order, below, same, above, order, seek, placeBy, isAbove, placeIn}
+use Rattle.slots.specs.Slots.Narrow.{Ascends, above-of, place-seek}
 use Rattle.slots.specs.declared.slots.Place.{Place}
 use Rattle.slots.specs.declared.slots.Place.the-variants as place
 use Rattle.slots.specs.Canon.{insertSlot, joined, Slots}
-use Rattle.slots.specs.Canon.Compare.{stepOrder, order-step, cmp, order-cmp, cmp-same, cmp-trans}
+use Rattle.slots.specs.Canon.Compare.{stepOrder, order-step, cmp, order-cmp, cmp-trans}
 use Rattle.slots.specs.Canon.Sets.{AllAbove, Sorted}
 
 -- ---- the search in an area
@@ -118,84 +119,56 @@ unfolding placeAmong
 held-same [] s i e = at-not-held e
 held-same (y ∷ ys) s i e = held-by (order 16 y 0 s 0) y ys s i refl e (held-same ys s (i + 1))
 
--- ---- the last slot
+-- ---- the i-th slot
 
-lastOf : List ℕ → List (List ℕ) → List ℕ
-lastOf y [] = y
-lastOf y (x ∷ ys) = lastOf x ys
+abbrev slotAt : List (List ℕ) → ℕ → List ℕ
+slotAt ys i = getD ys i []
 
-last-slot : (y : List ℕ) (ys : List (List ℕ)) → Slots (y ∷ ys) → length (lastOf y ys) ≡ 16
-unfolding lastOf
-last-slot y [] v = v .0
-last-slot y (x ∷ ys) v = last-slot x ys (v .1)
+slot-at : (ys : List (List ℕ)) (i : ℕ) → Slots ys → i < length ys → length (slotAt ys i) ≡ 16
+slot-at [] i v h = absurd (omega arith)
+slot-at (y ∷ ys) zero v h = v .0
+slot-at (y ∷ ys) (suc i) v h = slot-at ys i (v .1) (omega arith)
 
-last-above : (y x : List ℕ) (ys : List (List ℕ)) → AllAbove y (x ∷ ys) → cmp y (lastOf x ys) ≡ above
-unfolding lastOf
-last-above y x [] v = v .0
-last-above y x (z ∷ ys) v = last-above y z ys (v .1)
+order-at : (ys : List (List ℕ)) (pre zs s : List ℕ) (k i : ℕ) → length pre ≡ k * 16 → Slots ys → i < length ys
+    → order 16 (pre ++ (joined ys ++ zs)) ((k + i) * 16) s 0 ≡ order 16 (slotAt ys i) 0 s 0
+order-at [] pre zs s k i h v l = absurd (omega arith)
+order-at (y ∷ ys) pre zs s k zero h v l =
+    let z : (k + 0) * 16 ≡ k * 16 = omega arith in
+    ap (λ (n : ℕ). order 16 (pre ++ (joined (y ∷ ys) ++ zs)) n s 0) z ∙ order-first y ys pre zs s k h (v .0)
+order-at (y ∷ ys) pre zs s k (suc i) h v l =
+    let z : (k + suc i) * 16 ≡ (k + 1 + i) * 16 = omega arith in
+    ap (λ (n : ℕ). order 16 (pre ++ (joined (y ∷ ys) ++ zs)) n s 0) z
+    ∙ ap (λ (w : List ℕ). order 16 w ((k + 1 + i) * 16) s 0) (past y ys pre zs)
+    ∙ order-at ys (pre ++ y) zs s (k + 1) i (length-append pre y ∙ omega (arith, v .0)) (v .1) (omega arith)
 
-order-last : (y : List ℕ) (ys : List (List ℕ)) (pre zs s : List ℕ) (i : ℕ) → length pre ≡ i * 16 → Slots (y ∷ ys)
-    → order 16 (pre ++ (joined (y ∷ ys) ++ zs)) ((i + length ys) * 16) s 0 ≡ order 16 (lastOf y ys) 0 s 0
-unfolding lastOf
-order-last y [] pre zs s i h v =
-    let z : (i + 0) * 16 ≡ i * 16 = omega arith in
-    ap (λ (k : ℕ). order 16 (pre ++ (joined (y ∷ []) ++ zs)) k s 0) z ∙ order-first y [] pre zs s i h (v .0)
-order-last y (x ∷ ys) pre zs s i h v =
-    let z : (i + suc (length ys)) * 16 ≡ (i + 1 + length ys) * 16 = omega arith in
-    ap (λ (k : ℕ). order 16 (pre ++ (joined (y ∷ (x ∷ ys)) ++ zs)) k s 0) z
-    ∙ ap (λ (l : List ℕ). order 16 l ((i + 1 + length ys) * 16) s 0) (past y (x ∷ ys) pre zs)
-    ∙ order-last x ys (pre ++ y) zs s (i + 1) (length-append pre y ∙ omega (arith, v .0)) (v .1)
+first-below : (y : List ℕ) (ys : List (List ℕ)) (i : ℕ) → AllAbove y ys → i < length ys → cmp y (slotAt ys i) ≡ above
+first-below y [] i u h = absurd (omega arith)
+first-below y (x ∷ ys) zero u h = u .0
+first-below y (x ∷ ys) (suc i) u h = first-below y ys i (u .1) (omega arith)
 
--- where all slots are below s, but for the last: the place by the last
-module _ (s : List ℕ) (es : length s ≡ 16) where
-  pass : (y : List ℕ) (ys : List (List ℕ)) (i : ℕ) → length y ≡ 16 → cmp y s ≡ above
-      → placeAmong (y ∷ ys) s i ≡ placeAmong ys s (i + 1)
-  unfolding placeAmong
-  pass y ys i w e = rw (order-cmp 16 y s w es, e)
+-- what is above a slot is above those before it
+above-earlier : (ys : List (List ℕ)) (s : List ℕ) (i j : ℕ) → Sorted ys → i ≤ j → j < length ys
+    → cmp (slotAt ys j) s ≡ above → cmp (slotAt ys i) s ≡ above
+above-earlier [] s i j u h l e = absurd (omega arith)
+above-earlier (y ∷ ys) s zero zero u h l e = e
+above-earlier (y ∷ ys) s zero (suc j) u h l e =
+    cmp-trans y (slotAt ys j) s (first-below y ys j (u .0) (omega arith)) e
+above-earlier (y ∷ ys) s (suc i) zero u h l e = absurd (omega arith)
+above-earlier (y ∷ ys) s (suc i) (suc j) u h l e = above-earlier ys s i j (u .1) (omega arith) (omega arith) e
 
-  above-all : (y : List ℕ) (ys : List (List ℕ)) (i : ℕ) → Slots (y ∷ ys) → Sorted (y ∷ ys)
-      → cmp (lastOf y ys) s ≡ above → placeAmong (y ∷ ys) s i ≡ place.At (i + suc (length ys))
-  unfolding placeAmong lastOf
-  above-all y [] i v u e = pass y [] i (v .0) e
-  above-all y (x ∷ ys) i v u e =
-      let z : i + 1 + suc (length ys) ≡ i + suc (suc (length ys)) = omega arith in
-      pass y (x ∷ ys) i (v .0) (cmp-trans y (lastOf x ys) s (last-above y x ys (u .0)) e)
-      ∙ above-all x ys (i + 1) (v .1) (u .1) e ∙ ap place.At z
+module _ (s : List ℕ) (es : length s ≡ 16) (xs : List (List ℕ)) (zs : List ℕ) (v : Slots xs) where
+  cmp-at : (i : ℕ) → i < length xs → order 16 (joined xs ++ zs) (i * 16) s 0 ≡ cmp (slotAt xs i) s
+  cmp-at i h =
+      let z : i * 16 ≡ (0 + i) * 16 = omega arith in
+      ap (λ (k : ℕ). order 16 (joined xs ++ zs) k s 0) z ∙ order-at xs [] zs s 0 i refl v h
+      ∙ order-cmp 16 (slotAt xs i) s (slot-at xs i v h) es
 
-  same-last : (y : List ℕ) (ys : List (List ℕ)) (i : ℕ) → Slots (y ∷ ys) → Sorted (y ∷ ys)
-      → cmp (lastOf y ys) s ≡ same → placeAmong (y ∷ ys) s i ≡ place.Held
-  unfolding placeAmong lastOf
-  same-last y [] i v u e = rw (order-cmp 16 y s (v .0) es, e)
-  same-last y (x ∷ ys) i v u e =
-      let f : lastOf x ys ≡ s = cmp-same (lastOf x ys) s (last-slot x ys (v .1) ∙ sym es) e in
-      pass y (x ∷ ys) i (v .0) (rw f at (last-above y x ys (u .0))) ∙ same-last x ys (i + 1) (v .1) (u .1) e
-
-  by-last : (o : Order) (y : List ℕ) (ys : List (List ℕ)) → Slots (y ∷ ys) → Sorted (y ∷ ys)
-      → cmp (lastOf y ys) s ≡ o
-      → lastBy o (place.At (suc (length ys))) (placeAmong (y ∷ ys) s 0) ≡ placeAmong (y ∷ ys) s 0
-  by-last below y ys v u e = refl
-  by-last same y ys v u e = sym (same-last y ys 0 v u e)
-  by-last above y ys v u e =
-      let z : suc (length ys) ≡ 0 + suc (length ys) = omega arith in ap place.At z ∙ sym (above-all y ys 0 v u e)
-
-  none : place.At 0 ≡ placeAmong [] s 0
-  unfolding placeAmong
-  none = refl
-
-  last-in : (y : List ℕ) (ys : List (List ℕ)) (zs : List ℕ) → Slots (y ∷ ys)
-      → order 16 (joined (y ∷ ys) ++ zs) (length ys * 16) s 0 ≡ cmp (lastOf y ys) s
-  last-in y ys zs v =
-      let z : length ys * 16 ≡ (0 + length ys) * 16 = omega arith in
-      ap (λ (k : ℕ). order 16 (joined (y ∷ ys) ++ zs) k s 0) z ∙ order-last y ys [] zs s 0 refl v
-      ∙ order-cmp 16 (lastOf y ys) s (last-slot y ys v) es
+  ascends : Sorted xs → Ascends (joined xs ++ zs) s (length xs)
+  ascends u i j h l e =
+      ap isAbove (cmp-at i (omega arith)
+      ∙ above-earlier xs s i j u h l (sym (cmp-at j l) ∙ above-of _ e))
 
   -- among ascending slots in an area
-  pub place-in : (xs : List (List ℕ)) (zs : List ℕ) → Slots xs → Sorted xs
-      → placeIn (length xs) (joined xs ++ zs) s ≡ placeAmong xs s 0
-  unfolding placeIn
-  place-in [] zs v u = none
-  place-in (y ∷ ys) zs v u =
-      ap (λ (o : Order). lastBy o (place.At (suc (length ys))) (seek (suc (length ys)) (joined (y ∷ ys) ++ zs) s 0))
-      (last-in y ys zs v)
-      ∙ ap (λ (q : Place). lastBy (cmp (lastOf y ys) s) (place.At (suc (length ys))) q)
-      (seek-in (y ∷ ys) [] zs s 0 refl v) ∙ by-last (cmp (lastOf y ys) s) y ys v u refl
+  pub place-in : Sorted xs → placeIn (length xs) (joined xs ++ zs) s ≡ placeAmong xs s 0
+  place-in u =
+      place-seek (joined xs ++ zs) s (length xs) (ascends u) ∙ seek-in xs [] zs s 0 refl v

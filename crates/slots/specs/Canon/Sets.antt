@@ -1,5 +1,5 @@
 -- Slots put in one after the other: what comes out depends on the members only.
---     Mem, AllAbove, Sorted                     a member of a list; ascending slots
+--     Mem, SameMembers, AllAbove, Sorted        a member of a list; the same members; ascending slots
 --     insert-slots, insert-sorted, canon-members     one slot more; equal members, equal slots
 -- Assumes nothing.
 use Prim.Native.Nat.{ℕ}
@@ -17,6 +17,9 @@ use Rattle.slots.specs.Canon.Compare.{cmp-above-below, cmp-below-above}
 abbrev pub Mem : List ℕ → List (List ℕ) → Type 0
 Mem z [] = ⊥
 Mem z (x ∷ l) = (z ≡ x) ⊎ Mem z l
+
+abbrev pub SameMembers : List (List ℕ) → List (List ℕ) → Type 0
+SameMembers a b = ((z : List ℕ) → Mem z a → Mem z b) × ((z : List ℕ) → Mem z b → Mem z a)
 
 abbrev pub AllAbove : List ℕ → List (List ℕ) → Type 0
 AllAbove a [] = Unit

@@ -1,7 +1,6 @@
 -- Where a slot belongs and what insertion does, case by case. The numbers that a step changes are given by equations.
 --     order-none, -below, -above, -on      the words of two slots
 --     seek-none, -here, -held, -on, -bound the slots of an area
---     place-none, -held, -end, -search, -bound     the same, the last slot looked at first
 --     insert-held, -full, -new             insertion, by the place found
 -- Assumes nothing.
 use Prim.Native.Nat.{ℕ, zero, suc, _+_, _-_, _*_, _≤_, _<_}
@@ -13,7 +12,7 @@ use borrow.Author.Tests.{le-ltb, lt-ltb}
 use Rattle.slots.specs.declared.slots.Place.{Place}
 use Rattle.slots.specs.declared.slots.Place.the-variants.{Held, At}
 use Rattle.slots.specs.declared.slots.Inserted.the-variants as ins
-use Rattle.slots.specs.Slots.{Order, below, same, above, order, placeBy, seek, lastBy, placeIn, gapped, stored}
+use Rattle.slots.specs.Slots.{Order, below, same, above, order, placeBy, seek, placeIn, gapped, stored}
 use Rattle.slots.specs.Slots.{insertAnswer, insertWords}
 
 module _ (a b : List ℕ) where
@@ -70,38 +69,6 @@ module _ (a b : List ℕ) where
   unfolding seek
   seek-bound zero i j e = let h : j ≡ i = cc in omega arith
   seek-bound (suc n) i j e = bound-by (order 16 a (i * 16) b 0) n i j (seek n a b (i + 1)) (seek-bound n (i + 1) j) e
-
-  pub place-none : (n : ℕ) → n ≡ 0 → At 0 ≡ placeIn n a b
-  unfolding placeIn
-  place-none n e = rw e
-
-  place-by : (n p : ℕ) (o : Order) → 0 < n → p ≡ (n - 1) * 16 → order 16 a p b 0 ≡ o
-      → lastBy o (At n) (seek n a b 0) ≡ placeIn n a b
-  unfolding placeIn
-  place-by zero p o z e h = absurd (omega arith)
-  place-by (suc n) p o z e h = let f : p ≡ n * 16 = omega arith in rw (← f, h)
-
-  module _ (n p : ℕ) (z : 0 < n) (e : p ≡ (n - 1) * 16) where
-    pub place-held : order 16 a p b 0 ≡ same → Held ≡ placeIn n a b
-    place-held h = place-by n p same z e h
-
-    pub place-end : order 16 a p b 0 ≡ above → At n ≡ placeIn n a b
-    place-end h = place-by n p above z e h
-
-    pub place-search : order 16 a p b 0 ≡ below → seek n a b 0 ≡ placeIn n a b
-    place-search h = place-by n p below z e h
-
-  last-bound : (o : Order) (n j : ℕ) (search : Place) → ((At j ≡ search) → j ≤ n) → At j ≡ lastBy o (At n) search
-      → j ≤ n
-  last-bound below n j search ih e = ih e
-  last-bound same n j search ih e = let z : _≡_ {A = ℕ} 0 1 = cc in omega arith
-  last-bound above n j search ih e = let h : j ≡ n = cc in omega arith
-
-  pub place-bound : (n j : ℕ) → At j ≡ placeIn n a b → j ≤ n
-  unfolding placeIn
-  place-bound zero j e = let h : j ≡ 0 = cc in omega arith
-  place-bound (suc n) j e =
-      last-bound (order 16 a (n * 16) b 0) (suc n) j _ (λ h. omega (arith, seek-bound (suc n) 0 j h)) e
 
 -- insertion, by the place found
 module _ (l s : List ℕ) (count : ℕ) where

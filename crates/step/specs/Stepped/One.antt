@@ -1,33 +1,43 @@
 -- One residual and one event: one law per way out of `step_one` and `step_many`.
 --     slot-rooted                    the residual's tree stands in its slot
 --     still-one                      it has no result
---     one-rebuilds, one-done         it has one
---     loaded-sound, start-place, many-done     it may have more
+--     lone-rebuilds, lone-done       it has one
+--     several-asks, several-done     it has those that moves say
+--     loaded-sound, start-place, many-done, many-one     it may have others
 -- Assumes nothing.
-use Prim.Native.Nat.{ℕ, _+_, _-_, _*_, _≤_}
+use Prim.Native.Nat.{ℕ, _+_, _-_, _*_, _<_, _≤_, _^_}
 use native.Mathlib.Omega.{arith}
 use mathlib.Core.Path.{_≡_, refl, ap, sym, _∙_}
+use mathlib.Core.Bool.{true}
 use mathlib.Core.List.{List, [], _∷_, _++_, map, append-nil}
 use lib.ListN.{length, getD, take, drop, take-append-drop}
 use lib.Seq.{getD-take}
+use lib.Pow.{pow-mono}
 use Rattle.table.specs.Table.{Table}
 use Rattle.slots.specs.declared.slots.Held.{Held}
 use Rattle.slots.specs.declared.slots.Held.the-variants.{Count}
-use Rattle.step.specs.declared.only.Way.{Way}
-use Rattle.step.specs.declared.only.Way.the-variants.{Still, One}
-use Rattle.residual.specs.Residual.{words, pushAll}
+use Rattle.moves.specs.declared.only.Moves.{Moves}
+use Rattle.moves.specs.declared.only.Way.{Way}
+use Rattle.moves.specs.declared.only.Way.the-variants.{Still, Moving}
+use Rattle.residual.specs.Residual.{words, after, pushAll}
 use Rattle.residual.specs.Distinct.{window, empty}
 use Rattle.residual.specs.Distinct.Laws.{at-window, length-window}
-use Rattle.walk.specs.Walk.{room, onto}
+use Rattle.walk.specs.Walk.{room, results, onto}
 use Rattle.slots.specs.Holding.{putOne, putAll, Gave}
 use Rattle.slots.specs.Holding.Laws.{put-none, put-single}
 use Rattle.walk.specs.Forest.{Forest, afterKept, wordsAll}
 use Rattle.walk.specs.Course.{nodeCount, nodesFrom, Ready, Place, walked}
-use Rattle.step.specs.Only.{wayOf, rebuilt, Rooted, WayIn, Rebuilds}
-use Rattle.step.specs.Only.Laws.{OneResult, became}
+use Rattle.moves.specs.Only.{wayOf, rebuilt, Rooted, WayIn, Rebuilds}
+use Rattle.moves.specs.Only.Marks.{marks-small}
+use Rattle.moves.specs.Only.Laws.{MovedBy}
+use Rattle.moves.specs.Only.Pair.{became}
 use Rattle.step.specs.Prepared.{Sound}
 use Rattle.step.specs.Prepared.Laws.{nodes-same, window-of-prefix}
-use Rattle.step.specs.Stepped.{slotNodes, StepsOne, steppedOne}
+use Rattle.step.specs.Stepped.{slotNodes, StepsOne, steppedOne, SteppedOne}
+use Rattle.moves.specs.Moving.{StepsMoves, steppedMoves}
+use Rattle.slots.specs.Canon.Sets.{SameMembers}
+use Rattle.slots.specs.Canon.Members.{same-refl, same-sym, same-map}
+use Rattle.moves.specs.Members.{short-of, same-after}
 use Rattle.step.specs.Successors.Laws.{results-of}
 
 module _ {t : Table} {bound e : ℕ} {src : List ℕ} {i : ℕ} {store dst : List ℕ} {c : ℕ}
@@ -65,9 +75,21 @@ module _ {t : Table} {bound e : ℕ} {src : List ℕ} {i : ℕ} {store dst : Lis
       count = tree-count;
     }
 
-  after-of : steppedOne t e src i dst c ≡ putAll dst c (onto empty (map words (afterKept t e (s .slot .tree))))
-  unfolding steppedOne
-  after-of = rw (s .slot .spelt, results-of t e (s .slot .tree) (s .slot .valid))
+  -- the residuals after the event are the results, but for repeats
+  after-members : SameMembers (onto empty (map words (after t e (s .slot .tree))))
+      (onto empty (results t e (slotNodes src i) 1))
+  unfolding onto
+  after-members =
+      let tree = s .slot .tree in
+      let short = short-of t e tree (s .slot .valid) (rw (s .slot .spelt) at (s .slot .room)) in
+      rw (s .slot .spelt, results-of t e tree (s .slot .valid))
+      (same-map (λ c. pushAll empty c) (map words (after t e tree)) (map words (afterKept t e tree))
+      (same-sym (map words (afterKept t e tree)) (map words (after t e tree))
+      (same-after t e tree (s .slot .valid) short)))
+
+  after-held : (r : Held) (l : List ℕ) → Gave (putAll dst c (onto empty (map words (after t e (s .slot .tree))))) r l
+      → SteppedOne t e src i dst c r l
+  after-held r l g = record { slots = onto empty (map words (after t e (s .slot .tree))); members = after-members; gave = g }
 
   -- ---- by way
 
@@ -75,39 +97,72 @@ module _ {t : Table} {bound e : ℕ} {src : List ℕ} {i : ℕ} {store dst : Lis
     way-is : v ≡ wayOf t e (s .slot .tree)
     way-is = o .of (s .slot .tree) _ tree-spelt (s .slot .valid) (tree-count n en)
 
-    pub still-one : v ≡ Still → Gave (steppedOne t e src i dst c) (Count c) dst
+    nodes-here : window (i * 16 + 1) n src ≡ words (s .slot .tree)
+    unfolding slotNodes
+    nodes-here = ap (λ (x : ℕ). window (i * 16 + 1) x src) en ∙ s .slot .spelt
+
+    pub still-one : v ≡ Still → SteppedOne t e src i dst c (Count c) dst
     unfolding onto
     still-one z =
-        let g : afterKept t e (s .slot .tree) ≡ [] = rw (sym way-is ∙ z) at
+        let g : after t e (s .slot .tree) ≡ [] = rw (sym way-is ∙ z) at
         (became t e (s .slot .tree) (s .slot .valid)) in
-        record { same = sym (after-of ∙ rw (g, ← (put-none dst c))); fits = s .held }
+        after-held (Count c) dst (record { same = put-none dst c ∙ rw g; fits = s .held })
 
-    module _ (marks : ℕ) (z : v ≡ One marks) where
-      one-of : OneResult t e (s .slot .tree) marks
-      one-of = rw (sym way-is ∙ z) at (became t e (s .slot .tree) (s .slot .valid))
+    module _ (m : Moves) (z : v ≡ Moving m) where
+      moved-by : MovedBy t e (s .slot .tree) m
+      moved-by = rw (sym way-is ∙ z) at (became t e (s .slot .tree) (s .slot .valid))
 
-      pub one-rebuilds : Rebuilds t bound e src (i * 16 + 1) n marks
-      unfolding slotNodes
-      one-rebuilds = rw en (record {
+      pub marks-few : m .each + m .also < 18446744073709551616
+      marks-few =
+          let few : length (words (s .slot .tree)) ≤ 15 = omega (arith, s .slot .few, en, tree-count n en) in
+          let w : m .each + m .also < 2 ^ length (words (s .slot .tree)) = rw (sym way-is ∙ z) at
+          (marks-small t e (s .slot .tree)) in
+          omega (arith, w, pow-mono few)
+
+      inside-here : i * 16 + 1 + n ≤ length src
+      inside-here = rw en (omega (arith, s .slot .few, s .inside))
+
+      room-here : getD empty 0 0 + room t e (window (i * 16 + 1) n src) ≤ 15
+      room-here =
+          let y : room t e (window (i * 16 + 1) n src) ≤ 15 = rw (nodes-here, ← (s .slot .spelt)) (s .slot .room) in
+          omega arith
+
+      pub several-asks : StepsMoves t bound e src (i * 16 + 1) n (m .each) (m .also) empty dst c
+      several-asks = record {
         event = s .event;
         whole = s .whole;
-        inside = omega (arith, s .slot .few, s .inside);
-        room = s .slot .room;
-        marked = rw (s .slot .spelt) (one-of .marked);
-      })
+        inside = inside-here;
+        some = moved-by .some;
+        can = rw nodes-here (moved-by .can);
+        rest = record { size = refl; room = room-here; marked = rw nodes-here (moved-by .marked) };
+        held = s .held;
+      }
 
-      pub one-done : (slot : List ℕ) → slot ≡ pushAll empty (rebuilt t e (window (i * 16 + 1) n src) marks) → (r : Held)
-          (l : List ℕ) → Gave (putOne dst c slot) r l → Gave (steppedOne t e src i dst c) r l
-      unfolding slotNodes onto
-      one-done slot es r l g =
-          let w : window (i * 16 + 1) n src ≡ words (s .slot .tree) = ap (λ (x : ℕ). window (i * 16 + 1) x src) en
-          ∙ s .slot .spelt in
-          let x : slot ≡ pushAll empty (words (one-of .result)) =
-          es ∙ ap (λ (x : List ℕ). pushAll empty (rebuilt t e x marks)) w ∙ ap (pushAll empty) (one-of .spelt) in
-          record {
-            same = g .same ∙ sym (after-of ∙ rw (one-of .only, ← x, ← (put-single dst c slot)));
-            fits = g .fits;
-          }
+      pub several-done : (r : Held) (l : List ℕ)
+          → Gave (steppedMoves t e src (i * 16 + 1) n (m .each) (m .also) empty dst c) r l
+          → SteppedOne t e src i dst c r l
+      unfolding steppedMoves
+      several-done r l g =
+          after-held r l (record { same = g .same ∙ rw (nodes-here, ← (moved-by .all)); fits = g .fits })
+
+      module _ (one : m .lone ≡ true) where
+        pub lone-rebuilds : Rebuilds t bound e src (i * 16 + 1) n (m .each + m .also) empty
+        lone-rebuilds = record {
+          event = s .event;
+          whole = s .whole;
+          inside = inside-here;
+          rest = record { size = refl; room = room-here; marked = rw nodes-here (moved-by .single one) };
+        }
+
+        pub lone-done : (slot : List ℕ)
+            → slot ≡ pushAll empty (rebuilt t e (window (i * 16 + 1) n src) (m .each + m .also)) → (r : Held)
+            (l : List ℕ) → Gave (putOne dst c slot) r l → SteppedOne t e src i dst c r l
+        unfolding onto
+        lone-done slot es r l g =
+            after-held r l (record {
+              same = g .same ∙ put-single dst c slot ∙ rw (moved-by .only one, es, nodes-here);
+              fits = g .fits;
+            })
 
   -- ---- the general way
 
@@ -154,3 +209,9 @@ module _ {t : Table} {bound e : ℕ} {src : List ℕ} {i : ℕ} {store dst : Lis
           → Gave (steppedOne t e src i dst c) r l
       unfolding walked steppedOne
       many-done r l g = record { same = g .same ∙ rw now-nodes; fits = g .fits }
+
+  pub many-one : (r : Held) (l : List ℕ) → Gave (steppedOne t e src i dst c) r l → SteppedOne t e src i dst c r l
+  unfolding steppedOne
+  many-one r l g =
+      let xs : List (List ℕ) = onto empty (results t e (slotNodes src i) 1) in
+      record { slots = xs; members = same-refl xs; gave = g }

@@ -1,10 +1,10 @@
--- What the value that `step_set` promises comes to, from a zeroed area.
+-- What `step_set` promises comes to, from a zeroed area.
 --     results-of, gathered-of      the results of a walk are those of `afterKept`
 --     slots-of-slots               the slots of residuals have sixteen words
 --     stepped                      the slots of the residuals after the event
 --     exceeded                     no room, where these are more than fit
 -- Assumes nothing.
-use Prim.Native.Nat.{ℕ, zero, _+_, _-_, _*_, _<_, _≤_}
+use Prim.Native.Nat.{ℕ, _+_, _-_, _*_, _<_, _≤_}
 use native.Mathlib.Omega.{arith}
 use mathlib.Core.Path.{_≡_, refl, ap, sym, _∙_}
 use mathlib.Core.List.{List, [], _∷_, map, append-nil, map-append}
@@ -22,8 +22,9 @@ use Rattle.walk.specs.Forest.Laws.{results-moved}
 use Rattle.step.specs.Stepped.{gathered, SoundSlot, Source}
 use Rattle.slots.specs.Canon.{canonFrom, joined, areaOf, Slots}
 use Rattle.slots.specs.Canon.Laws.{put-canon, put-exceeded-canon}
-use Rattle.slots.specs.Canon.Sets.{canon-members}
-use Rattle.step.specs.Successors.Members.{Both, Short, short-of, same-after, append-both, sub-map}
+use Rattle.slots.specs.Canon.Sets.{SameMembers, canon-members}
+use Rattle.slots.specs.Canon.Members.{sub-map, slots-in}
+use Rattle.moves.specs.Members.{Short, short-of, same-after, append-both}
 use Rattle.step.specs.Successors.{Holds, allAfter, allKept, slotsOf, canon}
 
 joins-unit : (a : List (List ℕ)) → joins a ([] ∷ []) ≡ a
@@ -61,24 +62,6 @@ pub no-slots : (most : ℕ) → areaOf most [] ≡ replicate (most * 16) 0
 unfolding areaOf joined
 no-slots most = let z : (most - 0) * 16 ≡ most * 16 = omega arith in rw z
 
-module _ (t : Table) (e : ℕ) (src : List ℕ) (rs : List Residual) (h : Holds t src 0 rs) (most : ℕ) where
-  given : putAll (replicate (most * 16) 0) 0 (gathered t e src (length rs) 0)
-      ≡ putAll (areaOf most []) 0 (slotsOf (allKept t e rs))
-  given = rw (no-slots most, gathered-of t e src 0 (length rs) rs refl h)
-
-  pub step-holds : length (canonFrom [] (slotsOf (allKept t e rs))) ≤ most
-      → putAll (replicate (most * 16) 0) 0 (gathered t e src (length rs) 0)
-      ≡ said (Count (length (canonFrom [] (slotsOf (allKept t e rs)))))
-      (areaOf most (canonFrom [] (slotsOf (allKept t e rs))))
-  step-holds k =
-      given ∙ put-canon most [] (slotsOf (allKept t e rs)) tt tt (slots-of-slots (allKept t e rs)) (omega arith) k
-
-  pub step-exceeds : most < length (canonFrom [] (slotsOf (allKept t e rs)))
-      → (putAll (replicate (most * 16) 0) 0 (gathered t e src (length rs) 0)) .held ≡ Exceeded
-  step-exceeds k =
-      ap (λ o. o .held) given ∙ put-exceeded-canon most [] (slotsOf (allKept t e rs)) tt tt
-      (slots-of-slots (allKept t e rs)) (omega arith) k
-
 -- ---- the same with the repeats
 
 abbrev pub AllShort : Table → ℕ → List Residual → Type 0
@@ -86,7 +69,7 @@ AllShort t e [] = Unit
 AllShort t e (r ∷ rs) = Short t e r × AllShort t e rs
 
 same-all : (t : Table) (e : ℕ) (src : List ℕ) (i : ℕ) (rs : List Residual) → Holds t src i rs → AllShort t e rs
-    → Both (map words (allKept t e rs)) (map words (allAfter t e rs))
+    → SameMembers (map words (allKept t e rs)) (map words (allAfter t e rs))
 unfolding allKept allAfter
 same-all t e src i [] h s = (λ z m. m, λ z m. m)
 same-all t e src i (r ∷ rs) h s =
@@ -117,12 +100,25 @@ module _ (t : Table) (e : ℕ) (src : List ℕ) (rs : List Residual) (h : Holds 
   short : AllShort t e rs
   short = all-short t e src 0 rs h (λ j a b. source .slots j (omega arith))
 
-  pub stepped : length (canon (allAfter t e rs)) ≤ most
-      → putAll (replicate (most * 16) 0) 0 (gathered t e src (length rs) 0)
-      ≡ said (Count (length (canon (allAfter t e rs)))) (areaOf most (canon (allAfter t e rs)))
-  stepped k =
-      rw (canon-same t e src rs h short) at (step-holds t e src rs h most (rw (canon-same t e src rs h short) k))
+  module _ (xs : List (List ℕ)) (m : SameMembers xs (gathered t e src (length rs) 0)) where
+    members : SameMembers xs (slotsOf (allKept t e rs))
+    members = rw (gathered-of t e src 0 (length rs) rs refl h) at m
 
-  pub exceeded : most < length (canon (allAfter t e rs))
-      → (putAll (replicate (most * 16) 0) 0 (gathered t e src (length rs) 0)) .held ≡ Exceeded
-  exceeded k = step-exceeds t e src rs h most (rw (canon-same t e src rs h short) k)
+    slots : Slots xs
+    slots = slots-in xs (slotsOf (allKept t e rs)) (slots-of-slots (allKept t e rs)) (members .0)
+
+    canon-is : canonFrom [] xs ≡ canon (allAfter t e rs)
+    canon-is =
+        canon-members xs (slotsOf (allKept t e rs)) slots (slots-of-slots (allKept t e rs)) (members .0) (members .1)
+        ∙ canon-same t e src rs h short
+
+    pub stepped : length (canon (allAfter t e rs)) ≤ most
+        → putAll (replicate (most * 16) 0) 0 xs
+        ≡ said (Count (length (canon (allAfter t e rs)))) (areaOf most (canon (allAfter t e rs)))
+    stepped k =
+        rw (← (no-slots most), ← canon-is)
+        (put-canon most [] xs tt tt slots (omega arith) (rw canon-is k))
+
+    pub exceeded : most < length (canon (allAfter t e rs)) → (putAll (replicate (most * 16) 0) 0 xs) .held ≡ Exceeded
+    exceeded k =
+        rw (← (no-slots most)) (put-exceeded-canon most [] xs tt tt slots (omega arith) (rw canon-is k))

@@ -470,7 +470,7 @@ pub kept-not-held : (t : Table) (e w : ℕ) → eqb (kindAt t w) 2 ≡ true → 
 unfolding leafKept
 kept-not-held t e w a b = rw (a, b, leafKept)
 
-words-at : (l : List Residual) (i : ℕ) → i < length l → getD (map words l) i [] ≡ words (nth l i)
+pub words-at : (l : List Residual) (i : ℕ) → i < length l → getD (map words l) i [] ≡ words (nth l i)
 unfolding nth
 words-at [] i h = absurd (omega arith)
 words-at (r ∷ l) zero h = refl

@@ -2,59 +2,38 @@
 -- Assumes nothing.
 use Prim.Native.Nat.{_≤_, _<_, _+_, _-_}
 use native.Mathlib.Omega.{arith}
-use mathlib.Core.Path.{_≡_, _∙_}
+use mathlib.Core.Path.{_≡_, sym, _∙_}
 use borrow.Author.Needs.{needs}
 use denote.Ref.{now}
 use Rattle.table.specs.Index.{tableIn}
 use Rattle.residual.specs.Distinct.{window, heldIn, slotAt}
-use Rattle.residual.specs.Distinct.Laws.{held-none, held-here, held-on}
+use Rattle.residual.specs.Distinct.Keeping.{held-first, held-none, held-here, held-on, held-off}
 use Rattle.residual.proofs.leaves.found.Statement.{statement}
 use Rattle.residual.proofs.leaves.found.Tie as tie
 use Rattle.residual.proofs.leaves.found.Reads as reads
 use Rattle.residual.proofs.leaves.found.Lts as lts
-use Rattle.residual.proofs.leaves.result.Reads as result-reads
-use Rattle.residual.proofs.leaves.same.Reads as same-reads
+use Rattle.residual.proofs.leaves.key_of.Reads as key-of-reads
+use Rattle.residual.proofs.leaves.same_kept.Reads as same-kept-reads
 
 abbrev Inv-loop : tie.InvT-loop
-Inv-loop list work bound n m store at c slot j₀ j =
-    (j ≤ c) × (heldIn (slotAt (tableIn list) n m) (window (at + j) (c - j) store) slot
-    ≡ heldIn (slotAt (tableIn list) n m) (window at c store) slot)
+Inv-loop list work bound n m indices at k keys slots slot key j₀ j =
+    (j ≤ k) × (heldIn (slotAt (tableIn list) n m) (window (at + j) (k - j) indices) slot
+    ≡ heldIn (slotAt (tableIn list) n m) (window at k indices) slot)
 
 abbrev μ-loop : tie.MeasureT-loop
-μ-loop list work bound n m store at c slot j₀ j = c - j
+μ-loop list work bound n m indices at k keys slots slot key j₀ j = k - j
+
+key-of-requires : tie.Need-key-of-requires Inv-loop μ-loop
+key-of-requires c κs = omega arith
 
 loop-holds : tie.Need-loop-holds Inv-loop μ-loop
-loop-holds c =
-    let at-start = c .before .before .before in let a = at-start .args in let e : a .at + 0 ≡ a .at = omega arith in
-    let d : a .c - 0 ≡ a .c = omega arith in (omega arith, rw (e, d))
+loop-holds c = (omega arith, held-first _ _ _ _ _ _ _ (omega arith) (omega arith))
 
-add-i : tie.Need-add-i Inv-loop μ-loop
-add-i c = search needs
+mul-if1 : tie.Need-mul-if1 Inv-loop μ-loop
+mul-if1 c = search needs
 
-mul-i : tie.Need-mul-i Inv-loop μ-loop
-mul-i c = search needs
-
-shared-slice-read-i : tie.Need-shared-slice-read-i Inv-loop μ-loop
-shared-slice-read-i c = search needs
-
-result-requires : tie.Need-result-requires Inv-loop μ-loop
-result-requires c κs =
-    let at-start = c .before .before .before .before .before .before in
-    (at-start .pre .0, ((at-start .pre .1 .0, at-start .pre .1 .1 .1 _ (c .before .loop-test .taken))))
-
-same-requires : tie.Need-same-requires Inv-loop μ-loop
-same-requires c κs = search needs
-
-returns : tie.Need-returns Inv-loop μ-loop
-returns c =
-    let at-loop = c .before .before .before .before .before in
-    let at-start = at-loop .before .before .before .before in
-    held-here (slotAt (tableIn (now (at-start .args .list))) (at-start .args .n) (at-start .args .m))
-    (now (at-start .args .store)) (at-start .args .slot) (at-start .args .at + at-loop .loop .j)
-    (at-start .args .c - at-loop .loop .j) (at-start .args .c - at-loop .loop .j - 1)
-    (let h : at-loop .loop .j < at-start .args .c = c .before .before .before .before .loop-test .taken in omega
-    arith) (omega arith) _ (c .before .before .result .ensures) _ (c .before .same .ensures) (c .if1 .taken)
-    ∙ at-loop .loop .inv .1
+shared-slice-read-if1 : tie.Need-shared-slice-read-if1 Inv-loop μ-loop
+shared-slice-read-if1 c = search needs
 
 add-j : tie.Need-add-j Inv-loop μ-loop
 add-j c = search needs
@@ -64,21 +43,60 @@ loop-less c = search needs
 
 loop-again : tie.Need-loop-again Inv-loop μ-loop
 loop-again c =
-    let at-loop = c .before .before .before .before .before in
-    let at-start = at-loop .before .before .before .before in
-    let h : at-loop .loop .j < at-start .args .c = c .before .before .before .before .loop-test .taken in (
+    let at-start = c .before .before .before .before .before .before .before .before .before .before .before in let a = at-start .args in let k = c .before .before .before .loop in
+    let t : k .j < a .k = c .before .before .loop-test .taken in (
       omega arith,
-      held-on (slotAt (tableIn (now (at-start .args .list))) (at-start .args .n) (at-start .args .m))
-          (now (at-start .args .store)) (at-start .args .slot) (at-start .args .at + at-loop .loop .j)
-          (at-start .args .c - at-loop .loop .j) _ (omega arith) (omega arith) _ (c .before .before .result .ensures) _
-          (c .before .same .ensures) _ (omega arith) (c .if1 .left) ∙ at-loop .loop .inv .1,
+      held-off (slotAt (tableIn (now (a .list))) (a .n) (a .m)) (now (a .indices)) (now (a .slot)) (a .at + k .j) (a .k - k .j) _
+          (k .inv .1) (omega arith)
+          (omega arith) _ (at-start .pre .1 .1 .1 .1 .key _ t)
+          (λ g. c .if1 .taken (g ∙ sym (c .before .before .before .before .key-of .ensures))) _ _ (omega arith) (omega arith),
+    )
+
+add-same-kept : tie.Need-add-same-kept Inv-loop μ-loop
+add-same-kept c = search needs
+
+mul-same-kept : tie.Need-mul-same-kept Inv-loop μ-loop
+mul-same-kept c = search needs
+
+shared-slice-read-same-kept : tie.Need-shared-slice-read-same-kept Inv-loop μ-loop
+shared-slice-read-same-kept c = search needs
+
+same-kept-requires : tie.Need-same-kept-requires Inv-loop μ-loop
+same-kept-requires c κs =
+    let at-start = c .before .before .before .before .before .before .before .before .before .before .before .before in let t = c .before .before .before .loop-test .taken in let known = at-start .pre .1 .1 .1 .1 in (
+      at-start .pre .0,
+      (at-start .pre .1 .0, (known .index _ t, ((omega arith, omega arith), known .slot _ t))),
+    )
+
+returns : tie.Need-returns Inv-loop μ-loop
+returns c =
+    let at-start = c .before .before .before .before .before .before .before .before .before .before .before .before .before .before in let a = at-start .args in let k = c .before .before .before .before .before .before .loop in
+    let t : k .j < a .k = c .before .before .before .before .before .loop-test .taken in
+    held-here (slotAt (tableIn (now (a .list))) (a .n) (a .m)) (now (a .indices)) (now (a .slot)) (a .at + k .j) (a .k - k .j) _
+    (k .inv .1) (omega arith) (omega arith) _
+    (c .before .same-kept .ensures) (c .if2 .taken)
+
+add-j-2 : tie.Need-add-j-2 Inv-loop μ-loop
+add-j-2 c = search needs
+
+loop-less-2 : tie.Need-loop-less-2 Inv-loop μ-loop
+loop-less-2 c = search needs
+
+loop-again-2 : tie.Need-loop-again-2 Inv-loop μ-loop
+loop-again-2 c =
+    let at-start = c .before .before .before .before .before .before .before .before .before .before .before .before .before .before in let a = at-start .args in let k = c .before .before .before .before .before .before .loop in
+    let t : k .j < a .k = c .before .before .before .before .before .loop-test .taken in (
+      omega arith,
+      held-on (slotAt (tableIn (now (a .list))) (a .n) (a .m)) (now (a .indices)) (now (a .slot)) (a .at + k .j) (a .k - k .j) _
+          (k .inv .1) (omega arith)
+          (omega arith) _ (c .before .same-kept .ensures) (c .if2 .left) _ _ (omega arith) (omega arith),
     )
 
 returns-2 : tie.Need-returns-2 Inv-loop μ-loop
 returns-2 c =
-    let at-start = c .before .before .before .before .before in
-    held-none (slotAt (tableIn (now (at-start .args .list))) (at-start .args .n) (at-start .args .m))
-    (now (at-start .args .store)) (at-start .args .slot) _ _ (omega arith) ∙ c .before .loop .inv .1
+    let at-start = c .before .before .before .before .before .before .before .before .before in let a = at-start .args in let k = c .before .loop in
+    held-none (slotAt (tableIn (now (a .list))) (a .n) (a .m)) (now (a .indices)) (now (a .slot)) (a .at + k .j)
+    (a .k - k .j) _ (k .inv .1) (omega arith)
 
 pub found-spec : {M : Type 1} → statement M
 found-spec =
@@ -86,14 +104,19 @@ found-spec =
     (tie.spec
     Inv-loop
     μ-loop
+    key-of-requires
     loop-holds
-    add-i
-    mul-i
-    shared-slice-read-i
-    result-requires
-    same-requires
-    returns
+    mul-if1
+    shared-slice-read-if1
     add-j
     loop-less
     loop-again
+    add-same-kept
+    mul-same-kept
+    shared-slice-read-same-kept
+    same-kept-requires
+    returns
+    add-j-2
+    loop-less-2
+    loop-again-2
     returns-2)

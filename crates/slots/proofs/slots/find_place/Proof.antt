@@ -1,7 +1,6 @@
--- `step::slots::find_place` meets its contract. Outer loop: the place among the slots not yet passed is the place
--- among
--- all; inner loop: the order of the words from j on is that of the slots. The measures are what is left of both.
--- Assumes nothing.
+-- `step::slots::find_place` meets its contract. Outer loop: the place among the slots not yet passed is the place among
+-- those from the given one on; inner loop: the order of the words from j on is that of the slots. The measures are what
+-- is left of both. Assumes nothing.
 use Prim.Native.Nat.{_+_, _-_, _*_, _≤_}
 use native.Mathlib.Omega.{arith}
 use mathlib.Core.Path.{_≡_, refl, sym, _∙_}
@@ -15,29 +14,29 @@ use Rattle.slots.proofs.slots.find_place.Reads as reads
 use Rattle.slots.proofs.slots.find_place.Lts as lts
 
 abbrev Inv-loop : tie.InvT-loop
-Inv-loop area count slot i₀ j₀ i j =
+Inv-loop area count from slot i₀ j₀ i j =
     (i ≡ i₀) × (j ≤ 16)
     × (order (16 - j) area (i * 16 + j) slot j ≡ order 16 area (i * 16) slot 0)
-    × (seek (count - i) area slot i ≡ seek count area slot 0)
+    × (seek (count - i) area slot i ≡ seek (count - from) area slot from)
 
 abbrev μ-loop : tie.MeasureT-loop
-μ-loop area count slot i₀ j₀ i j = 16 - j
+μ-loop area count from slot i₀ j₀ i j = 16 - j
 
 abbrev Inv-slots : tie.InvT-slots
-Inv-slots area count slot i₀ i = (i ≤ count) × (seek (count - i) area slot i ≡ seek count area slot 0)
+Inv-slots area count from slot i₀ i = seek (count - i) area slot i ≡ seek (count - from) area slot from
 
 abbrev μ-slots : tie.MeasureT-slots
-μ-slots area count slot i₀ i = count - i
+μ-slots area count from slot i₀ i = count - i
 
 slots-holds : tie.Need-slots-holds Inv-loop μ-loop Inv-slots μ-slots
-slots-holds c = (omega arith, let e : c .args .count - 0 ≡ c .args .count = omega arith in rw e)
+slots-holds c = refl
 
 loop-holds : tie.Need-loop-holds Inv-loop μ-loop Inv-slots μ-slots
 loop-holds c = (
   refl,
   omega arith,
   let e : (c .before .slots .i * 16 + 0) ≡ c .before .slots .i * 16 = omega arith in rw e,
-  c .before .slots .inv .1,
+  c .before .slots .inv,
 )
 
 mul-held : tie.Need-mul-held Inv-loop μ-loop Inv-slots μ-slots
@@ -66,11 +65,8 @@ slots-less c = search needs
 
 slots-again : tie.Need-slots-again Inv-loop μ-loop Inv-slots μ-slots
 slots-again c =
-    let k = c .before .before .before .before .before .loop in (
-      omega arith,
-      seek-on _ _ _ _ _ (omega arith) (sym (k .inv .2) ∙ order-above _ _ _ _ _ (omega arith) (c .if2 .taken))
-          ∙ k .inv .3,
-    )
+    let k = c .before .before .before .before .before .loop in
+    seek-on _ _ _ _ _ (omega arith) (sym (k .inv .2) ∙ order-above _ _ _ _ _ (omega arith) (c .if2 .taken)) ∙ k .inv .3
 
 add-j : tie.Need-add-j Inv-loop μ-loop Inv-slots μ-slots
 add-j c = search needs
@@ -94,7 +90,7 @@ returns c =
     seek-held _ _ _ _ (omega arith) (sym (k .inv .2) ∙ order-none _ _ _ _ _ (omega arith)) ∙ k .inv .3
 
 returns-2 : tie.Need-returns-2 Inv-loop μ-loop Inv-slots μ-slots
-returns-2 c = seek-none _ _ _ _ (omega arith) ∙ c .before .slots .inv .1
+returns-2 c = seek-none _ _ _ _ (omega arith) ∙ c .before .slots .inv
 
 returns-3 : tie.Need-returns-3 Inv-loop μ-loop Inv-slots μ-slots
 returns-3 c =

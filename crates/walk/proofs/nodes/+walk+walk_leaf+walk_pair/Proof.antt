@@ -27,7 +27,7 @@ use Rattle.walk.proofs.nodes.walk_pair.Reads as walk-pair
 use Rattle.walk.proofs.nodes.walk_pair.Kinds as walk-pair-kinds
 use Rattle.walk.proofs.nodes.+walk+walk_leaf+walk_pair.Lts-walk_pair as walk-pair-lts
 use Rattle.residual.proofs.push.Reads as push-reads
-use Rattle.residual.proofs.resolve_term.Reads as resolve-term-reads
+use Rattle.residual.proofs.resolve_at.Reads as resolve-at-reads
 use Rattle.walk.proofs.nodes.can_at.Reads as can-at-reads
 use Rattle.residual.proofs.holds_at.Reads as holds-at-reads
 use Rattle.residual.proofs.kind_at.Reads as kind-at-reads
@@ -551,8 +551,8 @@ walk-leaf-mul-w : (t : ℕ) → walk-leaf-lts.Need-mul-w (
   memory-of-reads.Learnt,
   remember-reads.Asked,
   remember-reads.Learnt,
-  resolve-term-reads.Asked,
-  resolve-term-reads.Learnt,
+  resolve-at-reads.Asked,
+  resolve-at-reads.Learnt,
   walk-below t,
   walk.Post,
 ) (walk-leaf-at t) walk-leaf.Post walk-leaf-Inv-loop walk-leaf-μ-loop
@@ -567,8 +567,8 @@ walk-leaf-shared-slice-read-w : (t : ℕ) → walk-leaf-lts.Need-shared-slice-re
   memory-of-reads.Learnt,
   remember-reads.Asked,
   remember-reads.Learnt,
-  resolve-term-reads.Asked,
-  resolve-term-reads.Learnt,
+  resolve-at-reads.Asked,
+  resolve-at-reads.Learnt,
   walk-below t,
   walk.Post,
 ) (walk-leaf-at t) walk-leaf.Post walk-leaf-Inv-loop walk-leaf-μ-loop
@@ -583,8 +583,8 @@ walk-leaf-mul-f : (t : ℕ) → walk-leaf-lts.Need-mul-f (
   memory-of-reads.Learnt,
   remember-reads.Asked,
   remember-reads.Learnt,
-  resolve-term-reads.Asked,
-  resolve-term-reads.Learnt,
+  resolve-at-reads.Asked,
+  resolve-at-reads.Learnt,
   walk-below t,
   walk.Post,
 ) (walk-leaf-at t) walk-leaf.Post walk-leaf-Inv-loop walk-leaf-μ-loop
@@ -599,8 +599,8 @@ walk-leaf-mul-f-2 : (t : ℕ) → walk-leaf-lts.Need-mul-f-2 (
   memory-of-reads.Learnt,
   remember-reads.Asked,
   remember-reads.Learnt,
-  resolve-term-reads.Asked,
-  resolve-term-reads.Learnt,
+  resolve-at-reads.Asked,
+  resolve-at-reads.Learnt,
   walk-below t,
   walk.Post,
 ) (walk-leaf-at t) walk-leaf.Post walk-leaf-Inv-loop walk-leaf-μ-loop
@@ -615,8 +615,8 @@ walk-leaf-shared-slice-read-f : (t : ℕ) → walk-leaf-lts.Need-shared-slice-re
   memory-of-reads.Learnt,
   remember-reads.Asked,
   remember-reads.Learnt,
-  resolve-term-reads.Asked,
-  resolve-term-reads.Learnt,
+  resolve-at-reads.Asked,
+  resolve-at-reads.Learnt,
   walk-below t,
   walk.Post,
 ) (walk-leaf-at t) walk-leaf.Post walk-leaf-Inv-loop walk-leaf-μ-loop
@@ -631,8 +631,8 @@ walk-leaf-term-of-requires : (t : ℕ) → walk-leaf-lts.Need-term-of-requires (
   memory-of-reads.Learnt,
   remember-reads.Asked,
   remember-reads.Learnt,
-  resolve-term-reads.Asked,
-  resolve-term-reads.Learnt,
+  resolve-at-reads.Asked,
+  resolve-at-reads.Learnt,
   walk-below t,
   walk.Post,
 ) (walk-leaf-at t) walk-leaf.Post walk-leaf-Inv-loop walk-leaf-μ-loop
@@ -645,8 +645,8 @@ walk-leaf-memory-of-requires : (t : ℕ) → walk-leaf-lts.Need-memory-of-requir
   memory-of-reads.Learnt,
   remember-reads.Asked,
   remember-reads.Learnt,
-  resolve-term-reads.Asked,
-  resolve-term-reads.Learnt,
+  resolve-at-reads.Asked,
+  resolve-at-reads.Learnt,
   walk-below t,
   walk.Post,
 ) (walk-leaf-at t) walk-leaf.Post walk-leaf-Inv-loop walk-leaf-μ-loop
@@ -659,8 +659,8 @@ walk-leaf-remember-requires : (t : ℕ) → walk-leaf-lts.Need-remember-requires
   memory-of-reads.Learnt,
   remember-reads.Asked,
   remember-reads.Learnt,
-  resolve-term-reads.Asked,
-  resolve-term-reads.Learnt,
+  resolve-at-reads.Asked,
+  resolve-at-reads.Learnt,
   walk-below t,
   walk.Post,
 ) (walk-leaf-at t) walk-leaf.Post walk-leaf-Inv-loop walk-leaf-μ-loop
@@ -674,8 +674,8 @@ walk-leaf-loop-holds : (t : ℕ) → walk-leaf-lts.Need-loop-holds (
   memory-of-reads.Learnt,
   remember-reads.Asked,
   remember-reads.Learnt,
-  resolve-term-reads.Asked,
-  resolve-term-reads.Learnt,
+  resolve-at-reads.Asked,
+  resolve-at-reads.Learnt,
   walk-below t,
   walk.Post,
 ) (walk-leaf-at t) walk-leaf.Post walk-leaf-Inv-loop walk-leaf-μ-loop
@@ -690,8 +690,8 @@ walk-leaf-mul-i : (t : ℕ) → walk-leaf-lts.Need-mul-i (
   memory-of-reads.Learnt,
   remember-reads.Asked,
   remember-reads.Learnt,
-  resolve-term-reads.Asked,
-  resolve-term-reads.Learnt,
+  resolve-at-reads.Asked,
+  resolve-at-reads.Learnt,
   walk-below t,
   walk.Post,
 ) (walk-leaf-at t) walk-leaf.Post walk-leaf-Inv-loop walk-leaf-μ-loop
@@ -706,8 +706,8 @@ walk-leaf-add-i : (t : ℕ) → walk-leaf-lts.Need-add-i (
   memory-of-reads.Learnt,
   remember-reads.Asked,
   remember-reads.Learnt,
-  resolve-term-reads.Asked,
-  resolve-term-reads.Learnt,
+  resolve-at-reads.Asked,
+  resolve-at-reads.Learnt,
   walk-below t,
   walk.Post,
 ) (walk-leaf-at t) walk-leaf.Post walk-leaf-Inv-loop walk-leaf-μ-loop
@@ -722,8 +722,8 @@ walk-leaf-add-i-2 : (t : ℕ) → walk-leaf-lts.Need-add-i-2 (
   memory-of-reads.Learnt,
   remember-reads.Asked,
   remember-reads.Learnt,
-  resolve-term-reads.Asked,
-  resolve-term-reads.Learnt,
+  resolve-at-reads.Asked,
+  resolve-at-reads.Learnt,
   walk-below t,
   walk.Post,
 ) (walk-leaf-at t) walk-leaf.Post walk-leaf-Inv-loop walk-leaf-μ-loop
@@ -745,8 +745,8 @@ walk-leaf-mul-i-2 : (t : ℕ) → walk-leaf-lts.Need-mul-i-2 (
   memory-of-reads.Learnt,
   remember-reads.Asked,
   remember-reads.Learnt,
-  resolve-term-reads.Asked,
-  resolve-term-reads.Learnt,
+  resolve-at-reads.Asked,
+  resolve-at-reads.Learnt,
   walk-below t,
   walk.Post,
 ) (walk-leaf-at t) walk-leaf.Post walk-leaf-Inv-loop walk-leaf-μ-loop
@@ -768,8 +768,8 @@ walk-leaf-shared-slice-read-i : (t : ℕ) → walk-leaf-lts.Need-shared-slice-re
   memory-of-reads.Learnt,
   remember-reads.Asked,
   remember-reads.Learnt,
-  resolve-term-reads.Asked,
-  resolve-term-reads.Learnt,
+  resolve-at-reads.Asked,
+  resolve-at-reads.Learnt,
   walk-below t,
   walk.Post,
 ) (walk-leaf-at t) walk-leaf.Post walk-leaf-Inv-loop walk-leaf-μ-loop
@@ -784,19 +784,19 @@ walk-leaf-shared-slice-read-i t c =
           (at-start .pre .1 .1 .1 .2) _ _ (c .before .loop-test .taken) refl,
     )
 
-walk-leaf-add-resolve-term : (t : ℕ) → walk-leaf-lts.Need-add-resolve-term (
+walk-leaf-add-resolve-at : (t : ℕ) → walk-leaf-lts.Need-add-resolve-at (
   term-of-reads.Asked,
   term-of-reads.Learnt,
   memory-of-reads.Asked,
   memory-of-reads.Learnt,
   remember-reads.Asked,
   remember-reads.Learnt,
-  resolve-term-reads.Asked,
-  resolve-term-reads.Learnt,
+  resolve-at-reads.Asked,
+  resolve-at-reads.Learnt,
   walk-below t,
   walk.Post,
 ) (walk-leaf-at t) walk-leaf.Post walk-leaf-Inv-loop walk-leaf-μ-loop
-walk-leaf-add-resolve-term t c =
+walk-leaf-add-resolve-at t c =
     let at-start = c .before .before .before .before .before .before .before .before .before .before .before .before
     in omega (
       arith,
@@ -806,19 +806,19 @@ walk-leaf-add-resolve-term t c =
       terms-few (at-start .pre .1 .0),
     )
 
-walk-leaf-resolve-term-requires : (t : ℕ) → walk-leaf-lts.Need-resolve-term-requires (
+walk-leaf-resolve-at-requires : (t : ℕ) → walk-leaf-lts.Need-resolve-at-requires (
   term-of-reads.Asked,
   term-of-reads.Learnt,
   memory-of-reads.Asked,
   memory-of-reads.Learnt,
   remember-reads.Asked,
   remember-reads.Learnt,
-  resolve-term-reads.Asked,
-  resolve-term-reads.Learnt,
+  resolve-at-reads.Asked,
+  resolve-at-reads.Learnt,
   walk-below t,
   walk.Post,
 ) (walk-leaf-at t) walk-leaf.Post walk-leaf-Inv-loop walk-leaf-μ-loop
-walk-leaf-resolve-term-requires t c κs =
+walk-leaf-resolve-at-requires t c κs =
     let at-start = c .before .before .before .before .before .before .before .before .before .before .before .before
     in (
       at-start .pre .1 .0,
@@ -835,8 +835,8 @@ walk-leaf-add-walk : (t : ℕ) → walk-leaf-lts.Need-add-walk (
   memory-of-reads.Learnt,
   remember-reads.Asked,
   remember-reads.Learnt,
-  resolve-term-reads.Asked,
-  resolve-term-reads.Learnt,
+  resolve-at-reads.Asked,
+  resolve-at-reads.Learnt,
   walk-below t,
   walk.Post,
 ) (walk-leaf-at t) walk-leaf.Post walk-leaf-Inv-loop walk-leaf-μ-loop
@@ -852,8 +852,8 @@ walk-leaf-walk-requires : (t : ℕ) → walk-leaf-lts.Need-walk-requires (
   memory-of-reads.Learnt,
   remember-reads.Asked,
   remember-reads.Learnt,
-  resolve-term-reads.Asked,
-  resolve-term-reads.Learnt,
+  resolve-at-reads.Asked,
+  resolve-at-reads.Learnt,
   walk-below t,
   walk.Post,
 ) (walk-leaf-at t) walk-leaf.Post walk-leaf-Inv-loop walk-leaf-μ-loop
@@ -868,7 +868,7 @@ walk-leaf-walk-requires t c κs =
           go-place (at-start .pre .1 .1 .0) _ _ _ _ _ (at-start .pre .1 .1 .1 .0)
               (at-start .pre .1 .1 .1 .1) (at-start .pre .1 .1 .1 .2) _ _ (c .before .before .before .loop-test .taken) refl _ _
               _ (at-term-of .term-of .ensures) (at-memory-of .memory-of .ensures)
-              (c .before .before .before .before .before .remember .ensures) _ (c .before .resolve-term .ensures) _ _
+              (c .before .before .before .before .before .remember .ensures) _ (c .before .resolve-at .ensures) _ _
               (c .before .before .before .before .loop .inv .2),
         ),
       ),
@@ -881,8 +881,8 @@ walk-leaf-enum-known-d : (t : ℕ) → walk-leaf-lts.Need-enum-known-d (
   memory-of-reads.Learnt,
   remember-reads.Asked,
   remember-reads.Learnt,
-  resolve-term-reads.Asked,
-  resolve-term-reads.Learnt,
+  resolve-at-reads.Asked,
+  resolve-at-reads.Learnt,
   walk-below t,
   walk.Post,
 ) (walk-leaf-at t) walk-leaf.Post walk-leaf-Inv-loop walk-leaf-μ-loop
@@ -895,8 +895,8 @@ walk-leaf-add-j : (t : ℕ) → walk-leaf-lts.Need-add-j (
   memory-of-reads.Learnt,
   remember-reads.Asked,
   remember-reads.Learnt,
-  resolve-term-reads.Asked,
-  resolve-term-reads.Learnt,
+  resolve-at-reads.Asked,
+  resolve-at-reads.Learnt,
   walk-below t,
   walk.Post,
 ) (walk-leaf-at t) walk-leaf.Post walk-leaf-Inv-loop walk-leaf-μ-loop
@@ -919,8 +919,8 @@ walk-leaf-loop-less : (t : ℕ) → walk-leaf-lts.Need-loop-less (
   memory-of-reads.Learnt,
   remember-reads.Asked,
   remember-reads.Learnt,
-  resolve-term-reads.Asked,
-  resolve-term-reads.Learnt,
+  resolve-at-reads.Asked,
+  resolve-at-reads.Learnt,
   walk-below t,
   walk.Post,
 ) (walk-leaf-at t) walk-leaf.Post walk-leaf-Inv-loop walk-leaf-μ-loop
@@ -933,20 +933,20 @@ walk-leaf-loop-again : (t : ℕ) → walk-leaf-lts.Need-loop-again (
   memory-of-reads.Learnt,
   remember-reads.Asked,
   remember-reads.Learnt,
-  resolve-term-reads.Asked,
-  resolve-term-reads.Learnt,
+  resolve-at-reads.Asked,
+  resolve-at-reads.Learnt,
   walk-below t,
   walk.Post,
 ) (walk-leaf-at t) walk-leaf.Post walk-leaf-Inv-loop walk-leaf-μ-loop
 walk-leaf-loop-again t c =
-    let at-walk = c .before .before .before .before .before in let at-resolve-term = at-walk .before .before in
-    let at-loop-test = at-resolve-term .before .before in let at-loop = at-loop-test .before in
+    let at-walk = c .before .before .before .before .before in let at-resolve-at = at-walk .before .before in
+    let at-loop-test = at-resolve-at .before .before in let at-loop = at-loop-test .before in
     let at-remember = at-loop .before in let at-memory-of = at-remember .before in
     let at-term-of = at-memory-of .before in
     let at-start = at-term-of .before .before .before .before .before .before .before in
     let q = go-next (at-start .pre .1 .1 .0) _ _ _ _ _ (at-start .pre .1 .1 .1 .0) (at-start .pre .1 .1 .1 .1)
     (at-start .pre .1 .1 .1 .2) _ _ (at-loop-test .loop-test .taken) refl _ _ _ (at-term-of .term-of .ensures)
-    (at-memory-of .memory-of .ensures) (at-remember .remember .ensures) _ (at-resolve-term .resolve-term .ensures) _ _
+    (at-memory-of .memory-of .ensures) (at-remember .remember .ensures) _ (at-resolve-at .resolve-at .ensures) _ _
     _ _ (at-walk .walk .ensures) _ (c .before .d .given .1) in (
       omega (arith, at-loop-test .loop-test .taken),
       at-walk .walk .kept .1 .1 .1 .1 .1 .1 .1 .1 .0
@@ -962,8 +962,8 @@ walk-leaf-enum-told : (t : ℕ) → walk-leaf-lts.Need-enum-told (
   memory-of-reads.Learnt,
   remember-reads.Asked,
   remember-reads.Learnt,
-  resolve-term-reads.Asked,
-  resolve-term-reads.Learnt,
+  resolve-at-reads.Asked,
+  resolve-at-reads.Learnt,
   walk-below t,
   walk.Post,
 ) (walk-leaf-at t) walk-leaf.Post walk-leaf-Inv-loop walk-leaf-μ-loop
@@ -976,8 +976,8 @@ walk-leaf-same-length : (t : ℕ) → walk-leaf-lts.Need-same-length (
   memory-of-reads.Learnt,
   remember-reads.Asked,
   remember-reads.Learnt,
-  resolve-term-reads.Asked,
-  resolve-term-reads.Learnt,
+  resolve-at-reads.Asked,
+  resolve-at-reads.Learnt,
   walk-below t,
   walk.Post,
 ) (walk-leaf-at t) walk-leaf.Post walk-leaf-Inv-loop walk-leaf-μ-loop
@@ -990,14 +990,14 @@ walk-leaf-returns : (t : ℕ) → walk-leaf-lts.Need-returns (
   memory-of-reads.Learnt,
   remember-reads.Asked,
   remember-reads.Learnt,
-  resolve-term-reads.Asked,
-  resolve-term-reads.Learnt,
+  resolve-at-reads.Asked,
+  resolve-at-reads.Learnt,
   walk-below t,
   walk.Post,
 ) (walk-leaf-at t) walk-leaf.Post walk-leaf-Inv-loop walk-leaf-μ-loop
 walk-leaf-returns t c =
-    let at-resolve-term = c .before .before .before .before .before .before in
-    let at-loop-test = at-resolve-term .before .before in let at-loop = at-loop-test .before in
+    let at-resolve-at = c .before .before .before .before .before .before in
+    let at-loop-test = at-resolve-at .before .before in let at-loop = at-loop-test .before in
     let at-remember = at-loop .before in let at-memory-of = at-remember .before in
     let at-term-of = at-memory-of .before in
     let at-start = at-term-of .before .before .before .before .before .before .before in
@@ -1005,7 +1005,7 @@ walk-leaf-returns t c =
       same = go-exceeded (at-start .pre .1 .1 .0) _ _ _ _ _ (at-start .pre .1 .1 .1 .0)
           (at-start .pre .1 .1 .1 .1) (at-start .pre .1 .1 .1 .2) _ _ (at-loop-test .loop-test .taken) refl _ _ _
           (at-term-of .term-of .ensures) (at-memory-of .memory-of .ensures) (at-remember .remember .ensures) _
-          (at-resolve-term .resolve-term .ensures) _ _ _ _ (c .before .before .before .before .walk .ensures)
+          (at-resolve-at .resolve-at .ensures) _ _ _ _ (c .before .before .before .before .walk .ensures)
           (c .enum-told .given .1) ∙ at-loop .loop .inv .3
           ∙ leaf-start (at-start .pre .1 .1 .0) _ _ _ _ _ (at-start .pre .1 .1 .1 .0) (at-start .pre .1 .1 .1 .1)
           (at-start .pre .1 .1 .1 .2);
@@ -1019,8 +1019,8 @@ walk-leaf-same-length-2 : (t : ℕ) → walk-leaf-lts.Need-same-length-2 (
   memory-of-reads.Learnt,
   remember-reads.Asked,
   remember-reads.Learnt,
-  resolve-term-reads.Asked,
-  resolve-term-reads.Learnt,
+  resolve-at-reads.Asked,
+  resolve-at-reads.Learnt,
   walk-below t,
   walk.Post,
 ) (walk-leaf-at t) walk-leaf.Post walk-leaf-Inv-loop walk-leaf-μ-loop
@@ -1033,8 +1033,8 @@ walk-leaf-returns-2 : (t : ℕ) → walk-leaf-lts.Need-returns-2 (
   memory-of-reads.Learnt,
   remember-reads.Asked,
   remember-reads.Learnt,
-  resolve-term-reads.Asked,
-  resolve-term-reads.Learnt,
+  resolve-at-reads.Asked,
+  resolve-at-reads.Learnt,
   walk-below t,
   walk.Post,
 ) (walk-leaf-at t) walk-leaf.Post walk-leaf-Inv-loop walk-leaf-μ-loop
@@ -1803,8 +1803,8 @@ pub +walk+walk-leaf+walk-pair-spec : {M : Type 1} → statement M
       memory-of-reads.Learnt,
       remember-reads.Asked,
       remember-reads.Learnt,
-      resolve-term-reads.Asked,
-      resolve-term-reads.Learnt,
+      resolve-at-reads.Asked,
+      resolve-at-reads.Learnt,
       walk-below t,
       walk.Post,
     )
@@ -1826,8 +1826,8 @@ pub +walk+walk-leaf+walk-pair-spec : {M : Type 1} → statement M
     (walk-leaf-add-i-2 t)
     (walk-leaf-mul-i-2 t)
     (walk-leaf-shared-slice-read-i t)
-    (walk-leaf-add-resolve-term t)
-    (walk-leaf-resolve-term-requires t)
+    (walk-leaf-add-resolve-at t)
+    (walk-leaf-resolve-at-requires t)
     (walk-leaf-add-walk t)
     (walk-leaf-walk-requires t)
     (walk-leaf-enum-known-d t)

@@ -1,0 +1,2 @@
+-- What Feed's parts promise in terms of its definition. Assumes nothing.
+pub mod Feeding

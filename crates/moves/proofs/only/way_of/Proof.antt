@@ -1,0 +1,46 @@
+-- `step::only::way_of` meets its contract: a residual of one node is a leaf. Assumes nothing.
+use native.Mathlib.Omega.{arith}
+use mathlib.Core.Path.{sym, _∙_}
+use Rattle.moves.specs.Takes.Laws.{tree-in, tree-known}
+use Rattle.moves.specs.Only.Laws.{way-not-kind}
+use Rattle.moves.specs.Only.Turns.{root-leaf, root-tree}
+use borrow.Author.Needs.{needs}
+use Rattle.moves.proofs.only.way_of.Statement.{statement}
+use Rattle.moves.proofs.only.way_of.Tie as tie
+
+mul-w : tie.Need-mul-w
+mul-w c = omega (arith, tree-in _ (c .before .before .before .before .pre .1 .1 .short .at))
+
+shared-slice-read-w : tie.Need-shared-slice-read-w
+shared-slice-read-w c = tree-in _ (c .before .before .before .before .before .pre .1 .1 .short .at)
+
+kind-at-requires : tie.Need-kind-at-requires
+kind-at-requires c κs = (c .before .before .before .before .before .pre .0, tree-known _ (c .before .before .before .before .before .pre .1 .1 .short .at) .within)
+
+leaf-way-requires : tie.Need-leaf-way-requires
+leaf-way-requires c κs = (c .before .before .before .before .before .before .before .pre .0, ((tree-known _ (c .before .before .before .before .before .before .before .pre .1 .1 .short .at), sym (c .before .kind-at .ensures) ∙ c .if2 .taken), c .before .before .before .before .before .before .before .pre .1 .0))
+
+returns : tie.Need-returns
+returns c = root-leaf (c .before .before .before .before .before .before .before .before .pre .1 .1) _ (c .before .before .before .before .if1 .taken) _ (c .leaf-way .ensures)
+
+returns-2 : tie.Need-returns-2
+returns-2 c = root-leaf (c .before .before .before .before .before .before .before .pre .1 .1) _ (c .before .before .before .if1 .taken) _ (way-not-kind _ _ _ (λ z. c .if2 .left (c .before .kind-at .ensures ∙ z)))
+
+only-at-requires : tie.Need-only-at-requires
+only-at-requires c κs = search needs
+
+returns-3 : tie.Need-returns-3
+returns-3 c = root-tree (c .before .before .before .before .before .pre .1 .1) _ _ (c .only-at .ensures)
+
+pub way-of-spec : {M : Type 1} → statement M
+way-of-spec =
+    tie.close
+    (tie.spec
+    mul-w
+    shared-slice-read-w
+    kind-at-requires
+    leaf-way-requires
+    returns
+    returns-2
+    only-at-requires
+    returns-3)

@@ -1,0 +1,266 @@
+-- Whether a residual may take an event: one law per way out of `takes_at`.
+--     tree-in, tree-known, tree-left, tree-right     where the words of a tree and of its sides stand
+--     takes-stuck, takes-leaf                        a leaf, by its kind and its set
+--     takes-both-yes, takes-both-no, takes-either-yes, takes-either-no     a pair, by its set and its left side
+-- Assumes nothing.
+use Prim.Native.Nat.{ℕ, zero, suc, _+_, _*_, _<_}
+use native.Mathlib.Omega.{arith}
+use native.Mathlib.Numerals.{add-one}
+use native.Mathlib.Nat.{mul-zero, zero-mul, suc-mul}
+use mathlib.Core.Path.{_≡_, refl, ap, sym, _∙_}
+use mathlib.Core.Bool.{Bool, true, false}
+use mathlib.Core.List.{List, [], _∷_, _++_, append-assoc}
+use lib.ListN.{length, getD, drop, length-append, length-drop}
+use lib.Seq.{drop-cons, drop-drop, drop-at}
+use lib.Dec.{ltb}
+use borrow.Author.Tests.{lt-ltb, ltb-true, ltb-false, eq-eqb, ne-eqb}
+use Rattle.table.specs.Table.{Table}
+use Rattle.table.specs.Branches.{branches}
+use Rattle.table.specs.Branches.Capped.{capped}
+use Rattle.table.specs.Node.{termOf, kindOf}
+use Rattle.walk.specs.declared.nodes.Tree.{Tree}
+use Rattle.residual.specs.Words.{nodeWord, termOfWord, kindAt, holdsAt, inSet, remember, KnownWord}
+use Rattle.residual.specs.Residual.{Residual, leaf, pair, words, pairs, leafAfter, after}
+use Rattle.residual.specs.Residual.Resolved.{length-pairs, length-resolved}
+use Rattle.walk.specs.Forest.{Valid}
+use Rattle.walk.specs.Forest.Laws.{term-of-node, kind-of-node, holds-of-node, known-node}
+use Rattle.walk.specs.Course.Laws.{words-positive}
+use Rattle.moves.specs.Takes.{TreeAt, Takes}
+
+-- ---- how many residuals stand after an event
+
+module _ (t : Table) (e n m : ℕ) where
+  leaf-not-kind : (kindOf (termOf t n) ≡ 2 → ⊥) → length (after t e (leaf n m)) ≡ 0
+  unfolding after leafAfter
+  leaf-not-kind q = rw (ne-eqb _ _ q, leafAfter)
+
+  leaf-not-held : kindOf (termOf t n) ≡ 2 → inSet t (termOf t n) m e ≡ false → length (after t e (leaf n m)) ≡ 0
+  unfolding after leafAfter
+  leaf-not-held q h = rw (eq-eqb _ _ q, h, leafAfter)
+
+  leaf-held : kindOf (termOf t n) ≡ 2 → inSet t (termOf t n) m e ≡ true
+      → length (after t e (leaf n m)) ≡ branches t (termOf t (n + 1))
+  unfolding after leafAfter
+  leaf-held q h = rw (eq-eqb _ _ q, h, leafAfter) (length-resolved t (n + 1) (remember e m))
+
+  pair-both : (l r : Residual) → inSet t (termOf t n) m e ≡ true
+      → length (after t e (pair n m l r)) ≡ length (after t e l) * length (after t e r)
+  unfolding after
+  pair-both l r h = rw (h, after) (length-pairs n m (after t e l) (after t e r))
+
+  pair-either : (l r : Residual) → inSet t (termOf t n) m e ≡ false
+      → length (after t e (pair n m l r)) ≡ length (after t e l) + length (after t e r)
+  unfolding after
+  pair-either l r h =
+      rw (h, after)
+      (length-append (pairs n m (after t e l) (r ∷ [])) (pairs n m (l ∷ []) (after t e r))
+      ∙ omega (arith, length-pairs n m (after t e l) (r ∷ []), length-pairs n m (l ∷ []) (after t e r)))
+
+-- ---- whether there are any
+
+any-product : (x y : ℕ) → 0 < x → ltb 0 (x * y) ≡ ltb 0 y
+any-product zero y h = absurd (omega arith)
+any-product (suc x) zero h = rw (mul-zero (suc x))
+any-product (suc x) (suc y) h =
+    lt-ltb 0 (suc x * suc y) (omega (arith, suc-mul x (suc y))) ∙ sym (lt-ltb 0 (suc y) (omega arith))
+
+no-product : (x y : ℕ) → x ≡ 0 → ltb 0 (x * y) ≡ false
+no-product x y e = rw (e, zero-mul y)
+
+any-capped : (x c : ℕ) → c ≡ capped x → ltb 0 c ≡ ltb 0 x
+unfolding capped
+any-capped zero c e = let z : c ≡ 0 = omega arith in rw z
+any-capped (suc x) c e = lt-ltb 0 c (omega arith) ∙ sym (lt-ltb 0 (suc x) (omega arith))
+
+none-of : (x : ℕ) → ltb 0 x ≡ false → x ≡ 0
+none-of x e = omega (arith, ltb-false 0 x e)
+
+-- ---- where the words of a tree stand
+
+module _ {t : Table} {area : List ℕ} (k : ℕ) (s : TreeAt t area k) where
+  pub tree-in : k < length area
+  tree-in =
+      omega (
+        arith,
+        words-positive (s .tree),
+        length-append (words (s .tree)) (s .tail),
+        ap length (s .spelt),
+        length-drop k area,
+      )
+
+  tree-split : drop k area ≡ getD area k 0 ∷ drop (k + 1) area
+  tree-split = drop-cons area k 0 tree-in ∙ rw add-one
+
+  pub first-word : {x : ℕ} {xs : List ℕ} → drop k area ≡ (x ∷ xs) → (getD area k 0 ≡ x) × (drop (k + 1) area ≡ xs)
+  first-word g = let w = sym tree-split ∙ g in (cc, cc)
+
+  known-by : (r : Residual) (ws : List ℕ) → drop k area ≡ words r ++ ws → Valid t r → KnownWord t (getD area k 0)
+  unfolding words
+  known-by (leaf n m) ws g v = rw (first-word g .0) (known-node t n m (v .0))
+  known-by (pair n m l r) ws g v = rw (first-word g .0) (known-node t n m (v .0))
+
+  pub tree-known : KnownWord t (getD area k 0)
+  tree-known = known-by (s .tree) (s .tail) (s .spelt) (s .valid)
+
+  pub record Sides (whole : Residual) : Type 0 where
+    pub l : Residual
+    pub r : Residual
+    pub tail : List ℕ
+    pub size : length (words whole) ≡ suc (length (words l) + length (words r))
+    pub spelt : drop (k + 1) area ≡ words l ++ (words r ++ tail)
+    pub left : Valid t l
+    pub right : Valid t r
+
+  sides-by : (r : Residual) (ws : List ℕ) → drop k area ≡ words r ++ ws → Valid t r → kindAt t (getD area k 0) ≡ 4
+      → Sides r
+  unfolding words
+  sides-by (leaf n m) ws g v q =
+      absurd (v .1 (sym (kind-of-node n m (v .0 .0) t) ∙ ap (kindAt t) (sym (first-word g .0)) ∙ q))
+  sides-by (pair n m l r) ws g v q = record {
+    l = l;
+    r = r;
+    tail = ws;
+    size = ap suc (length-append (words l) (words r));
+    spelt = first-word g .1 ∙ append-assoc (words l) (words r) ws;
+    left = v .2;
+    right = v .3;
+  }
+
+  pub skipped : (a b : List ℕ) → drop (k + 1) area ≡ a ++ b → drop (k + 1 + length a) area ≡ b
+  skipped a b g =
+      sym (drop-drop (length a) (k + 1) area) ∙ ap (drop (length a)) g ∙ drop-at a b (length a) refl
+
+  module _ (q : kindAt t (getD area k 0) ≡ 4) where
+    pub sides : Sides (s .tree)
+    sides = sides-by (s .tree) (s .tail) (s .spelt) (s .valid) q
+
+    pub tree-left : TreeAt t area (k + 1)
+    tree-left = record {
+      tree = sides .l;
+      tail = words (sides .r) ++ sides .tail;
+      spelt = sides .spelt;
+      valid = sides .left;
+    }
+
+    pub tree-right : (e : ℕ) (a : Tree) → Takes t e area (k + 1) a → TreeAt t area (a .next) × (k < a .next)
+    tree-right e a ta =
+        let g = ta .of (sides .l) _ (sides .spelt) (sides .left) .1 in (
+          record {
+            tree = sides .r;
+            tail = sides .tail;
+            spelt = rw g (skipped (words (sides .l)) _ (sides .spelt));
+            valid = sides .right;
+          },
+          omega (arith, g),
+        )
+
+  -- ---- a leaf
+
+  module _ (e : ℕ) where
+    takes-by : (c : Tree) → c .next ≡ k + 1 → (kindAt t (getD area k 0) ≡ 4 → ⊥)
+        → ((n m : ℕ) → m < 16777216 → getD area k 0 ≡ nodeWord n m
+        → c .moves ≡ ltb 0 (length (after t e (leaf n m))))
+        → Takes t e area k c
+    unfolding words
+    takes-by c en q f = record { of = told }
+      where
+        told : (r : Residual) (ws : List ℕ) → drop k area ≡ words r ++ ws → Valid t r
+            → (c .moves ≡ ltb 0 (length (after t e r))) × (c .next ≡ k + length (words r))
+        told (leaf n m) ws g v = (f n m (v .0 .0) (first-word g .0), en)
+        told (pair n m l r) ws g v =
+            absurd (q (ap (kindAt t) (first-word g .0) ∙ kind-of-node n m (v .0 .0) t ∙ v .1))
+
+    pub takes-not-kind : (kindAt t (getD area k 0) ≡ 4 → ⊥) → (kindAt t (getD area k 0) ≡ 2 → ⊥)
+        → Takes t e area k (record { moves = false; next = k + 1 })
+    takes-not-kind q z =
+        takes-by _ refl q
+        (λ n m h w. rw (leaf-not-kind t e n m (λ y. z (ap (kindAt t) w ∙ kind-of-node n m h t ∙ y))))
+
+    module _ (q : kindAt t (getD area k 0) ≡ 2) where
+      not-pair : kindAt t (getD area k 0) ≡ 4 → ⊥
+      not-pair z = omega arith
+
+      here : (n m : ℕ) → m < 16777216 → getD area k 0 ≡ nodeWord n m → kindOf (termOf t n) ≡ 2
+      here n m h w = sym (kind-of-node n m h t) ∙ ap (kindAt t) (sym w) ∙ q
+
+      pub takes-not-held : holdsAt t e (getD area k 0) ≡ false
+          → Takes t e area k (record { moves = false; next = k + 1 })
+      takes-not-held z =
+          takes-by _ refl not-pair
+          (λ n m h w. rw (leaf-not-held t e n m (here n m h w)
+          (sym (holds-of-node n m h t e) ∙ ap (holdsAt t e) (sym w) ∙ z)))
+
+      pub takes-leaf : holdsAt t e (getD area k 0) ≡ true → (i c : ℕ) → i ≡ termOfWord (getD area k 0)
+          → c ≡ capped (branches t (termOf t (i + 1)))
+          → Takes t e area k (record { moves = ltb 0 c; next = k + 1 })
+      takes-leaf z i c ei ec =
+          takes-by _ refl not-pair
+          (λ n m h w.
+          let d : i ≡ n = ei ∙ ap termOfWord w ∙ term-of-node n m h in
+          rw (leaf-held t e n m (here n m h w) (sym (holds-of-node n m h t e) ∙ ap (holdsAt t e) (sym w) ∙ z))
+          (any-capped (branches t (termOf t (n + 1))) c (rw d at ec)))
+
+    -- ---- a pair
+
+    module _ (q : kindAt t (getD area k 0) ≡ 4) (a : Tree) (ta : Takes t e area (k + 1) a) (b : Tree)
+        (tb : Takes t e area (a .next) b) where
+      pair-by : (c : Tree) → c .next ≡ b .next
+          → ((n m : ℕ) (l r : Residual) → m < 16777216 → getD area k 0 ≡ nodeWord n m
+          → a .moves ≡ ltb 0 (length (after t e l)) → b .moves ≡ ltb 0 (length (after t e r))
+          → c .moves ≡ ltb 0 (length (after t e (pair n m l r))))
+          → Takes t e area k c
+      unfolding words
+      pair-by c en f = record { of = told }
+        where
+          told : (r : Residual) (ws : List ℕ) → drop k area ≡ words r ++ ws → Valid t r
+              → (c .moves ≡ ltb 0 (length (after t e r))) × (c .next ≡ k + length (words r))
+          told (leaf n m) ws g v =
+              absurd (v .1 (sym (kind-of-node n m (v .0 .0) t) ∙ ap (kindAt t) (sym (first-word g .0)) ∙ q))
+          told (pair n m l r) ws g v =
+              let after-l : drop (k + 1) area ≡ words l ++ (words r ++ ws) =
+              first-word g .1 ∙ append-assoc (words l) (words r) ws in
+              let ga = ta .of l (words r ++ ws) after-l (v .2) in
+              let there : drop (a .next) area ≡ words r ++ ws = rw (ga .1) (skipped (words l) (words r ++ ws) after-l)
+              in
+              let gb = tb .of r ws there (v .3) in (
+                f n m l r (v .0 .0) (first-word g .0) (ga .0) (gb .0),
+                omega (arith, en, ga .1, gb .1, length-append (words l) (words r)),
+              )
+
+      set-of : (x : Bool) → holdsAt t e (getD area k 0) ≡ x → (n m : ℕ) → m < 16777216
+          → getD area k 0 ≡ nodeWord n m → inSet t (termOf t n) m e ≡ x
+      set-of x z n m h w = sym (holds-of-node n m h t e) ∙ ap (holdsAt t e) (sym w) ∙ z
+
+      pub takes-both-yes : holdsAt t e (getD area k 0) ≡ true → a .moves ≡ true
+          → Takes t e area k (record { moves = b .moves; next = b .next })
+      takes-both-yes z y =
+          pair-by _ refl
+          (λ n m l r h w ml mr.
+          rw (pair-both t e n m l r (set-of true z n m h w))
+          (mr ∙ sym (any-product (length (after t e l)) (length (after t e r)) (ltb-true 0 _ (sym ml ∙ y)))))
+
+      pub takes-both-no : holdsAt t e (getD area k 0) ≡ true → a .moves ≡ false
+          → Takes t e area k (record { moves = false; next = b .next })
+      takes-both-no z y =
+          pair-by _ refl
+          (λ n m l r h w ml mr.
+          rw (pair-both t e n m l r (set-of true z n m h w))
+          (sym (no-product (length (after t e l)) (length (after t e r)) (none-of _ (sym ml ∙ y)))))
+
+      pub takes-either-yes : holdsAt t e (getD area k 0) ≡ false → a .moves ≡ true
+          → Takes t e area k (record { moves = true; next = b .next })
+      takes-either-yes z y =
+          pair-by _ refl
+          (λ n m l r h w ml mr.
+          let p : 0 < length (after t e l) = ltb-true 0 (length (after t e l)) (sym ml ∙ y) in
+          rw (pair-either t e n m l r (set-of false z n m h w))
+          (sym (lt-ltb 0 (length (after t e l) + length (after t e r)) (omega arith))))
+
+      pub takes-either-no : holdsAt t e (getD area k 0) ≡ false → a .moves ≡ false
+          → Takes t e area k (record { moves = b .moves; next = b .next })
+      takes-either-no z y =
+          pair-by _ refl
+          (λ n m l r h w ml mr.
+          let p : length (after t e l) + length (after t e r) ≡ length (after t e r) =
+          omega (arith, none-of (length (after t e l)) (sym ml ∙ y)) in
+          rw (pair-either t e n m l r (set-of false z n m h w), p) mr)

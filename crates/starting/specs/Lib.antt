@@ -1,0 +1,2 @@
+-- What Start's parts promise in terms of its definition. Assumes nothing.
+pub mod Starting
