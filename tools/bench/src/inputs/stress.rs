@@ -33,7 +33,7 @@ pub fn inputs() -> Vec<Input> {
     inputs
 }
 
-fn fresh() -> [Input; 5] {
+fn fresh() -> [Input; 6] {
     let different = format!("{ONE_SET} 03 00 {} 00 02 00 05 00 01", chosen(256, "00"));
     let fail =
         format!("{ONE_SET} 02 00 {} 01 04 00 01 {}", chosen(256, "00"), beside(7, "05 00"));
@@ -80,7 +80,23 @@ fn fresh() -> [Input; 5] {
             chain,
             &[0],
         ),
+        input(
+            "stress: long paths",
+            "a hundred {0} -> five calls through 30 choices each, to 200 different STOPs; one event",
+            paths(),
+            &[0],
+        ),
     ]
+}
+
+// def 0 = 200 STOPs; defs 1 to 5 = 30 nested FAIL choice, then the one before; def 6 = a hundred
+// times {0} -> call 5
+fn paths() -> String {
+    let mut table = format!("{ONE_SET} 07 00 {}", chosen(200, "00"));
+    for i in 0..5 {
+        table += &format!(" 00 {}05 {i:02X}", "03 01 ".repeat(30));
+    }
+    table + &format!(" 00 {}", chosen(100, "02 00 05 05"))
 }
 
 // P = a -> P choice a -> P, eight of them over a set
