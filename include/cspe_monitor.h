@@ -10,7 +10,8 @@
  * nothing between calls, so calls on different buffers may run at the same time.
  *
  * What is returned. Each function but cspe_view returns the refusal's number, 0 where there is none (enum
- * cspe_refusal). One more word is written through the last pointer on every call: the result or the refusal's place.
+ * cspe_refusal). One more word is written through the last pointer on every call: the result, the
+ * refusal's place, or 0.
  *
  * The record of a monitor is CSPE_RECORD_WORDS words, at these indices:
  *     CSPE_TAKEN        how many events were taken
@@ -78,7 +79,8 @@ enum cspe_refusal {
  * 0           numbers has the table's numbers and then zeros; *value is how many they are: the number list that the
  *             other functions take
  * 1           numbers and work are kept; *value is 0
- * 2 to 9      numbers is zeroed; *value is the place, among the bytes
+ * 2 to 9      numbers is zeroed; *value is the refusal's place: for 3 to 7 among the bytes, for 8 a level, for 9 a
+ *             term's number, for 2 always 0
  * The work area is zeroed, but on 1.
  */
 uint32_t cspe_read(const uint8_t *bytes, size_t bytes_length, uint16_t *numbers, size_t numbers_length,
@@ -92,7 +94,8 @@ uint32_t cspe_read(const uint8_t *bytes, size_t bytes_length, uint16_t *numbers,
  * 0           bytes begins with the table's bytes, and the rest is kept; *value is how many they are
  * 1           bytes is kept; *value is 0. The work area's length is wrong, and work is kept; or, tried last of all,
  *             the table's bytes are more than bytes has room for, and work is zeroed
- * 2 to 9      bytes is kept; *value is the place, in the list
+ * 2 to 9      bytes is kept; *value is the refusal's place: for 3 to 7 in the list, for 8 a level, for 9 a term's
+ *             number, for 2 always 0
  * The work area is zeroed, but as said on 1.
  */
 uint32_t cspe_write(const uint16_t *list, size_t list_length, uint8_t *bytes, size_t bytes_length,
