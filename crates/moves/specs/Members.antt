@@ -24,8 +24,8 @@ use Rattle.residual.specs.Distinct.{sameWords, heldIn, kept, empty, slotAt, Ind
 use Rattle.residual.specs.Distinct.Laws.{same-true, kept-held, kept-new, kept-below}
 use Rattle.walk.specs.Walk.{leafKept, leafResults, joins, before, longest, room}
 use Rattle.walk.specs.Forest.{Valid, afterKept}
-use Rattle.walk.specs.Forest.Laws.{words-pairs, term-of-node, memory-of-node}
-use Rattle.walk.specs.Course.Laws.{results-yes, kept-yes, kept-not-kind, kept-not-held, words-short}
+use Rattle.walk.specs.Forest.Words.{words-pairs, term-of-node, memory-of-node}
+use Rattle.walk.specs.Walk.Leaves.{results-yes, kept-yes, kept-not-kind, kept-not-held, words-short}
 use Rattle.slots.specs.Canon.Sets.{Mem, SameMembers}
 use Rattle.slots.specs.Canon.Members.{Sub, in-left, in-right, out-append, map-in, map-out, sub-map, same-refl}
 use Rattle.slots.specs.Canon.Members.{same-append}

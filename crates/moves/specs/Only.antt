@@ -10,7 +10,7 @@
 --     Follows, Carries, Rest, Rebuilds     what `follow`, `carry`, `rebuild` and `extend` ask
 -- The laws are in `Only/Marks.antt` (marks and the words rebuilt), `Only/Moved.antt` (the words of several results),
 -- `Only/Laws.antt` and `Only/Pair.antt` (the residuals after the event), `Only/Joined.antt` and `Only/Turns.antt` (the
--- functions of `only.rt`), `Only/Following.antt` and `Only/Rebuilding.antt` (those of `rebuild.rt`). Assumes nothing.
+-- functions of `only.rt`), `Only/Following.antt` and `Only/Rebuilding.antt` (those of `rebuilding.rt`). Assumes nothing.
 use Prim.Native.Nat.{ℕ, zero, suc, _+_, _*_, _/_, _%_, _<_, _≤_, _^_}
 use mathlib.Core.Path.{_≡_}
 use mathlib.Core.Bool.{Bool, true, false}

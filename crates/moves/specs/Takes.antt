@@ -1,9 +1,8 @@
 -- Whether a residual may take an event (01, "Operations": "exactly when the residuals after e, crowded or not, are
--- not
--- empty"), of the tree whose words stand at a place of an area.
+-- not empty"), of the tree whose words stand at a place of an area.
 --     TreeAt     a tree's words stand there
 --     Takes      what is said of it
--- The laws are in `Takes/Laws.antt`. Assumes nothing.
+-- The laws are in `Takes/Counts.antt` (how many residuals there are) and `Takes/Laws.antt`. Assumes nothing.
 use Prim.Native.Nat.{ℕ, _+_}
 use mathlib.Core.Path.{_≡_}
 use mathlib.Core.List.{List, _++_}
@@ -13,6 +12,7 @@ use Rattle.table.specs.Table.{Table}
 use Rattle.walk.specs.declared.nodes.Tree.{Tree}
 use Rattle.residual.specs.Residual.{Residual, words, after}
 use Rattle.walk.specs.Forest.{Valid}
+pub mod Counts
 pub mod Laws
 
 pub record TreeAt (t : Table) (area : List ℕ) (k : ℕ) : Type 0 where

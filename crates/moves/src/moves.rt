@@ -1,5 +1,5 @@
 // The results that moves say of a residual, held one after the other. The definitions are in
-// `specs/Stepped.antt`.
+// `specs/Moving.antt`.
 use crate::rebuilding::carry;
 use crate::rebuilding::extend;
 use residual::memory_of;

@@ -1,16 +1,10 @@
 // A set of residuals and one event: all results of all residuals, held in another area. The
-// definitions are in `specs/Prepared.antt` and `specs/Stepped.antt`; `specs/Claims.antt` says what
-// they come to.
+// definitions are in `specs/Stepped.antt`; `specs/Claims.antt` says what they come to.
+use crate::preparing::prepare;
 use moves::Way;
 use moves::rebuild;
 use moves::step_moves;
 use moves::way_of;
-use residual::distinct;
-use residual::holds_at;
-use residual::kind_at;
-use residual::memory_of;
-use residual::remember;
-use residual::term_of;
 use slots::Held;
 use slots::put;
 use walk::walk;
@@ -20,50 +14,7 @@ ghost use lib.ListN.{length, take};
 ghost use Rattle.table.specs.Index.{tableIn, Indexed};
 ghost use Rattle.residual.specs.Distinct.{window};
 ghost use Rattle.slots.specs.Holding.{Gave};
-ghost use Rattle.walk.specs.Course.{nodeCount, Ready};
-ghost use Rattle.step.specs.Prepared.{Sound, Filled};
 ghost use Rattle.step.specs.Stepped.{Source, StepsOne, steppedOne, SteppedOne, SteppedSet};
-
-// Fills node k's part of the store: the number of its results and their indices.
-fn prepare_node(list: &[u16], work: &[u64], bound: usize, e: u64, store: &mut [u64], k: usize)
-    requires { ⌜ Indexed (now list) (now work) ⌝ }
-    requires { ⌜ Sound (tableIn (now list)) bound e (now store) ⌝ }
-    requires { ⌜ (1 ≤ k) × (k ≤ nodeCount (now store)) ⌝ }
-    ensures { λ _.
-        ⌜ Filled (tableIn (now (list .entry))) bound e (now (store .entry))
-        (now (store .exit)) k ⌝ }
-{
-    let w = store[k];
-    let at = k * 257;
-    if kind_at(list, work, w) != 2 {
-        store[at] = 0;
-        return;
-    }
-    if holds_at(list, work, w, e) {
-        let t = term_of(w);
-        let m = remember(e, memory_of(w));
-        let c = distinct(list, work, bound, t + 1, m, store, at + 1);
-        store[at] = c as u64;
-        return;
-    }
-    store[at] = 0;
-}
-
-// Fills the store for the residual in its first sixteen words.
-fn prepare(list: &[u16], work: &[u64], bound: usize, e: u64, store: &mut [u64])
-    requires { ⌜ Indexed (now list) (now work) ⌝ }
-    requires { ⌜ Sound (tableIn (now list)) bound e (now store) ⌝ }
-    ensures { λ _.
-        ⌜ Ready (tableIn (now (list .entry))) bound e (now (store .exit))
-        × (take 257 (now (store .exit)) ≡ take 257 (now (store .entry))) ⌝ }
-{
-    let n = store[0] as usize;
-    let mut k = 1;
-    while k <= n {
-        prepare_node(list, work, bound, e, store, k);
-        k += 1;
-    }
-}
 
 // Copies the sixteen words from p on to the front of the store.
 fn load(src: &[u64], p: usize, store: &mut [u64])

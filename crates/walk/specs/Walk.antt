@@ -1,10 +1,10 @@
 -- One residual and one event: all results, as lists of words, from the node words in reading order.
 --     leafKept, options     the results of a leaf, repeats dropped: their indices, their words
--- results the ways to go on: the lowest bit of the modes says whether the next tree takes the event (1)
---                           or is kept (0)
+--     results               the ways to go on: the lowest bit of the modes says whether the next tree takes the event
+--                           (1) or is kept (0)
 --     leafResults, room     the residuals after an event of a leaf; the words that nodes can become at most
 --     onto                  a slot followed by each
--- The laws are in `Walk/Results.antt`. Assumes nothing.
+-- The laws are in `Walk/Results.antt` and, of a leaf, `Walk/Leaves.antt`. Assumes nothing.
 use Prim.Native.Nat.{ℕ, _+_, _*_, _/_, _%_, max}
 use mathlib.Core.Bool.{true, false}
 use mathlib.Core.List.{List, [], _∷_, _++_, map}
@@ -15,6 +15,7 @@ use Rattle.residual.specs.Words.{remember, termOfWord, memoryOfWord, kindAt, ho
 use Rattle.residual.specs.Residual.{Residual, words, resolved, leafAfter, nth, pushAll}
 use Rattle.residual.specs.Distinct.{kept, slotAt}
 pub mod Results
+pub mod Leaves
 
 -- the indices of a leaf's distinct results
 unfoldable pub leafKept : Table → ℕ → ℕ → List ℕ

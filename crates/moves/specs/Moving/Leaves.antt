@@ -27,7 +27,7 @@ use Rattle.residual.specs.Distinct.Laws.{window-cons}
 use Rattle.walk.specs.Walk.{room, leafResults, longest, onto}
 use Rattle.slots.specs.Holding.{Outcome, said, putOne, putAll, Gave}
 use Rattle.slots.specs.Holding.Laws.{put-none, put-single, put-then, put-stop}
-use Rattle.walk.specs.Course.Laws.{results-yes, words-short, words-at}
+use Rattle.walk.specs.Walk.Leaves.{results-yes, words-short, words-at}
 use Rattle.moves.specs.Only.{rebuilt, ending, tried, Rest}
 use Rattle.moves.specs.Only.{Rebuilds}
 use Rattle.moves.specs.Moving.{StepsLeaf, steppedLeaf}

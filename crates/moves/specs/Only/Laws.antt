@@ -22,8 +22,8 @@ use Rattle.residual.specs.Residual.{Residual, leaf, words, after, nth}
 use Rattle.residual.specs.Residual.Resolved.{length-resolved}
 use Rattle.walk.specs.Walk.{option, leafResults}
 use Rattle.walk.specs.Forest.{Valid}
-use Rattle.walk.specs.Forest.Laws.{term-of-node}
-use Rattle.walk.specs.Course.Laws.{results-yes}
+use Rattle.walk.specs.Forest.Words.{term-of-node}
+use Rattle.walk.specs.Walk.Leaves.{results-yes}
 use Rattle.moves.specs.Members.{node-results, results-not-kind, results-not-held}
 use Rattle.moves.specs.Only.{leafMoves, countWay, leafWay}
 use Rattle.moves.specs.Only.{rebuilt, ending, tried, moved, Active, Movable, Marked}

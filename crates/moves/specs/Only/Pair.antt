@@ -22,7 +22,8 @@ use Rattle.residual.specs.Words.{inSet, nodeWord, holdsAt}
 use Rattle.residual.specs.Residual.{Residual, leaf, pair, words, pairs, after}
 use Rattle.walk.specs.Walk.{joins, before}
 use Rattle.walk.specs.Forest.{Valid}
-use Rattle.walk.specs.Forest.Laws.{holds-of-node, words-pairs, pairs-nil}
+use Rattle.walk.specs.Forest.Words.{holds-of-node, words-pairs}
+use Rattle.walk.specs.Forest.Still.{pairs-nil}
 use Rattle.moves.specs.Only.{marksOf, bitsOf, pairMoves, eitherBy, bothBy, joined}
 use Rattle.moves.specs.Only.{wayOf, rebuilt, ending, starting, moved, Movable, Marked}
 use Rattle.moves.specs.Only.Marks.{grown-kept, rebuilt-none, rebuilt-append, marked-none}

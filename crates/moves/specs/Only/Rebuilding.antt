@@ -17,7 +17,7 @@ use Rattle.residual.specs.Residual.Into.{length-pushed, head-pushed, length-pus
 use Rattle.residual.specs.Distinct.{window}
 use Rattle.residual.specs.Distinct.Laws.{window-cons, window-none}
 use Rattle.walk.specs.Walk.{option, room, leafResults, longest}
-use Rattle.walk.specs.Course.Laws.{results-yes, words-short}
+use Rattle.walk.specs.Walk.Leaves.{results-yes, words-short}
 use Rattle.moves.specs.Only.{grown, rebuilt, Single, Follows, Carries, Rest, Rebuilds}
 use Rattle.moves.specs.Only.Marks.{grown-kept, grown-moved}
 

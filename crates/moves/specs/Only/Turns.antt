@@ -21,8 +21,8 @@ use Rattle.moves.specs.declared.only.WayAt.{WayAt}
 use Rattle.residual.specs.Words.{termOfWord, kindAt, holdsAt}
 use Rattle.residual.specs.Residual.{Residual, leaf, pair, words}
 use Rattle.walk.specs.Forest.{Valid}
-use Rattle.walk.specs.Forest.Laws.{kind-of-node}
-use Rattle.walk.specs.Course.Laws.{words-positive}
+use Rattle.walk.specs.Forest.Words.{kind-of-node}
+use Rattle.walk.specs.Forest.Words.{words-positive}
 use Rattle.moves.specs.Takes.Laws.{first-word, sides, skipped}
 use Rattle.moves.specs.Only.{marksOf, leafMoves, countWay, leafWay}
 use Rattle.moves.specs.Only.{joined, wayOf, ShortTree, Only, Rooted, WayIn}

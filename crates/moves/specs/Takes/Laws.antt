@@ -1,79 +1,30 @@
 -- Whether a residual may take an event: one law per way out of `takes_at`.
 --     tree-in, tree-known, tree-left, tree-right     where the words of a tree and of its sides stand
---     takes-stuck, takes-leaf                        a leaf, by its kind and its set
+--     takes-not-kind, takes-not-held, takes-leaf     a leaf, by its kind and its set
 --     takes-both-yes, takes-both-no, takes-either-yes, takes-either-no     a pair, by its set and its left side
 -- Assumes nothing.
-use Prim.Native.Nat.{ℕ, zero, suc, _+_, _*_, _<_}
+use Prim.Native.Nat.{ℕ, suc, _+_, _<_}
 use native.Mathlib.Omega.{arith}
 use native.Mathlib.Numerals.{add-one}
-use native.Mathlib.Nat.{mul-zero, zero-mul, suc-mul}
 use mathlib.Core.Path.{_≡_, refl, ap, sym, _∙_}
 use mathlib.Core.Bool.{Bool, true, false}
-use mathlib.Core.List.{List, [], _∷_, _++_, append-assoc}
+use mathlib.Core.List.{List, _∷_, _++_, append-assoc}
 use lib.ListN.{length, getD, drop, length-append, length-drop}
 use lib.Seq.{drop-cons, drop-drop, drop-at}
 use lib.Dec.{ltb}
-use borrow.Author.Tests.{lt-ltb, ltb-true, ltb-false, eq-eqb, ne-eqb}
+use borrow.Author.Tests.{lt-ltb, ltb-true}
 use Rattle.table.specs.Table.{Table}
 use Rattle.table.specs.Branches.{branches}
 use Rattle.table.specs.Branches.Capped.{capped}
 use Rattle.table.specs.Node.{termOf, kindOf}
 use Rattle.walk.specs.declared.nodes.Tree.{Tree}
-use Rattle.residual.specs.Words.{nodeWord, termOfWord, kindAt, holdsAt, inSet, remember, KnownWord}
-use Rattle.residual.specs.Residual.{Residual, leaf, pair, words, pairs, leafAfter, after}
-use Rattle.residual.specs.Residual.Resolved.{length-pairs, length-resolved}
+use Rattle.residual.specs.Words.{nodeWord, termOfWord, kindAt, holdsAt, inSet, KnownWord}
+use Rattle.residual.specs.Residual.{Residual, leaf, pair, words, after}
 use Rattle.walk.specs.Forest.{Valid}
-use Rattle.walk.specs.Forest.Laws.{term-of-node, kind-of-node, holds-of-node, known-node}
-use Rattle.walk.specs.Course.Laws.{words-positive}
+use Rattle.walk.specs.Forest.Words.{term-of-node, kind-of-node, holds-of-node, known-node, words-positive}
 use Rattle.moves.specs.Takes.{TreeAt, Takes}
-
--- ---- how many residuals stand after an event
-
-module _ (t : Table) (e n m : ℕ) where
-  leaf-not-kind : (kindOf (termOf t n) ≡ 2 → ⊥) → length (after t e (leaf n m)) ≡ 0
-  unfolding after leafAfter
-  leaf-not-kind q = rw (ne-eqb _ _ q, leafAfter)
-
-  leaf-not-held : kindOf (termOf t n) ≡ 2 → inSet t (termOf t n) m e ≡ false → length (after t e (leaf n m)) ≡ 0
-  unfolding after leafAfter
-  leaf-not-held q h = rw (eq-eqb _ _ q, h, leafAfter)
-
-  leaf-held : kindOf (termOf t n) ≡ 2 → inSet t (termOf t n) m e ≡ true
-      → length (after t e (leaf n m)) ≡ branches t (termOf t (n + 1))
-  unfolding after leafAfter
-  leaf-held q h = rw (eq-eqb _ _ q, h, leafAfter) (length-resolved t (n + 1) (remember e m))
-
-  pair-both : (l r : Residual) → inSet t (termOf t n) m e ≡ true
-      → length (after t e (pair n m l r)) ≡ length (after t e l) * length (after t e r)
-  unfolding after
-  pair-both l r h = rw (h, after) (length-pairs n m (after t e l) (after t e r))
-
-  pair-either : (l r : Residual) → inSet t (termOf t n) m e ≡ false
-      → length (after t e (pair n m l r)) ≡ length (after t e l) + length (after t e r)
-  unfolding after
-  pair-either l r h =
-      rw (h, after)
-      (length-append (pairs n m (after t e l) (r ∷ [])) (pairs n m (l ∷ []) (after t e r))
-      ∙ omega (arith, length-pairs n m (after t e l) (r ∷ []), length-pairs n m (l ∷ []) (after t e r)))
-
--- ---- whether there are any
-
-any-product : (x y : ℕ) → 0 < x → ltb 0 (x * y) ≡ ltb 0 y
-any-product zero y h = absurd (omega arith)
-any-product (suc x) zero h = rw (mul-zero (suc x))
-any-product (suc x) (suc y) h =
-    lt-ltb 0 (suc x * suc y) (omega (arith, suc-mul x (suc y))) ∙ sym (lt-ltb 0 (suc y) (omega arith))
-
-no-product : (x y : ℕ) → x ≡ 0 → ltb 0 (x * y) ≡ false
-no-product x y e = rw (e, zero-mul y)
-
-any-capped : (x c : ℕ) → c ≡ capped x → ltb 0 c ≡ ltb 0 x
-unfolding capped
-any-capped zero c e = let z : c ≡ 0 = omega arith in rw z
-any-capped (suc x) c e = lt-ltb 0 c (omega arith) ∙ sym (lt-ltb 0 (suc x) (omega arith))
-
-none-of : (x : ℕ) → ltb 0 x ≡ false → x ≡ 0
-none-of x e = omega (arith, ltb-false 0 x e)
+use Rattle.moves.specs.Takes.Counts.{leaf-not-kind, leaf-not-held, leaf-held, pair-both, pair-either}
+use Rattle.moves.specs.Takes.Counts.{any-product, no-product, any-capped, none-of}
 
 -- ---- where the words of a tree stand
 

@@ -25,14 +25,14 @@ use Rattle.residual.specs.Distinct.Laws.{at-window, length-window}
 use Rattle.walk.specs.Walk.{room, results, onto}
 use Rattle.slots.specs.Holding.{putOne, putAll, Gave}
 use Rattle.slots.specs.Holding.Laws.{put-none, put-single}
-use Rattle.walk.specs.Forest.{Forest, afterKept, wordsAll}
-use Rattle.walk.specs.Course.{nodeCount, nodesFrom, Ready, Place, walked}
+use Rattle.walk.specs.Forest.{afterKept, wordsAll}
+use Rattle.walk.specs.Course.{nodeCount, nodesFrom, Trees, Place, walked}
 use Rattle.moves.specs.Only.{wayOf, rebuilt, Rooted, WayIn, Rebuilds}
 use Rattle.moves.specs.Only.Marks.{marks-small}
 use Rattle.moves.specs.Only.Laws.{MovedBy}
 use Rattle.moves.specs.Only.Pair.{became}
-use Rattle.step.specs.Prepared.{Sound}
-use Rattle.step.specs.Prepared.Laws.{nodes-same, window-of-prefix}
+use Rattle.step.specs.Prepared.{Sound, Fills}
+use Rattle.step.specs.Prepared.Below.{nodes-same, window-of-prefix}
 use Rattle.step.specs.Stepped.{slotNodes, StepsOne, steppedOne, SteppedOne}
 use Rattle.moves.specs.Moving.{StepsMoves, steppedMoves}
 use Rattle.slots.specs.Canon.Sets.{SameMembers}
@@ -42,14 +42,6 @@ use Rattle.step.specs.Successors.Laws.{results-of}
 
 module _ {t : Table} {bound e : ℕ} {src : List ℕ} {i : ℕ} {store dst : List ℕ} {c : ℕ}
     (s : StepsOne t bound e src i store dst c) where
-  tree-forest : Forest t (slotNodes src i)
-  unfolding wordsAll
-  tree-forest = record {
-    trees = s .slot .tree ∷ [];
-    spelt = s .slot .spelt ∙ sym (append-nil (words (s .slot .tree)));
-    valid = (s .slot .valid, tt);
-  }
-
   -- ---- the tree in its slot
 
   tree-spelt : drop (i * 16 + 1) src
@@ -186,13 +178,29 @@ module _ {t : Table} {bound e : ℕ} {src : List ℕ} {i : ℕ} {store dst : Lis
       few = rw count-is (s .slot .few);
       event = s .event;
       whole = s .whole;
-      forest = rw nodes-are tree-forest;
+      tree = s .slot .tree;
+      spelt = nodes-are ∙ s .slot .spelt;
+      valid = s .slot .valid;
       room = rw nodes-are (s .slot .room);
     }
 
-    module _ (now : List ℕ) (r : Ready t bound e now × (take 257 now ≡ take 257 store₁)) where
+    module _ (now : List ℕ) (f : Fills t bound e store₁ now) where
       now-nodes : nodesFrom now 1 ≡ slotNodes src i
-      now-nodes = nodes-same store₁ now (r .1) (loaded-sound .few) ∙ nodes-are
+      now-nodes = nodes-same store₁ now 1 (f .slot) (loaded-sound .few) (omega arith) ∙ nodes-are
+
+      tree-nodes : nodesFrom now 1 ≡ words (s .slot .tree)
+      tree-nodes = now-nodes ∙ s .slot .spelt
+
+      start-trees : Trees t e now 1 1
+      unfolding wordsAll
+      start-trees = record {
+        forest = record {
+          trees = s .slot .tree ∷ [];
+          spelt = tree-nodes ∙ sym (append-nil (words (s .slot .tree)));
+          valid = (s .slot .valid, tt);
+        };
+        served = (λ z. f .tree (s .slot .tree) (s .slot .valid) (nodes-are ∙ s .slot .spelt), tt);
+      }
 
       pub start-place : Place t e now 1 1 empty dst c
       start-place = record {
@@ -202,7 +210,7 @@ module _ {t : Table} {bound e : ℕ} {src : List ℕ} {i : ℕ} {store dst : Lis
         whole = refl;
         room = let q : room t e (nodesFrom now 1) ≤ 15 = rw now-nodes (s .slot .room) in omega arith;
         held = s .held;
-        forest = rw now-nodes tree-forest;
+        trees = start-trees;
       }
 
       pub many-done : (r : Held) (l : List ℕ) → Gave (walked t e now 1 1 empty dst c) r l

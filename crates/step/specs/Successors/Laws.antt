@@ -18,7 +18,7 @@ use Rattle.walk.specs.Walk.{results, joins, onto}
 use Rattle.slots.specs.Holding.{said, putAll}
 use Rattle.walk.specs.Walk.Results.{onto-append}
 use Rattle.walk.specs.Forest.{Valid, afterKept}
-use Rattle.walk.specs.Forest.Laws.{results-moved}
+use Rattle.walk.specs.Forest.Results.{results-moved}
 use Rattle.step.specs.Stepped.{gathered, SoundSlot, Source}
 use Rattle.slots.specs.Canon.{canonFrom, joined, areaOf, Slots}
 use Rattle.slots.specs.Canon.Laws.{put-canon, put-exceeded-canon}

@@ -1,5 +1,5 @@
 use borrow.Author.Needs.{needs}
--- `step::moves::step_moves` meets its contract: the first node is kept or moves, and what is left is shorter by it. The
+-- `moves::moves::step_moves` meets its contract: the first node is kept or moves, and what is left is shorter by it. The
 -- measure is the nodes left. Assumes nothing.
 use native.Mathlib.Omega.{arith}
 use Rattle.moves.specs.Moving.Moves.{moves-head, moves-leaf, moves-carries, moves-last, moves-asks, moves-kept}

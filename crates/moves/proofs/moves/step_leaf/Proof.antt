@@ -1,4 +1,4 @@
--- `step::moves::step_leaf` meets its contract: the first i results of the leaf are held, and what is left gives what was
+-- `moves::moves::step_leaf` meets its contract: the first i results of the leaf are held, and what is left gives what was
 -- left at the start. Assumes nothing.
 use Prim.Native.Nat.{_-_, _*_, _≤_}
 use native.Mathlib.Omega.{arith}

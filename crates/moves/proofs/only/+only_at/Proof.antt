@@ -1,4 +1,4 @@
--- `step::only::only_at` meets its contract: the sides of a pair stand one after the other, each shorter; the measure is
+-- `moves::only::only_at` meets its contract: the sides of a pair stand one after the other, each shorter; the measure is
 -- how many words of the area follow. Assumes nothing.
 use native.Mathlib.Omega.{arith}
 use mathlib.Core.Path.{sym, _∙_}

@@ -1,4 +1,4 @@
--- `step::only::both_way` meets its contract: one law for each way out. Assumes nothing.
+-- `moves::only::both_way` meets its contract: one law for each way out. Assumes nothing.
 use native.Mathlib.Omega.{arith}
 use Rattle.moves.specs.Only.Joined.{both-left, both-right, sums-fit}
 use borrow.Author.Needs.{needs}

@@ -1,4 +1,4 @@
--- `step::only::either_way` meets its contract: one law for each way out. Assumes nothing.
+-- `moves::only::either_way` meets its contract: one law for each way out. Assumes nothing.
 use native.Mathlib.Omega.{arith}
 use Rattle.moves.specs.Only.Joined.{either-told, either-many, sums-fit}
 use borrow.Author.Needs.{needs}

@@ -1,4 +1,4 @@
--- `step::only::leaf_way` meets its contract: the branches of the follower say which case of `countWay` holds.
+-- `moves::only::leaf_way` meets its contract: the branches of the follower say which case of `countWay` holds.
 -- Assumes nothing.
 use native.Mathlib.Omega.{arith}
 use mathlib.Core.Path.{sym, _∙_}

@@ -1,4 +1,4 @@
--- `step::only::left_moves` meets its contract: the bits move up by one node. Assumes nothing.
+-- `moves::only::left_moves` meets its contract: the bits move up by one node. Assumes nothing.
 use Rattle.moves.specs.Only.Joined.{left-told}
 use borrow.Author.Needs.{needs}
 use Rattle.moves.proofs.only.left_moves.Statement.{statement}

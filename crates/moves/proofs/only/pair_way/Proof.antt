@@ -1,4 +1,4 @@
--- `step::only::pair_way` meets its contract: one law for each way out. Assumes nothing.
+-- `moves::only::pair_way` meets its contract: one law for each way out. Assumes nothing.
 use Rattle.moves.specs.Only.Joined.{fits-left, fits-right, fits-both, pair-left, pair-right, pair-both}
 use Rattle.moves.specs.Only.Joined.{pair-either}
 use borrow.Author.Needs.{needs}

@@ -1,4 +1,4 @@
--- `step::only::right_moves` meets its contract: the bits move up by n nodes. Assumes nothing.
+-- `moves::only::right_moves` meets its contract: the bits move up by n nodes. Assumes nothing.
 use Rattle.moves.specs.Only.Joined.{right-told}
 use borrow.Author.Needs.{needs}
 use Rattle.moves.proofs.only.right_moves.Statement.{statement}

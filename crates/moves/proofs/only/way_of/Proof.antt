@@ -1,4 +1,4 @@
--- `step::only::way_of` meets its contract: a residual of one node is a leaf. Assumes nothing.
+-- `moves::only::way_of` meets its contract: a residual of one node is a leaf. Assumes nothing.
 use native.Mathlib.Omega.{arith}
 use mathlib.Core.Path.{sym, _∙_}
 use Rattle.moves.specs.Takes.Laws.{tree-in, tree-known}

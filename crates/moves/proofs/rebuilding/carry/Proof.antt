@@ -1,4 +1,4 @@
--- `step::rebuild::carry` meets its contract: one law for each way out. Assumes nothing.
+-- `moves::rebuilding::carry` meets its contract: one law for each way out. Assumes nothing.
 use native.Mathlib.Omega.{arith}
 use Rattle.index.specs.Facts.{terms-few}
 use Rattle.residual.specs.Lawful.{lawful}

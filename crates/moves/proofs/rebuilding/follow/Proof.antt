@@ -1,4 +1,4 @@
--- `step::rebuild::follow` meets its contract: at each turn the residual of term n with memory m is the follower's. A call's
+-- `moves::rebuilding::follow` meets its contract: at each turn the residual of term n with memory m is the follower's. A call's
 -- definition is below b, which is the measure. Assumes nothing.
 use native.Mathlib.Omega.{arith}
 use mathlib.Core.Path.{_∙_}

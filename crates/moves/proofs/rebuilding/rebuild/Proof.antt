@@ -1,4 +1,4 @@
--- `step::rebuild::rebuild` meets its contract: the slot has what the first j nodes became, and the marks from there on are
+-- `moves::rebuilding::rebuild` meets its contract: the slot has what the first j nodes became, and the marks from there on are
 -- left. Assumes nothing.
 use native.Mathlib.Omega.{arith}
 use mathlib.Core.Path.{refl}

@@ -14,7 +14,7 @@ prepare-requires : tie.Need-prepare-requires
 prepare-requires c κs = (c .before .before .before .before .before .before .before .before .before .before .pre .0, loaded-sound (c .before .before .before .before .before .before .before .before .before .before .pre .1) (c .before .before .before .load .last .1 .1 .0) (c .before .before .before .load .kept .1 .1 .0) (c .before .before .before .load .ensures))
 
 walk-requires : tie.Need-walk-requires
-walk-requires c κs = (c .before .before .before .before .before .before .before .before .before .before .before .before .before .before .before .pre .0, (c .before .before .before .before .prepare .ensures .0, start-place (c .before .before .before .before .before .before .before .before .before .before .before .before .before .before .before .pre .1) (c .before .before .before .before .before .before .before .before .load .last .1 .1 .0) (c .before .before .before .before .before .before .before .before .load .kept .1 .1 .0) (c .before .before .before .before .before .before .before .before .load .ensures) _ (c .before .before .before .before .prepare .ensures)))
+walk-requires c κs = (c .before .before .before .before .before .before .before .before .before .before .before .before .before .before .before .pre .0, (c .before .before .before .before .prepare .ensures .ready, start-place (c .before .before .before .before .before .before .before .before .before .before .before .before .before .before .before .pre .1) (c .before .before .before .before .before .before .before .before .load .last .1 .1 .0) (c .before .before .before .before .before .before .before .before .load .kept .1 .1 .0) (c .before .before .before .before .before .before .before .before .load .ensures) _ (c .before .before .before .before .prepare .ensures)))
 
 same-length : tie.Need-same-length
 same-length c = search needs

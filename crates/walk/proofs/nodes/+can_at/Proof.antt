@@ -1,4 +1,4 @@
--- `step::walk::can_at` meets its contract: one law of `Course/Laws.antt` per way out. The measure is the nodes left.
+-- `walk::nodes::can_at` meets its contract: one law of `Course/Nodes.antt` per way out. The measure is the nodes left.
 -- Assumes nothing.
 use Prim.Native.Nat.{_-_, ℕ, _<_}
 use native.Mathlib.Omega.{arith}
@@ -6,9 +6,9 @@ use mathlib.Core.Path.{refl, sym, _∙_}
 use mathlib.Core.Logic.{inr}
 use borrow.Fn.Kinds.{In}
 use borrow.Fn.PlainCycle.{Measures, is, falls, and}
-use Rattle.walk.specs.Course.Laws.{stands-left, stands-right, stands-in, stands-forest, stands-known}
-use Rattle.walk.specs.Course.Laws.{stands-big, told-leaf, told-both-yes, told-both-no, told-either-yes}
-use Rattle.walk.specs.Course.Laws.{told-either-no}
+use Rattle.walk.specs.Course.Nodes.{stands-left, stands-right, stands-in, stands-forest, stands-known}
+use Rattle.walk.specs.Course.Nodes.{stands-big, told-leaf, told-both-yes, told-both-no, told-either-yes}
+use Rattle.walk.specs.Course.Nodes.{told-either-no}
 use Rattle.walk.proofs.nodes.can_at.Reads as can-at
 use Rattle.walk.proofs.nodes.can_at.Kinds as can-at-kinds
 use Rattle.walk.proofs.nodes.+can_at.Lts-can_at as can-at-lts

@@ -1,5 +1,5 @@
--- `step::walk::walk`, `step::walk::walk_leaf` and `step::walk::walk_pair` meet their contracts: one law of
--- `Course/Laws.antt` per way out. A leaf's loop: what is left of its results gives what was left at the start. The
+-- `walk::nodes::walk`, `walk_leaf` and `walk_pair` meet their contracts: one law of `Course/Places.antt`,
+-- `Course/Pairs.antt` or `Course/Leaves.antt` per way out. A leaf's loop: what is left of its results gives what was left at the start. The
 -- measure is the nodes left, and for the same node a walk stands above a pair and a leaf. Assumes nothing.
 use Prim.Native.Nat.{_+_, _-_, _*_, _≤_, ℕ, _<_}
 use native.Mathlib.Omega.{arith}
@@ -12,11 +12,13 @@ use borrow.Fn.PlainCycle.{Measures, is, falls, and}
 use Rattle.table.specs.Index.{tableIn}
 use Rattle.index.specs.Facts.{terms-few}
 use Rattle.walk.specs.Course.{leafRest}
-use Rattle.walk.specs.Course.Laws.{walk-end, push-room, bits-fit, next-place, next-pair, next-leaf, known}
-use Rattle.walk.specs.Course.Laws.{head-forest, stands-left, stands-right, walk-kept-pair, walk-kept-leaf}
-use Rattle.walk.specs.Course.Laws.{odd-place, odd-gave, pair-both, pair-left-stuck, pair-right-stuck, pair-left}
-use Rattle.walk.specs.Course.Laws.{pair-right, pair-no-side, pair-then, pair-room, pair-exceeded, leaf-few}
-use Rattle.walk.specs.Course.Laws.{leaf-start, leaf-end, go-resolves, go-place, go-next, go-exceeded}
+use Rattle.walk.specs.Course.Nodes.{stands-left, stands-right}
+use Rattle.walk.specs.Course.Places.{walk-end, push-room, bits-fit, next-place, next-kept, next-leaf, known}
+use Rattle.walk.specs.Course.Places.{head-forest, walk-kept-pair, walk-kept-leaf, odd-place, odd-gave}
+use Rattle.walk.specs.Course.Pairs.{next-both, next-left, next-right, pair-both, pair-left-stuck}
+use Rattle.walk.specs.Course.Pairs.{pair-right-stuck, pair-left, pair-right, pair-no-side, pair-then, pair-room}
+use Rattle.walk.specs.Course.Pairs.{pair-exceeded}
+use Rattle.walk.specs.Course.Leaves.{leaf-few, leaf-start, leaf-end, go-resolves, go-place, go-next, go-exceeded}
 use Rattle.walk.proofs.nodes.walk.Reads as walk
 use Rattle.walk.proofs.nodes.walk.Kinds as walk-kinds
 use Rattle.walk.proofs.nodes.+walk+walk_leaf+walk_pair.Lts-walk as walk-lts
@@ -275,7 +277,7 @@ walk-walk-requires t c κs =
           at-start .pre .1 .1 .0,
           next-place (at-start .pre .1 .1 .0) _ _ _ _ _ (at-start .pre .1 .1 .1)
               (at-if1 .if1 .left) _ _ _ _ (omega arith) (c .before .before .push .ensures) (at-start .pre .1 .1 .1 .held)
-              (next-pair (at-start .pre .1 .1 .0) _ _ _ _ _ (at-start .pre .1 .1 .1) (at-if1 .if1 .left)
+              (next-kept (at-start .pre .1 .1 .0) _ _ _ _ _ (at-start .pre .1 .1 .1) (at-if1 .if1 .left)
               (sym (c .before .before .before .before .kind-at .ensures) ∙ c .before .if3 .taken)),
         ),
       ),
@@ -1231,8 +1233,9 @@ walk-pair-walk-requires t c κs =
           at-start .pre .1 .1 .0,
           next-place (at-start .pre .1 .1 .0) _ _ _ _ _ (at-start .pre .1 .1 .1 .0)
               (at-start .pre .1 .1 .1 .1) _ _ _ _ (omega arith) (at-push .push .ensures) (at-start .pre .1 .1 .1 .0 .held)
-              (next-pair (at-start .pre .1 .1 .0) _ _ _ _ _ (at-start .pre .1 .1 .1 .0) (at-start .pre .1 .1 .1 .1)
-              (at-start .pre .1 .1 .1 .2)),
+              (next-both (at-start .pre .1 .1 .0) _ _ _ _ _ (at-start .pre .1 .1 .1 .0) (at-start .pre .1 .1 .1 .1)
+              (at-start .pre .1 .1 .1 .2) _ (c .before .before .before .before .before .before .can-at .ensures) _
+              (c .before .before .before .before .before .can-at2 .ensures) (c .before .before .if2 .taken) (c .before .if3 .taken)),
         ),
       ),
     )
@@ -1283,7 +1286,7 @@ walk-pair-returns-2 t c =
     in pair-right-stuck (at-start .pre .1 .1 .0) _ _ _ _ _ (at-start .pre .1 .1 .1 .0) (at-start .pre .1 .1 .1 .1)
     (at-start .pre .1 .1 .1 .2) _ (c .before .before .before .before .before .can-at .ensures) _
     (c .before .before .before .before .can-at2 .ensures) (sym (c .before .before .before .holds-at .ensures)
-    ∙ c .before .before .if1 .taken) (c .if3 .left)
+    ∙ c .before .before .if1 .taken) (c .before .if2 .taken) (c .if3 .left)
 
 walk-pair-returns-3 : (t : ℕ) → walk-pair-lts.Need-returns-3 (
   push-reads.Asked,
@@ -1366,8 +1369,9 @@ walk-pair-walk-requires-2 t c κs =
           at-start .pre .1 .1 .0,
           next-place (at-start .pre .1 .1 .0) _ _ _ _ _ (at-start .pre .1 .1 .1 .0)
               (at-start .pre .1 .1 .1 .1) _ _ _ _ (omega arith) (at-push .push .ensures) (at-start .pre .1 .1 .1 .0 .held)
-              (next-pair (at-start .pre .1 .1 .0) _ _ _ _ _ (at-start .pre .1 .1 .1 .0) (at-start .pre .1 .1 .1 .1)
-              (at-start .pre .1 .1 .1 .2)),
+              (next-left (at-start .pre .1 .1 .0) _ _ _ _ _ (at-start .pre .1 .1 .1 .0) (at-start .pre .1 .1 .1 .1)
+              (at-start .pre .1 .1 .1 .2) _ (c .before .before .before .before .before .before .can-at .ensures) _
+              (c .before .before .before .before .before .can-at2 .ensures) (c .before .before .if4 .taken)),
         ),
       ),
     )
@@ -1455,8 +1459,9 @@ walk-pair-walk-requires-3 t c κs =
               (at-start .pre .1 .1 .1 .2) _ (at-can-at .can-at .ensures) _ (at-can-at2 .can-at2 .ensures)
               (sym (at-holds-at .holds-at .ensures) ∙ at-if1 .if1 .left) _ (at-push .push .ensures) _ _
               (at-walk2 .walk2 .ensures) _ (c .before .before .c .given .1))
-              (next-pair (at-start .pre .1 .1 .0) _ _ _ _ _ (at-start .pre .1 .1 .1 .0) (at-start .pre .1 .1 .1 .1)
-              (at-start .pre .1 .1 .1 .2)),
+              (next-right (at-start .pre .1 .1 .0) _ _ _ _ _ (at-start .pre .1 .1 .1 .0) (at-start .pre .1 .1 .1 .1)
+              (at-start .pre .1 .1 .1 .2) _ (at-can-at .can-at .ensures) _
+              (at-can-at2 .can-at2 .ensures) (at-walk2 .before .before .if5 .taken)),
         ),
       ),
     )
@@ -1601,8 +1606,9 @@ walk-pair-walk-requires-4 t c κs =
           at-start .pre .1 .1 .0,
           next-place (at-start .pre .1 .1 .0) _ _ _ _ _ (at-start .pre .1 .1 .1 .0)
               (at-start .pre .1 .1 .1 .1) _ _ _ _ (omega arith) (at-push .push .ensures) (at-start .pre .1 .1 .1 .0 .held)
-              (next-pair (at-start .pre .1 .1 .0) _ _ _ _ _ (at-start .pre .1 .1 .1 .0) (at-start .pre .1 .1 .1 .1)
-              (at-start .pre .1 .1 .1 .2)),
+              (next-left (at-start .pre .1 .1 .0) _ _ _ _ _ (at-start .pre .1 .1 .1 .0) (at-start .pre .1 .1 .1 .1)
+              (at-start .pre .1 .1 .1 .2) _ (c .before .before .before .before .before .before .can-at .ensures) _
+              (c .before .before .before .before .before .can-at2 .ensures) (c .before .before .if4 .taken)),
         ),
       ),
     )
@@ -1702,8 +1708,9 @@ walk-pair-walk-requires-5 t c κs =
           at-start .pre .1 .1 .0,
           next-place (at-start .pre .1 .1 .0) _ _ _ _ _ (at-start .pre .1 .1 .1 .0)
               (at-start .pre .1 .1 .1 .1) _ _ _ _ (omega arith) (at-push .push .ensures) (at-start .pre .1 .1 .1 .0 .held)
-              (next-pair (at-start .pre .1 .1 .0) _ _ _ _ _ (at-start .pre .1 .1 .1 .0) (at-start .pre .1 .1 .1 .1)
-              (at-start .pre .1 .1 .1 .2)),
+              (next-right (at-start .pre .1 .1 .0) _ _ _ _ _ (at-start .pre .1 .1 .1 .0) (at-start .pre .1 .1 .1 .1)
+              (at-start .pre .1 .1 .1 .2) _ (c .before .before .before .before .before .before .can-at .ensures) _
+              (c .before .before .before .before .before .can-at2 .ensures) (c .before .if6 .taken)),
         ),
       ),
     )

@@ -1,15 +1,15 @@
--- `step::steps::prepare_node` meets its contract: one law of `Prepared/Laws.antt` per way out. Assumes nothing.
+-- `step::preparing::prepare_node` meets its contract: one law of `Prepared/Nodes.antt` per way out. Assumes nothing.
 use native.Mathlib.Omega.{arith}
 use mathlib.Core.Path.{sym, _∙_}
 use mathlib.Core.Logic.{inl}
 use borrow.Author.Needs.{needs}
 use Rattle.index.specs.Facts.{terms-few}
-use Rattle.step.specs.Prepared.Laws.{node-known, fill-not-kind, fill-not-held, fill-resolves, fill-yes}
+use Rattle.step.specs.Prepared.Nodes.{node-known, fill-not-kind, fill-not-held, fill-resolves, fill-yes}
 use Rattle.residual.specs.Lawful.{lawful}
-use Rattle.step.proofs.steps.prepare_node.Statement.{statement}
-use Rattle.step.proofs.steps.prepare_node.Tie as tie
-use Rattle.step.proofs.steps.prepare_node.Reads as reads
-use Rattle.step.proofs.steps.prepare_node.Lts as lts
+use Rattle.step.proofs.preparing.prepare_node.Statement.{statement}
+use Rattle.step.proofs.preparing.prepare_node.Tie as tie
+use Rattle.step.proofs.preparing.prepare_node.Reads as reads
+use Rattle.step.proofs.preparing.prepare_node.Lts as lts
 use Rattle.residual.proofs.distinct.Reads as distinct-reads
 use Rattle.residual.proofs.holds_at.Reads as holds-at-reads
 use Rattle.residual.proofs.kind_at.Reads as kind-at-reads

@@ -1,0 +1,164 @@
+-- One node of a residual in a store: one law per way out of `prepare_node`.
+--     node-known, node-resolves, node-few             the node is a known term, and its results can be resolved, and are few
+--     fill-not-kind, fill-not-held, fill-resolves, fill-yes     `prepare_node`
+-- Assumes nothing.
+use Prim.Native.Nat.{ℕ, zero, suc, _+_, _-_, _*_, _<_, _≤_}
+use native.Mathlib.Omega.{arith}
+use mathlib.Core.Path.{_≡_, refl, _∙_}
+use mathlib.Core.Bool.{Bool, true, false}
+use mathlib.Core.List.{List, [], _∷_, _++_, map}
+use lib.ListN.{length, getD, set, take}
+use lib.Seq.{getD-set-same, take-set-le, drop-set-lt}
+use lib.Dec.{eqb}
+use borrow.Author.Tests.{eq-eqb, ne-eqb, eqb-true}
+use Rattle.table.specs.Table.{Table, termCount}
+use Rattle.table.specs.Node.{termOf, kindOf}
+use Rattle.residual.specs.Lawful.{Lawful, follower-in}
+use Rattle.residual.specs.Residual.{Residual, leaf, pair, words, resolved, nth}
+use Rattle.residual.specs.Words.{remember, termOfWord, memoryOfWord, kindAt, holdsAt, KnownWord}
+use Rattle.residual.specs.Residual.Resolved.{length-resolved}
+use Rattle.residual.specs.Distinct.{window, kept, slotAt, Resolvable, Stored}
+use Rattle.residual.specs.Distinct.Laws.{at-window, length-window, window-none}
+use Rattle.walk.specs.Walk.{leafKept, leafResults, longest, room}
+use Rattle.walk.specs.Walk.Leaves.{results-yes, kept-yes, kept-not-kind, kept-not-held, words-short, leaf-length}
+use Rattle.walk.specs.Forest.{Valid}
+use Rattle.walk.specs.Forest.Words.{known-node}
+use Rattle.walk.specs.Course.{nodeCount, nodesFrom}
+use Rattle.step.specs.Prepared.{Sound, Filled}
+use Rattle.step.specs.Prepared.Below.{getD-below, take-below}
+
+-- ---- each node of a tree is a known term, and its results have room
+
+abbrev KnownAll : Table → List ℕ → Type 0
+KnownAll t [] = Unit
+KnownAll t (w ∷ ws) = KnownWord t w × KnownAll t ws
+
+known-append : (t : Table) (a b : List ℕ) → KnownAll t a → KnownAll t b → KnownAll t (a ++ b)
+known-append t [] b x y = y
+known-append t (w ∷ a) b x y = (x .0, known-append t a b (x .1) y)
+
+known-tree : (t : Table) (r : Residual) → Valid t r → KnownAll t (words r)
+unfolding words
+known-tree t (leaf n m) v = (known-node t n m (v .0), tt)
+known-tree t (pair n m l r) v =
+    (known-node t n m (v .0), known-append t (words l) (words r) (known-tree t l (v .2)) (known-tree t r (v .3)))
+
+known-at : (t : Table) (ws : List ℕ) (i : ℕ) → KnownAll t ws → i < length ws → KnownWord t (getD ws i 0)
+known-at t [] i x h = absurd (omega arith)
+known-at t (w ∷ ws) zero x h = x .0
+known-at t (w ∷ ws) (suc i) x h = known-at t ws i (x .1) (omega arith)
+
+room-at : (t : Table) (e : ℕ) (ws : List ℕ) (i : ℕ) → i < length ws
+    → longest (map words (leafResults t e (getD ws i 0))) ≤ room t e ws
+unfolding room
+room-at t e [] i h = absurd (omega arith)
+room-at t e (w ∷ ws) zero h = omega arith
+room-at t e (w ∷ ws) (suc i) h = omega (arith, room-at t e ws i (omega arith))
+
+after-set : (x : List ℕ) (p v c : ℕ) → window (p + 1) c (set x p v) ≡ window (p + 1) c x
+unfolding window
+after-set x p v c = rw (drop-set-lt (p + 1) x p v (omega arith))
+
+module _ (t : Table) (bound e : ℕ) (store : List ℕ) (s : Sound t bound e store) (k : ℕ) (a : 1 ≤ k)
+    (b : k ≤ nodeCount store) where
+  many : length (nodesFrom store 1) ≡ nodeCount store
+  unfolding nodesFrom
+  many = length-window 1 (nodeCount store + 1 - 1) store (omega (arith, s .size, s .few)) ∙ omega arith
+
+  which : getD (nodesFrom store 1) (k - 1) 0 ≡ getD store k 0
+  unfolding nodesFrom
+  which =
+      let z : 1 + (k - 1) ≡ k = omega arith in
+      at-window 1 (nodeCount store + 1 - 1) store (k - 1) (omega arith) ∙ rw z
+
+  pub node-known : KnownWord t (getD store k 0)
+  node-known =
+      rw which at
+      (known-at t (nodesFrom store 1) (k - 1) (rw (s .spelt) (known-tree t (s .tree) (s .valid)))
+      (omega (arith, many)))
+
+  node-room : longest (map words (leafResults t e (getD store k 0))) ≤ 15
+  node-room = omega (arith, s .room, rw which at (room-at t e (nodesFrom store 1) (k - 1) (omega (arith, many))))
+
+  pub node-resolves : Lawful t → kindAt t (getD store k 0) ≡ 2 → holdsAt t e (getD store k 0) ≡ true
+      → Resolvable t bound (termOfWord (getD store k 0) + 1) (remember e (memoryOfWord (getD store k 0)))
+  unfolding kindAt remember memoryOfWord
+  node-resolves a q h = record {
+    within = next q;
+    below = rw (s .whole) (a .named (termOfWord (getD store k 0) + 1) (next q));
+    known = omega (arith, s .whole);
+    small = a .followers (termOfWord (getD store k 0)) (node-known .within) q;
+    memory = omega (arith, s .event);
+    fits = λ i ih. omega (arith, node-room, short i ih);
+  }
+    where
+      next : kindOf (termOf t (termOfWord (getD store k 0))) ≡ 2 → termOfWord (getD store k 0) + 1 < termCount t
+      next q = follower-in t (termOfWord (getD store k 0)) (node-known .within) q
+
+      short : (i : ℕ)
+          → i < length (resolved t (termOfWord (getD store k 0) + 1) (remember e (memoryOfWord (getD store k 0))))
+          → length
+          (words (nth (resolved t (termOfWord (getD store k 0) + 1) (remember e (memoryOfWord (getD store k 0))))
+          i)) ≤ longest (map words (leafResults t e (getD store k 0)))
+      short i ih = rw (results-yes t e (getD store k 0) (eq-eqb _ _ q) h) (words-short _ i ih)
+
+  few-by : Lawful t → (b c : Bool) → eqb (kindAt t (getD store k 0)) 2 ≡ b → holdsAt t e (getD store k 0) ≡ c
+      → length (leafKept t e (getD store k 0)) ≤ 256
+  few-by law true true eb ec =
+      let r = node-resolves law (eqb-true (kindAt t (getD store k 0)) 2 eb) ec in
+      omega (
+        arith,
+        leaf-length t e (getD store k 0),
+        r .small,
+        length-resolved t (termOfWord (getD store k 0) + 1) (remember e (memoryOfWord (getD store k 0))),
+      )
+  few-by law true false eb ec = rw (kept-not-held t e _ eb ec) (omega arith)
+  few-by law false c eb ec = rw (kept-not-kind t e _ eb) (omega arith)
+
+  pub node-few : Lawful t → length (leafKept t e (getD store k 0)) ≤ 256
+  node-few law = few-by law _ _ refl refl
+
+  pub fill-none : leafKept t e (getD store k 0) ≡ [] → Filled t e store (set store (k * 257) 0) k
+  fill-none z =
+      let f : take (k * 257) (set store (k * 257) 0) ≡ take (k * 257) store = take-set-le (k * 257) store (k * 257) 0
+      (omega arith) in
+      let g : getD (set store (k * 257) 0) k 0 ≡ getD store k 0 = getD-below (k * 257) (set store (k * 257) 0) store k
+      f (omega arith) in
+      record {
+        before = f;
+        node = record {
+          number = rw (g, z) (getD-set-same store (k * 257) 0 0 (omega (arith, s .size, s .few)));
+          indices = rw (g, z) (window-none (k * 257 + 1) (set store (k * 257) 0));
+        };
+      }
+
+  pub fill-not-kind : (kindAt t (getD store k 0) ≡ 2 → ⊥) → Filled t e store (set store (k * 257) 0) k
+  fill-not-kind q = fill-none (kept-not-kind t e _ (ne-eqb _ _ q))
+
+  pub fill-not-held : kindAt t (getD store k 0) ≡ 2 → holdsAt t e (getD store k 0) ≡ false
+      → Filled t e store (set store (k * 257) 0) k
+  fill-not-held q h = fill-none (kept-not-held t e _ (eq-eqb _ _ q) h)
+
+  module _ (law : Lawful t) (q : kindAt t (getD store k 0) ≡ 2) (h : holdsAt t e (getD store k 0) ≡ true) (n mm m : ℕ)
+      (en : n ≡ termOfWord (getD store k 0)) (emm : mm ≡ memoryOfWord (getD store k 0)) (em : m ≡ remember e mm) where
+    pub fill-resolves : Resolvable t bound (n + 1) m
+    fill-resolves = rw (em, en, emm) (node-resolves law q h)
+
+    pub fill-yes : (x : List ℕ) (r : ℕ) → length x ≡ length store
+        → Stored store x (k * 257 + 1) r (kept (slotAt t (n + 1) m) (length (resolved t (n + 1) m)))
+        → Filled t e store (set x (k * 257) r) k
+    fill-yes x r lx st =
+        let l : leafKept t e (getD store k 0) ≡ kept (slotAt t (n + 1) m) (length (resolved t (n + 1) m))
+        = rw (em, en, emm) (kept-yes t e (getD store k 0) (eq-eqb _ _ q) h) in
+        let f : take (k * 257) (set x (k * 257) r) ≡ take (k * 257) store =
+        take-set-le (k * 257) x (k * 257) r (omega arith) ∙ take-below (k * 257 + 1) (k * 257) x store
+        (st .before) (omega arith) in
+        let g : getD (set x (k * 257) r) k 0 ≡ getD store k 0 = getD-below (k * 257) (set x (k * 257) r) store k f
+        (omega arith) in
+        record {
+          before = f;
+          node = record {
+            number = rw (g, l) (getD-set-same x (k * 257) r 0 (omega (arith, s .size, s .few)) ∙ st .number);
+            indices = rw (g, l, ← (st .number)) (after-set x (k * 257) r r ∙ st .here);
+          };
+        }

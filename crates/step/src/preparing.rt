@@ -1,0 +1,74 @@
+// The results of one residual's leaves, prepared in a store. A tree that cannot take the event is known
+// before the results of any of its leaves are looked for, and is passed over. The definitions are in
+// `specs/Prepared.antt`.
+use moves::takes_at;
+use residual::distinct;
+use residual::holds_at;
+use residual::kind_at;
+use residual::memory_of;
+use residual::remember;
+use residual::term_of;
+ghost use Prim.Native.Nat.{_+_, _*_, _≤_};
+ghost use lib.ListN.{length};
+ghost use Rattle.table.specs.Index.{tableIn, Indexed};
+ghost use Rattle.walk.specs.Course.{nodeCount};
+ghost use Rattle.step.specs.Prepared.{Sound, Filled, Blanked, Fills};
+
+// Fills node k's part of the store: the number of its results and their indices.
+fn prepare_node(list: &[u16], work: &[u64], bound: usize, e: u64, store: &mut [u64], k: usize)
+    requires { ⌜ Indexed (now list) (now work) ⌝ }
+    requires { ⌜ Sound (tableIn (now list)) bound e (now store) ⌝ }
+    requires { ⌜ (1 ≤ k) × (k ≤ nodeCount (now store)) ⌝ }
+    ensures { λ _.
+        ⌜ Filled (tableIn (now (list .entry))) e (now (store .entry))
+        (now (store .exit)) k ⌝ }
+{
+    let w = store[k];
+    let at = k * 257;
+    if kind_at(list, work, w) != 2 {
+        store[at] = 0;
+        return;
+    }
+    if holds_at(list, work, w, e) {
+        let t = term_of(w);
+        let m = remember(e, memory_of(w));
+        let c = distinct(list, work, bound, t + 1, m, store, at + 1);
+        store[at] = c as u64;
+        return;
+    }
+    store[at] = 0;
+}
+
+// Says of the nodes from k up to n that they have no results.
+fn blank(store: &mut [u64], k: usize, n: usize)
+    requires { ⌜ (k ≤ n) × (n * 257 ≤ length (now store)) ⌝ }
+    ensures { λ _. ⌜ Blanked (now (store .entry)) (now (store .exit)) k n ⌝ }
+{
+    let mut j = k;
+    while j < n {
+        store[j * 257] = 0;
+        j += 1;
+    }
+}
+
+// Fills the store for the residual in its first sixteen words.
+pub(crate) fn prepare(list: &[u16], work: &[u64], bound: usize, e: u64, store: &mut [u64])
+    requires { ⌜ Indexed (now list) (now work) ⌝ }
+    requires { ⌜ Sound (tableIn (now list)) bound e (now store) ⌝ }
+    ensures { λ _.
+        ⌜ Fills (tableIn (now (list .entry))) bound e (now (store .entry)) (now (store .exit)) ⌝ }
+{
+    let n = store[0] as usize;
+    let mut k = 1;
+    while k <= n {
+        let tree = takes_at(list, work, store, k, e);
+        if tree.moves {
+            prepare_node(list, work, bound, e, store, k);
+            k += 1;
+            continue;
+        }
+        let next = tree.next;
+        blank(store, k, next);
+        k = next;
+    }
+}
