@@ -15,7 +15,7 @@ use Rattle.state.specs.declared.record.Verdict.{Verdict as VerdictCode}
 use Rattle.state.specs.declared.record.Verdict.the-variants.{Running, Failed}
 use Rattle.state.specs.declared.record.State.{State as StateCode}
 use Rattle.monitor_spec.specs.State.{Verdict, running, failedAt, State, Monitor}
-use Rattle.monitor_spec.specs.Feed.{taking}
+use Rattle.monitor_spec.specs.Feed.{counterMost, taking}
 pub mod Laws
 pub mod View
 
@@ -45,10 +45,12 @@ failing s = record { taken = s .taken; count = 0; verdict = failedBy (s .verdict
 unfoldable pub holding : State → ℕ → State
 holding s n = record { taken = s .taken; count = n; verdict = s .verdict }
 
--- r is the record that an event leaves in a monitor whose record is s, where n residuals stand after it
-unfoldable pub Successor : State → ℕ → State → Type 0
-Successor s n r =
-    (m : Monitor) (next : List (List ℕ)) → m .state ≡ s → length next ≡ n → r ≡ taking m next .state
+-- r is the record that an event leaves in a monitor whose record is s, where n residuals stand after it; s itself, where
+-- no event more can be counted
+pub record Successor (s : State) (n : ℕ) (r : State) : Type 0 where
+  pub event : (s .taken ≡ counterMost → ⊥) → (m : Monitor) (next : List (List ℕ)) → m .state ≡ s → length next ≡ n
+      → r ≡ taking m next .state
+  pub full : s .taken ≡ counterMost → r ≡ s
 
 -- `areasMeasured` and `workMeasured`
 unfoldable pub lengthsFit : ℕ → ℕ → ℕ → Bool

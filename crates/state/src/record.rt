@@ -58,11 +58,14 @@ impl State {
         self
     }
 
-    // The record after one event that left so many residuals.
+    // The record after one event that left so many residuals. A counter that is full stays, and the
+    // record with it: Feed refuses there (12).
     pub fn after(self, count: u64) -> Self
-        requires { ⌜ self .taken < 18446744073709551615 ⌝ }
         ensures { λ r. ⌜ Successor (stateOf self) count (stateOf r) ⌝ }
     {
+        if self.taken == 18446744073709551615 {
+            return self;
+        }
         if count == 0 {
             return self.take().fail();
         }

@@ -49,11 +49,11 @@ module _ (t : Table) (e : ℕ) (s : State) (a b : List ℕ) where
 
       pub taken-went : (c : ℕ) → r ≡ Count c → (s' : State) → Successor (stateOf s) c (stateOf s')
           → TakenBy t m e (Went s') a' b'
-      unfolding takeEvent Moved Successor
+      unfolding takeEvent Moved
       taken-went c q s' f =
           let next = nextSlots t m e in
           let k : Filled (slotCount a) next (taking m next .area0) (taking m next .area1) c a' b' = rw q at g in
-          let x = f m next refl (sym (k .count)) in
+          let x = f .event counts m next refl (sym (k .count)) in
           let y : monitorOf s' a' b' ≡ taking m next =
           λ i. record { state = x i; area0 = k .first i; area1 = k .second i } in
           rw (

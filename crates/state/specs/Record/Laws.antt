@@ -6,7 +6,7 @@ use mathlib.Core.Bool.{_&&_}
 use mathlib.Core.List.{List, [], _∷_}
 use lib.ListN.{length}
 use Rattle.monitor_spec.specs.State.{Verdict, running, failedAt, State, Monitor, areasMeasured, workMeasured}
-use Rattle.monitor_spec.specs.Feed.{nextVerdict, taking}
+use Rattle.monitor_spec.specs.Feed.{counterMost, nextVerdict, taking}
 use Rattle.state.specs.Record.{counted, failedBy, failing, holding, Successor, lengthsFit}
 
 -- ---- the record after an event
@@ -43,16 +43,23 @@ holding-taking m (s ∷ l) n e h =
       verdict = next-holding (m .state .verdict) (suc (m .state .taken)) s l i;
     }
 
-pub after-none : (s r : State) (n : ℕ) → n ≡ 0 → r ≡ failing (counted s) → Successor s n r
-unfolding Successor
-after-none s r n z e m next p q =
-    e ∙ ap (λ (x : State). failing (counted x)) (sym p) ∙ failing-taking m next (q ∙ z)
+pub after-full : (s : State) (n : ℕ) → s .taken ≡ counterMost → Successor s n s
+after-full s n z = record { event = λ y. absurd (y z); full = λ y. refl }
 
-pub after-some : (s r : State) (n : ℕ) → (n ≡ 0 → ⊥) → r ≡ holding (counted s) n → Successor s n r
-unfolding Successor
-after-some s r n z e m next p q =
-    let h : 0 < n = omega arith in
-    e ∙ ap (λ (x : State). holding (counted x) n) (sym p) ∙ holding-taking m next n q h
+pub after-none : (s r : State) (n : ℕ) → (s .taken ≡ counterMost → ⊥) → n ≡ 0 → r ≡ failing (counted s)
+    → Successor s n r
+after-none s r n y z e = record {
+  event = λ x m next p q. e ∙ ap (λ (x : State). failing (counted x)) (sym p) ∙ failing-taking m next (q ∙ z);
+  full = λ x. absurd (y x);
+}
+
+pub after-some : (s r : State) (n : ℕ) → (s .taken ≡ counterMost → ⊥) → (n ≡ 0 → ⊥) → r ≡ holding (counted s) n
+    → Successor s n r
+after-some s r n y z e = record {
+  event = λ x m next p q.
+  e ∙ ap (λ (x : State). holding (counted x) n) (sym p) ∙ holding-taking m next n q (omega arith);
+  full = λ x. absurd (y x);
+}
 
 -- ---- lengths
 
