@@ -57,7 +57,7 @@ pub after-some : (s r : State) (n : ℕ) → (s .taken ≡ counterMost → ⊥) 
     → Successor s n r
 after-some s r n y z e = record {
   event = λ x m next p q.
-  e ∙ ap (λ (x : State). holding (counted x) n) (sym p) ∙ holding-taking m next n q (omega arith);
+      e ∙ ap (λ (x : State). holding (counted x) n) (sym p) ∙ holding-taking m next n q (omega arith);
   full = λ x. absurd (y x);
 }
 
