@@ -1,8 +1,30 @@
 -- What `specs/Claims.antt` says, proved. Assumes nothing.
 use Rattle.line.specs.Pieces.Joined.{pieces-whole}
 use Rattle.line.proofs.Rows as computed
-use Rattle.line.specs.Opening.Laws.{fed-work}
-use Rattle.line.specs.Claims.{PiecesAreWhole, PieceAnyWork, Rows}
+use Rattle.line.specs.Opening.Front.{open-ways, open-course, open-began}
+use Rattle.line.specs.Lent.Laws.{fed-work, pieces-lent, whole-line}
+use Rattle.line.specs.Claims.{LineIsLent, PiecesAreLent, OpenLeaves, OpenIsFront, OpenStarts, PiecesAreWhole}
+use Rattle.line.specs.Claims.{PieceAnyWork, Rows}
+
+pub line-is-lent : LineIsLent
+unfolding LineIsLent
+line-is-lent = whole-line
+
+pub pieces-are-lent : PiecesAreLent
+unfolding PiecesAreLent
+pieces-are-lent = pieces-lent
+
+pub open-leaves : OpenLeaves
+unfolding OpenLeaves
+open-leaves = open-ways
+
+pub open-is-front : OpenIsFront
+unfolding OpenIsFront
+open-is-front = open-course
+
+pub open-starts : OpenStarts
+unfolding OpenStarts
+open-starts = open-began
 
 pub pieces-are-whole : PiecesAreWhole
 unfolding PiecesAreWhole

@@ -1,23 +1,55 @@
 -- What this crate proves of the definitions: statements only. The proof of each is in `proofs/Theorems.antt`, under
 -- the same name.
+--     LineIsLent        what `line` says is the line of the input, or refusal 1
+--     PiecesAreLent     so is what `open`, `resume` on piece after piece, and `conclude` say
+--     OpenLeaves        what `open` leaves, by its ways
+--     OpenIsFront       it is the front of the input
+--     OpenStarts        its record stands on the list and before the events, with a work area of zeros
 --     PiecesAreWhole    an input in pieces gives the line of the whole
 --     PieceAnyWork      a piece leaves the same, whatever the work area held
 --     Rows              the worked examples
 -- Assumes nothing.
 use Prim.Native.Nat.{ℕ, _≤_}
 use mathlib.Core.Path.{_≡_}
+use mathlib.Core.Bool.{true}
 use mathlib.Core.Logic.{_⊎_}
 use mathlib.Core.List.{List, [], _∷_, _++_, flatten}
 use lib.ListN.{length}
-use Rattle.monitor_spec.specs.State.{Monitor}
+use Rattle.monitor_spec.specs.State.{State, Monitor}
 use Rattle.monitor_spec.specs.Feed.{feedOf}
 use Rattle.table.specs.Table.{fixed, Term, stop, prefix, choice, par, one}
 use Rattle.table.specs.Writing.{numbersOf}
 use Rattle.line.specs.Line.{Line, runs, fails, refused, lineOf}
-use Rattle.line.specs.Pieces.{going, fed, pieceOf, piecesOf}
+use Rattle.line.specs.Pieces.{going, fed, pieceOf, frontOf, piecesOf}
+use Rattle.line.specs.Opening.{lent, started, openOf, openCourse, OpenWay, Began}
+use Rattle.line.specs.Whole.{wholeOf}
+use Rattle.line.specs.Lent.{lentLine, lentPieces}
 
--- 01, "The program and its lines": the front has the length number and the table (3 bytes and 16,384 at most), or is
--- all there is
+-- 01, "The program and its lines", whatever stood in the lent buffers
+unfoldable pub LineIsLent : Type 0
+LineIsLent = (s l a b w : List ℕ) → wholeOf s l a b w .line ≡ lentLine s l a b w
+
+-- the front has the length number and the table (3 bytes and 16,384 at most), or is all there is
+unfoldable pub PiecesAreLent : Type 0
+PiecesAreLent =
+    (front : List ℕ) (pieces : List (List ℕ)) (l a b w : List ℕ) → (16387 ≤ length front) ⊎ (pieces ≡ [])
+    → lentPieces front pieces l a b w ≡ lentLine (front ++ flatten pieces) l a b w
+
+unfoldable pub OpenLeaves : Type 0
+OpenLeaves = (s l a b w : List ℕ) → OpenWay s l a b w (openOf s l a b w)
+
+-- a fresh monitor on the list that was read, with the areas as they stand, or a refusal
+unfoldable pub OpenIsFront : Type 0
+OpenIsFront =
+    (s l a b w : List ℕ) → lent l a b w ≡ true → openCourse (openOf s l a b w) ≡ frontOf s .course
+
+-- the events that `open` leaves to feed are those of the front
+unfoldable pub OpenStarts : Type 0
+OpenStarts =
+    (s l a b w : List ℕ) (st : State) (count next : ℕ) → openOf s l a b w .answer ≡ started st count next
+    → Began s l a b w (openOf s l a b w) count next
+
+-- the same of the definitions alone
 unfoldable pub PiecesAreWhole : Type 0
 PiecesAreWhole =
     (front : List ℕ) (pieces : List (List ℕ)) → (16387 ≤ length front) ⊎ (pieces ≡ [])

@@ -1,5 +1,5 @@
 // What the functions of this crate answer. What each stands for is said in `specs/Answers.antt`.
-use monitor::State;
+use state::State;
 use table::Refusal;
 
 // Where an input's table bytes begin and end, which is where its events begin; or what is wrong

@@ -1,16 +1,15 @@
 // A started monitor piece by piece, and its line at the input's end.
 ghost use mathlib.Core.Path.{_≡_};
-ghost use Rattle.monitor_spec.specs.Feed.{feedOf};
 ghost use Rattle.state.specs.Record.{stateOf, monitorOf};
 ghost use Rattle.line.specs.Line.{stateLine};
 ghost use Rattle.line.specs.Line.{refused as refusedAt};
-ghost use Rattle.line.specs.Pieces.{fed};
-ghost use Rattle.line.specs.Answers.{lineSaid, courseSaid};
+ghost use Rattle.line.specs.Whole.{resumeOf};
+ghost use Rattle.line.specs.Answers.{lineSaid, resumeSaid};
 use crate::answer::Course;
 use crate::answer::Line;
-use monitor::Answer;
-use monitor::State;
-use monitor::Verdict;
+use state::Answer;
+use state::State;
+use state::Verdict;
 use table::Refusal;
 
 // The line of a refusal.
@@ -41,12 +40,13 @@ pub fn resume(
     work: &mut [u64],
 ) -> Course
     ensures { λ r.
-        ⌜ courseSaid (now (list .entry)) r (now (area0 .exit)) (now (area1 .exit))
-        ≡ fed (now (list .entry)) (feedOf (now (list .entry))
+        ⌜ resumeSaid (now (list .entry)) r (now (area0 .exit)) (now (area1 .exit))
+        (now (work .exit))
+        ≡ resumeOf (now (list .entry))
         (monitorOf state (now (area0 .entry)) (now (area1 .entry)))
-        (now (events .entry)) (now (work .entry))) ⌝ }
+        (now (events .entry)) (now (work .entry)) ⌝ }
 {
-    match monitor::feed(list, state, area0, area1, events, work) {
+    match feeding::feed(list, state, area0, area1, events, work) {
         Answer::Given(next) => Course::Going(next),
         Answer::Refused(refusal) => Course::Over(refused(refusal)),
         Answer::Stopped(refusal, last) => Course::Over(Line::Refused(refusal.number, last.taken)),

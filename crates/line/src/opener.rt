@@ -1,13 +1,13 @@
 // The front of an input: its table read, and the monitor started.
 ghost use mathlib.Core.Path.{_≡_};
-ghost use mathlib.Core.Bool.{true};
-ghost use Prim.Native.Nat.{_≤_};
-ghost use lib.ListN.{length, take, drop};
-ghost use Rattle.line.specs.Opening.{lentFit, Starts, Reads, Opens};
+ghost use lib.ListN.{length};
+ghost use Rattle.monitor_spec.specs.Start.{startOf};
+ghost use Rattle.line.specs.Opening.{lentFit, startedOn, openTable, openOf};
+ghost use Rattle.line.specs.Answers.{openSaid};
 use crate::answer::Head;
 use crate::answer::Opened;
 use crate::header::head;
-use monitor::Answer;
+use state::Answer;
 use table::Refusal;
 
 // Whether lent lengths are the program's: of the list, the areas ("256 slots") and the work area.
@@ -34,13 +34,14 @@ fn start_list(
     area1: &mut [u64],
     work: &mut [u64],
 ) -> Opened
-    requires { ⌜ (length (now area0) ≡ 4096) × (length (now area1) ≡ 4096) ⌝ }
-    requires { ⌜ length (now work) ≡ 8192 ⌝ }
     ensures { λ r.
-        ⌜ Starts (now (list .entry)) next r (now (area0 .exit)) (now (area1 .exit))
-        (now (work .exit)) ⌝ }
+        ⌜ openSaid r (now (list .entry)) (now (area0 .exit)) (now (area1 .exit))
+        (now (work .exit))
+        ≡ startedOn (length (now (list .entry))) next (now (list .entry))
+        (startOf (now (list .entry)) (now (area0 .entry)) (now (area1 .entry))
+        (now (work .entry))) ⌝ }
 {
-    match monitor::start(list, area0, area1, work) {
+    match starting::start(list, area0, area1, work) {
         Answer::Given(state) => Opened::Started {
             state,
             count: list.len(),
@@ -60,12 +61,11 @@ fn open_table(
     area1: &mut [u64],
     work: &mut [u64],
 ) -> Opened
-    requires { ⌜ length (now list) ≡ 16384 ⌝ }
-    requires { ⌜ (length (now area0) ≡ 4096) × (length (now area1) ≡ 4096) ⌝ }
-    requires { ⌜ length (now work) ≡ 8192 ⌝ }
     ensures { λ r.
-        ⌜ Reads (now (bytes .entry)) next r (now (list .exit)) (now (area0 .exit))
-        (now (area1 .exit)) (now (work .exit)) ⌝ }
+        ⌜ openSaid r (now (list .exit)) (now (area0 .exit)) (now (area1 .exit))
+        (now (work .exit))
+        ≡ openTable (now (bytes .entry)) next (now (list .entry)) (now (area0 .entry))
+        (now (area1 .entry)) (now (work .entry)) ⌝ }
 {
     match codec::read(bytes, list, work) {
         table::Answer::Count(count) => start_list(&list[..count], next, area0, area1, work),
@@ -83,9 +83,10 @@ pub fn open(
     work: &mut [u64],
 ) -> Opened
     ensures { λ r.
-        ⌜ Opens (now (input .entry)) (now (list .entry)) (now (area0 .entry))
-        (now (area1 .entry)) (now (work .entry)) r (now (list .exit)) (now (area0 .exit))
-        (now (area1 .exit)) (now (work .exit)) ⌝ }
+        ⌜ openSaid r (now (list .exit)) (now (area0 .exit)) (now (area1 .exit))
+        (now (work .exit))
+        ≡ openOf (now (input .entry)) (now (list .entry)) (now (area0 .entry))
+        (now (area1 .entry)) (now (work .entry)) ⌝ }
 {
     if !lent_fit(list.len(), area0.len(), area1.len(), work.len()) {
         return Opened::Refused(Refusal {

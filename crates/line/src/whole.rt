@@ -1,10 +1,8 @@
 // The line of a whole input.
 ghost use mathlib.Core.Path.{_≡_};
-ghost use Rattle.monitor_spec.specs.Feed.{feedOf};
 ghost use Rattle.state.specs.Record.{monitorOf};
-ghost use Rattle.line.specs.Pieces.{fed, concludeOf};
-ghost use Rattle.line.specs.Answers.{lineSaid};
-ghost use Rattle.line.specs.Opening.{lentLine};
+ghost use Rattle.line.specs.Whole.{finishOf, wholeOf};
+ghost use Rattle.line.specs.Answers.{wholeSaid};
 use crate::answer::Course;
 use crate::answer::Line;
 use crate::answer::Opened;
@@ -12,7 +10,7 @@ use crate::feeder::conclude;
 use crate::feeder::refused;
 use crate::feeder::resume;
 use crate::opener::open;
-use monitor::State;
+use state::State;
 
 // The line of a started monitor on all of its events.
 fn finish(
@@ -24,10 +22,11 @@ fn finish(
     work: &mut [u64],
 ) -> Line
     ensures { λ r.
-        ⌜ lineSaid r
-        ≡ concludeOf (fed (now (list .entry)) (feedOf (now (list .entry))
+        ⌜ wholeSaid r (now (list .entry)) (now (area0 .exit)) (now (area1 .exit))
+        (now (work .exit))
+        ≡ finishOf (now (list .entry))
         (monitorOf state (now (area0 .entry)) (now (area1 .entry)))
-        (now (events .entry)) (now (work .entry)))) ⌝ }
+        (now (events .entry)) (now (work .entry)) ⌝ }
 {
     match resume(list, state, area0, area1, events, work) {
         Course::Going(last) => conclude(last),
@@ -44,7 +43,9 @@ pub fn line(
     work: &mut [u64],
 ) -> Line
     ensures { λ r.
-        ⌜ lineSaid r ≡ lentLine (now (input .entry)) (now (list .entry)) (now (area0 .entry))
+        ⌜ wholeSaid r (now (list .exit)) (now (area0 .exit)) (now (area1 .exit))
+        (now (work .exit))
+        ≡ wholeOf (now (input .entry)) (now (list .entry)) (now (area0 .entry))
         (now (area1 .entry)) (now (work .entry)) ⌝ }
 {
     match open(input, list, area0, area1, work) {

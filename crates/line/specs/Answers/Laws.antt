@@ -1,41 +1,34 @@
--- What the functions on heads, pieces and lines promise, by the ways out of their code.
+-- What the functions on heads and records promise, by the ways out of their code.
 --     cut-over, cut-missing, cut-there               by the length number and the bytes after it
 --     head-value, head-truncated, head-malformed     by what is read at the input's start
---     head-within                                    the parts lie within the input
+--     head-within, head-events                       the parts lie within the input; the events end it
 --     state-running, state-failed                    the line of a record, by its verdict
---     course-given, course-refused, course-stopped   what a piece leaves, by Feed's answer
---     end-going, end-over                            the line at the input's end, by what the last piece left
+-- Not here: the ways of `open`, in `Opening/Ways.antt`; of `resume` and `line`, in `Whole/Ways.antt`.
 -- Assumes nothing.
 use Prim.Native.Nat.{ℕ, _+_, _-_, _≤_, _<_}
 use native.Mathlib.Omega.{arith}
 use mathlib.Core.Path.{_≡_, refl, ap, ap₂, sym, subst, _∙_}
+use mathlib.Core.Bool.{Bool, true, false}
 use mathlib.Core.List.{List}
 use lib.ListN.{length, take, drop, length-drop}
 use lib.Seq.{drop-drop}
-use borrow.Author.Tests.{lt-ltb, le-ltb}
+use lib.Dec.{ltb}
+use borrow.Author.Tests.{lt-ltb, le-ltb, ltb-true, ltb-false}
 use Rattle.numbers.specs.declared.Reading.{Reading}
 use Rattle.numbers.specs.declared.Reading.the-variants.{Value, Truncated, Malformed}
-use Rattle.numbers.specs.Number.{Scan, value}
+use Rattle.numbers.specs.Number.{Scan, value, truncated, malformed, readNumber}
+use Rattle.numbers.specs.Number.Extent.{scan-extent}
 use Rattle.numbers.specs.Position.{readAt}
 use Rattle.numbers.specs.Position.Laws.{value-read, truncated-read, malformed-read}
-use Rattle.table.specs.declared.answer.Refusal.{Refusal}
-use Rattle.monitor_spec.specs.State.{Verdict, Outcome}
+use Rattle.monitor_spec.specs.State.{Verdict}
 use Rattle.state.specs.declared.record.Verdict.the-variants as verdict
 use Rattle.state.specs.declared.record.State.{State}
-use Rattle.state.specs.declared.answer.Answer as answer
-use Rattle.state.specs.declared.answer.Answer.the-variants as gave
-use Rattle.state.specs.Record.{verdictOf, stateOf, monitorOf}
-use Rattle.state.specs.Answers.{outcome}
+use Rattle.state.specs.Record.{verdictOf, stateOf}
 use Rattle.line.specs.declared.answer.Head as head
 use Rattle.line.specs.declared.answer.Head.the-variants.{Parts, Wrong}
-use Rattle.line.specs.declared.answer.Line as code
-use Rattle.line.specs.declared.answer.Line.the-variants.{Running, Failed, Refused}
-use Rattle.line.specs.declared.answer.Course as way
-use Rattle.line.specs.declared.answer.Course.the-variants.{Going, Over}
-use Rattle.line.specs.Line.{Head, parts, wrong, cut, headBy, headOf, refused, verdictLine, stateLine}
-use Rattle.line.specs.Line as line
-use Rattle.line.specs.Pieces.{Course, over, fed, fedBy, concludeOf}
-use Rattle.line.specs.Answers.{lineSaid, courseSaid, PartsAt, HeadIs, HeadSaid, CutSaid}
+use Rattle.line.specs.declared.answer.Line.the-variants.{Running, Failed}
+use Rattle.line.specs.Line.{Head, parts, wrong, cut, headBy, headOf, verdictLine, stateLine}
+use Rattle.line.specs.Answers.{lineSaid, PartsAt, HeadIs, HeadSaid, CutSaid}
 
 -- ---- cut
 
@@ -89,6 +82,41 @@ module _ (s : List ℕ) (x : Reading) (found : x ≡ readAt s 0) where
 pub head-within : (s : List ℕ) (h : head.Head) → HeadSaid s h → (x y : ℕ) → h ≡ Parts x y → (x ≤ y) × (y ≤ length s)
 head-within s h says x y k = let p = subst (HeadIs (headOf s) s) k says in (p .order, p .within)
 
+-- ---- the events end the input
+
+module _ (s bs es : List ℕ) where
+  not-wrong : {X : Type 0} {y : Head} {n p : ℕ} → y ≡ wrong n p → y ≡ parts bs es → X
+  not-wrong e f = absurd (let z : _≡_ {A = ℕ} 0 1 = cc in omega arith)
+
+  ends-at : {bs' : List ℕ} {y : Head} (k : ℕ) → k ≤ length s → y ≡ parts bs' (drop k s) → y ≡ parts bs es
+      → es ≡ drop (length s - length es) s
+  ends-at k i e f =
+      let g : es ≡ drop k s = cc in
+      let m = ap length g ∙ length-drop k s in
+      let n : k ≡ length s - length es = omega arith in
+      g ∙ ap (λ (x : ℕ). drop x s) n
+
+  cut-ends : (v n : ℕ) → n ≤ length s → cut v (drop n s) ≡ parts bs es → (x y : Bool) → ltb 16384 v ≡ x
+      → ltb (length s - n) v ≡ y → es ≡ drop (length s - length es) s
+  cut-ends v n i f true y e g = not-wrong (cut-over (length s) v n (ltb-true _ _ e) s refl) f
+  cut-ends v n i f false true e g =
+      not-wrong (cut-missing (length s) v n (ltb-false _ _ e) (ltb-true _ _ g) s refl) f
+  cut-ends v n i f false false e g =
+      let p = cut-there (length s) v n i (ltb-false _ _ e) (ltb-false _ _ g) s refl in
+      ends-at (n + v) (p .within) (p .same) f
+
+  pub head-events : headOf s ≡ parts bs es → es ≡ drop (length s - length es) s
+  unfolding headOf headBy readNumber
+  head-events h = by (readNumber s) refl
+    where
+      by : (x : Scan) → readNumber s ≡ x → es ≡ drop (length s - length es) s
+      by truncated e = not-wrong (ap headBy e) h
+      by malformed e = not-wrong (ap headBy e) h
+      by (value v n rest) e =
+          let x = scan-extent 2 3 s v n rest e in
+          cut-ends v n (x .within) (ap (cut v) (sym (x .left)) ∙ sym (ap headBy e) ∙ h) (ltb 16384 v)
+          (ltb (length s - n) v) refl refl
+
 -- ---- the record's line
 
 module _ (s : State) where
@@ -99,36 +127,3 @@ module _ (s : State) where
   pub state-failed : (p : ℕ) → s .verdict ≡ verdict.Failed p → lineSaid (Failed p (s .taken)) ≡ stateLine (stateOf s)
   unfolding stateLine verdictLine
   state-failed p e = sym (ap (λ (v : Verdict). verdictLine v (s .taken) (s .count)) (ap verdictOf e))
-
--- ---- one piece
-
-module _ (l a b w : List ℕ) (r : answer.Answer) (o : Outcome) (said : outcome r a b w ≡ o) where
-  answered : (x : answer.Answer) → r ≡ x → fed l (outcome x a b w) ≡ fed l o
-  answered x k = sym (ap (λ (y : answer.Answer). fed l (outcome y a b w)) k) ∙ ap (fed l) said
-
-  pub course-given : (st : State) → r ≡ gave.Given st → courseSaid l (Going st) a b ≡ fed l o
-  unfolding fed fedBy line.monitorOf
-  course-given st k = answered (gave.Given st) k
-
-  pub course-refused : (q : Refusal) → r ≡ gave.Refused q → (x : code.Line)
-      → lineSaid x ≡ refused (q .number) (q .place) → courseSaid l (Over x) a b ≡ fed l o
-  unfolding fed fedBy
-  course-refused q k x h = ap over h ∙ answered (gave.Refused q) k
-
-  pub course-stopped : (q : Refusal) (st : State) → r ≡ gave.Stopped q st
-      → courseSaid l (Over (Refused (q .number) (st .taken))) a b ≡ fed l o
-  unfolding fed fedBy
-  course-stopped q st k = answered (gave.Stopped q st) k
-
--- ---- the end
-
-module _ (l a b : List ℕ) (r : way.Course) (c : Course) (said : courseSaid l r a b ≡ c) where
-  pub end-going : (st : State) → r ≡ Going st → (x : code.Line) → lineSaid x ≡ stateLine (stateOf st)
-      → lineSaid x ≡ concludeOf c
-  unfolding concludeOf
-  end-going st k x h =
-      h ∙ sym (ap (λ (y : way.Course). concludeOf (courseSaid l y a b)) k) ∙ ap concludeOf said
-
-  pub end-over : (x : code.Line) → r ≡ Over x → lineSaid x ≡ concludeOf c
-  unfolding concludeOf
-  end-over x k = sym (ap (λ (y : way.Course). concludeOf (courseSaid l y a b)) k) ∙ ap concludeOf said

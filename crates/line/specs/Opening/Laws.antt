@@ -1,15 +1,15 @@
--- What Start and Read leave of lent buffers of the right lengths, whatever stood in them.
---     fed-fresh           Start's course is that of a fresh monitor
---     start-work, start-stops    it clears the work area; its answer is not of the third form
---     read-declined       a refusal of Read is that of the bytes
---     fed-work            Feed's course, whatever the work area held
+-- What Read and Start leave of lent buffers of the right lengths, whatever stood in them.
+--     fed-fresh                          Start's course is that of a fresh monitor
+--     start-work                         it clears the work area
+--     table-accepted, table-declined     a table's bytes read and started, by the judgement on them
 -- Assumes nothing.
-use Prim.Native.Nat.{ℕ, _/_}
+use Prim.Native.Nat.{ℕ, _-_, _/_}
 use native.Mathlib.Omega.{arith}
-use mathlib.Core.Path.{_≡_, refl, ap, ap₂, sym, subst, _∙_}
+use mathlib.Core.Path.{_≡_, refl, ap, ap₂, sym, _∙_}
 use mathlib.Core.Bool.{Bool, true, false, _&&_}
-use mathlib.Core.List.{List, []}
+use mathlib.Core.List.{List, [], _++_}
 use lib.ListN.{length, length-replicate}
+use lib.Seq.{take-append-seam}
 use lib.Dec.{ltb, eqb, leb}
 use borrow.Author.Tests.{eq-eqb}
 use Rattle.table.specs.Table.{Table}
@@ -18,15 +18,13 @@ use Rattle.table.specs.Operations.{zeros, measured, readJudged, readOf}
 use Rattle.table.specs.Operations as read
 use Rattle.monitor_spec.specs.Residual.{residualsOf}
 use Rattle.monitor_spec.specs.Slots.{slotsOf}
-use Rattle.monitor_spec.specs.Consistent.{consistent}
-use Rattle.monitor_spec.specs.Fold.{through}
-use Rattle.monitor_spec.specs.State.{State, Monitor, Answer, given, stopped, Outcome, running}
-use Rattle.monitor_spec.specs.State.{areasMeasured, workMeasured, slotCount, fill}
+use Rattle.monitor_spec.specs.State.{given, Outcome, running, areasMeasured, workMeasured, slotCount, fill}
 use Rattle.monitor_spec.specs.State as state
-use Rattle.monitor_spec.specs.Feed.{nextVerdict, takeEvent, endingOf, refusing, feedAccepted, feedJudged, feedOf}
+use Rattle.monitor_spec.specs.Feed.{nextVerdict}
 use Rattle.monitor_spec.specs.Start.{startAccepted, startJudged, startOf}
 use Rattle.line.specs.Line.{fresh}
-use Rattle.line.specs.Pieces.{Course, going, fed, fedBy, pieceOf}
+use Rattle.line.specs.Pieces.{fed, fedBy}
+use Rattle.line.specs.Opening.{openRefused, startedOn, readThen, openTable}
 
 -- ---- Start
 
@@ -57,28 +55,11 @@ begun-work t n k = by (ltb n (length (slotsOf (residualsOf t [])))) refl
     by true e = rw (e, begunWith)
     by false e = rw (e, begunWith)
 
-begun-stops : (t : Table) (n k i p : ℕ) (s : State) → begunWith t n k .answer ≡ stopped i p s → ⊥
-unfolding begunWith
-begun-stops t n k i p s = by (ltb n (length (slotsOf (residualsOf t [])))) refl
-  where
-    never : (x : Answer) (y : Answer) → y ≡ x → y ≡ stopped i p s → (x ≡ stopped i p s → ⊥) → ⊥
-    never x y e f g = g (sym e ∙ f)
-
-    by : (x : Bool) → ltb n (length (slotsOf (residualsOf t []))) ≡ x → begunWith t n k .answer ≡ stopped i p s → ⊥
-    by true e f =
-        never (state.refused 13 0) _ (rw (e, begunWith)) f (λ g. let z : _≡_ {A = ℕ} 0 1 = cc in omega arith)
-    by false e f =
-        never (given (record {
-          taken = 0;
-          count = length (slotsOf (residualsOf t []));
-          verdict = nextVerdict running 0 (slotsOf (residualsOf t []));
-        })) _ (rw (e, begunWith)) f (λ g. let z : _≡_ {A = ℕ} 0 1 = cc in omega arith)
-
 areas-measured : (a b : List ℕ) → length a ≡ 4096 → length b ≡ 4096 → areasMeasured a b ≡ true
 unfolding areasMeasured
 areas-measured a b e f = rw (e, f)
 
-work-measured : (w : List ℕ) → length w ≡ 8192 → workMeasured w ≡ true
+pub work-measured : (w : List ℕ) → length w ≡ 8192 → workMeasured w ≡ true
 unfolding workMeasured
 work-measured w e = eq-eqb (length w) 8192 e
 
@@ -113,21 +94,10 @@ module _ (l a b w : List ℕ) (e : length a ≡ 4096) (f : length b ≡ 4096) (g
       by (accepted ns t) j = ap (λ (o : Outcome). o .work) (start-accepted ns t j) ∙ begun-work t 256 8192
       by (declined n p) j = ap (λ (o : Outcome). o .work) (start-declined n p j) ∙ ap zeros g
 
-  -- "Start crowded .. returns no record", and no event is taken
-  pub start-stops : (i p : ℕ) (s : State) → startOf l a b w .answer ≡ stopped i p s → ⊥
-  start-stops i p s h = by (judgeList l) refl
-    where
-      by : (j : Judgement) → judgeList l ≡ j → ⊥
-      by (accepted ns t) j =
-          begun-stops t 256 8192 i p s (ap (λ (o : Outcome). o .answer) (sym (start-accepted ns t j)) ∙ h)
-      by (declined n q) j =
-          let k = ap (λ (o : Outcome). o .answer) (start-declined n q j) in
-          let z : _≡_ {A = ℕ} 0 1 = cc in omega arith
-
-zeros-length : (n : ℕ) → length (zeros n) ≡ n
+pub zeros-length : (n : ℕ) → length (zeros n) ≡ n
 zeros-length n = length-replicate {A = ℕ} n 0
 
--- "nothing of what stood in the areas is left"
+-- nothing of what stood in the areas is left
 pub fed-fresh : (l a b w : List ℕ) → length a ≡ 4096 → length b ≡ 4096 → length w ≡ 8192
     → fed l (startOf l a b w) ≡ fed l (fresh l)
 unfolding fresh fed fedBy
@@ -144,57 +114,33 @@ fed-fresh l a b w e f g = by (judgeList l) refl
         ap (fed l) (start-declined l a b w e f g n p j)
         ∙ sym (ap (fed l) (start-declined l (zeros 4096) (zeros 4096) (zeros 8192) z z (zeros-length 8192) n p j))
 
--- ---- Feed
-
-feed-length : (t : Judgement) (m : Monitor) (es v w : List ℕ) → length v ≡ length w
-    → feedJudged t m es v ≡ feedJudged t m es w
-unfolding feedJudged feedAccepted
-feed-length (declined n p) m es v w e = ap (λ (k : ℕ). refusing n p m (zeros k)) e
-feed-length (accepted ns t) m es v w e =
-    ap
-    (λ (k : ℕ). elim (consistent t m) [
-      | true ↦ endingOf k (through (takeEvent t) m 0 es)
-      | false ↦ refusing 10 0 m (zeros k)
-    ]) e
-
-feed-same : (l : List ℕ) (m : Monitor) (es v w : List ℕ) → workMeasured v ≡ true → workMeasured w ≡ true
-    → length v ≡ length w → fed l (feedOf l m es v) ≡ fed l (feedOf l m es w)
-unfolding feedOf fed fedBy refusing
-feed-same l m es v w h k e = by (areasMeasured (m .area0) (m .area1)) refl
-  where
-    by : (x : Bool) → areasMeasured (m .area0) (m .area1) ≡ x → fed l (feedOf l m es v) ≡ fed l (feedOf l m es w)
-    by true a =
-        let p : feedOf l m es v ≡ feedJudged (judgeList l) m es v = rw (a, h, feedOf) in
-        let q : feedOf l m es w ≡ feedJudged (judgeList l) m es w = rw (a, k, feedOf) in
-        ap (fed l) (p ∙ feed-length (judgeList l) m es v w e ∙ sym q)
-    by false a =
-        let p : feedOf l m es v ≡ refusing 1 0 m v = rw (a, feedOf) in
-        let q : feedOf l m es w ≡ refusing 1 0 m w = rw (a, feedOf) in
-        ap (fed l) p ∙ sym (ap (fed l) q)
-
-pub fed-work : (l : List ℕ) (m : Monitor) (es w : List ℕ) → length w ≡ 8192
-    → fed l (feedOf l m es w) ≡ pieceOf (going l m) es
-unfolding pieceOf
-fed-work l m es w e =
-    let z = zeros-length 8192 in
-    feed-same l m es w (zeros 8192) (work-measured w e) (work-measured (zeros 8192) z) (e ∙ sym z)
-
 -- ---- Read
 
 pub read-right : (bs l w : List ℕ) → length l ≡ 16384 → length w ≡ 8192 → readOf bs l w ≡ readJudged (judgeBytes bs)
 unfolding readOf measured
 read-right bs l w e f = rw (e, f)
 
-pub read-declined : (bs l w : List ℕ) → length l ≡ 16384 → length w ≡ 8192 → (n p : ℕ)
-    → readOf bs l w .answer ≡ read.refusal n p → judgeBytes bs ≡ declined n p
-unfolding readJudged
-read-declined bs l w e f n p h =
-    by (judgeBytes bs) refl (ap (λ (o : read.Outcome). o .answer) (sym (read-right bs l w e f)) ∙ h)
-  where
-    by : (j : Judgement) → judgeBytes bs ≡ j → readJudged (judgeBytes bs) .answer ≡ read.refusal n p
-        → judgeBytes bs ≡ declined n p
-    by (accepted ns t) j h =
-        let k = ap (λ (x : Judgement). readJudged x .answer) (sym j) ∙ h in
-        absurd (let z : _≡_ {A = ℕ} 0 1 = cc in omega arith)
-    by (declined m q) j h =
-        let k = ap (λ (x : Judgement). readJudged x .answer) (sym j) ∙ h in j ∙ cc
+-- ---- Read, and then Start
+
+module _ (bs : List ℕ) (next : ℕ) (l a b w : List ℕ) (e : length l ≡ 16384) (g : length w ≡ 8192) where
+  judged-table : (j : Judgement) → judgeBytes bs ≡ j → openTable bs next l a b w
+      ≡ readThen next (readJudged j .answer) (readJudged j .output) a b (readJudged j .work)
+  unfolding openTable
+  judged-table j k =
+      ap (λ (o : read.Outcome). readThen next (o .answer) (o .output) a b (o .work))
+      (read-right bs l w e g ∙ ap readJudged k)
+
+  pub table-accepted : (ns : List ℕ) (t : Table) → judgeBytes bs ≡ accepted ns t → openTable bs next l a b w
+      ≡ startedOn (length ns) next (ns ++ zeros (16384 - length ns)) (startOf ns a b (zeros 8192))
+  unfolding readThen readJudged
+  table-accepted ns t k =
+      let after = zeros (16384 - length ns) in
+      judged-table (accepted ns t) k
+      ∙ ap (λ (x : List ℕ). startedOn (length ns) next (ns ++ after) (startOf x a b (zeros 8192)))
+      (take-append-seam ns after)
+
+  -- "Read's output is zeroed on 2 to 9"; Start is not called
+  pub table-declined : (n p : ℕ) → judgeBytes bs ≡ declined n p → openTable bs next l a b w
+      ≡ openRefused n p (zeros 16384) a b (zeros 8192)
+  unfolding readThen readJudged
+  table-declined n p k = judged-table (declined n p) k

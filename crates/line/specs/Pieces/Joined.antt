@@ -1,5 +1,6 @@
 -- The line of an input in pieces is that of the whole: the front is opened, and each piece goes on where the one
 -- before ended.
+--     over-stays         a line that stands, stands
 --     pieces-whole       all of it
 -- Assumes nothing.
 use Prim.Native.Nat.{ℕ, _+_, _-_, _≤_}
@@ -179,7 +180,7 @@ pub record Fronts (h : Head) : Type 0 where
   pub more : (ess : List (List ℕ))
       → concludeOf (throughPieces (feedFront (frontHead h)) ess) ≡ headLine (widenHead h (flatten ess))
 
-over-stays : (x : Line) (ess : List (List ℕ)) → throughPieces (over x) ess ≡ over x
+pub over-stays : (x : Line) (ess : List (List ℕ)) → throughPieces (over x) ess ≡ over x
 unfolding pieceOf
 over-stays x ess = through-join (over x) (stands x) ess []
 

@@ -1,7 +1,5 @@
--- The line of an input in pieces is that of the whole.
+-- The head of an input in pieces is that of the whole.
 --     head-more          what follows a front that has the whole table belongs to the events
---     started            the line of a fresh monitor's first piece
---     pieces-whole       all of it
 -- Assumes nothing.
 use Prim.Native.Nat.{ℕ, zero, suc, _+_, _-_, _*_, _≤_, _<_}
 use native.Mathlib.Omega.{arith}

@@ -1,5 +1,5 @@
 -- `feeder::resume` meets its contract, by Feed's answer. Assumes nothing.
-use Rattle.line.specs.Answers.Laws.{course-given, course-refused, course-stopped}
+use Rattle.line.specs.Whole.Ways.{piece-given, piece-refused, piece-stopped}
 use borrow.Author.Needs.{needs}
 use Rattle.line.proofs.feeder.resume.Statement.{statement}
 use Rattle.line.proofs.feeder.resume.Tie as tie
@@ -32,7 +32,9 @@ returns : tie.Need-returns
 returns c =
     let at-next = c .before in
     let at-feed = at-next .before .before .before .before .before .before .before .before in
-    course-given _ _ _ _ _ _ (at-feed .feed .ensures) _ (at-next .next .given .1)
+    let args = at-feed .before .before .before .before .before .before .before .before .before .args in
+    piece-given (args .list .now) (args .state) (args .area0 .now) (args .area1 .now) (args .events .now)
+    (args .work .now) _ _ _ _ (at-feed .feed .ensures) _ (at-next .next .given .1)
 
 same-length-4 : tie.Need-same-length-4
 same-length-4 c = search needs
@@ -47,7 +49,9 @@ returns-2 : tie.Need-returns-2
 returns-2 c =
     let at-refusal = c .before .before in
     let at-feed = at-refusal .before .before .before .before .before .before .before .before in
-    course-refused _ _ _ _ _ _ (at-feed .feed .ensures) _ (at-refusal .refusal .given .1) (c .refused .result)
+    let args = at-feed .before .before .before .before .before .before .before .before .before .args in
+    piece-refused (args .list .now) (args .state) (args .area0 .now) (args .area1 .now) (args .events .now)
+    (args .work .now) _ _ _ _ (at-feed .feed .ensures) _ (at-refusal .refusal .given .1) (c .refused .result)
     (c .refused .ensures)
 
 same-length-7 : tie.Need-same-length-7
@@ -63,7 +67,9 @@ returns-3 : tie.Need-returns-3
 returns-3 c =
     let at-refusal2 = c .before in
     let at-feed = at-refusal2 .before .before .before .before .before .before .before .before in
-    course-stopped _ _ _ _ _ _ (at-feed .feed .ensures) _ _ (at-refusal2 .refusal2 .given .1)
+    let args = at-feed .before .before .before .before .before .before .before .before .before .args in
+    piece-stopped (args .list .now) (args .state) (args .area0 .now) (args .area1 .now) (args .events .now)
+    (args .work .now) _ _ _ _ (at-feed .feed .ensures) _ _ (at-refusal2 .refusal2 .given .1)
 
 pub resume-spec : {M : Type 1} → statement M
 resume-spec =

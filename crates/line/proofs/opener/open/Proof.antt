@@ -4,7 +4,7 @@ use native.Mathlib.Omega.{arith}
 use mathlib.Core.Path.{sym, _∙_}
 use borrow.Author.Tests.{not-true, not-false}
 use Rattle.line.specs.Answers.Laws.{head-within}
-use Rattle.line.specs.Opening.Ways.{lent-out, opens-unfit, opens-parts, opens-wrong}
+use Rattle.line.specs.Opening.Ways.{opens-unfit, opens-parts, opens-wrong}
 use borrow.Author.Needs.{needs}
 use Rattle.line.proofs.opener.open.Statement.{statement}
 use Rattle.line.proofs.opener.open.Tie as tie
@@ -45,13 +45,7 @@ part-open-table-end c =
     omega arith
 
 open-table-requires : tie.Need-open-table-requires
-open-table-requires c κs =
-    let at-if1 = c .before .before .before .before .before .before .before .before .before in
-    let at-lent-fit = at-if1 .before in
-    let args = at-lent-fit .before .before .before .before .before .before .args in
-    let fit = sym (at-lent-fit .lent-fit .ensures) ∙ not-false _ (at-if1 .if1 .left) in
-    let d = lent-out (args .list .now) (args .area0 .now) (args .area1 .now) (args .work .now) fit in
-    (d .list, ((d .area0, d .area1), d .work))
+open-table-requires c κs = search needs
 
 enum-known-refusal : tie.Need-enum-known-refusal
 enum-known-refusal c = search needs

@@ -1,7 +1,7 @@
 -- `opener::open_table` meets its contract, by Read's answer. Assumes nothing.
 use native.Mathlib.Omega.{arith}
 use mathlib.Core.Path.{sym}
-use Rattle.line.specs.Opening.Ways.{reads-few, reads-count, reads-refused}
+use Rattle.line.specs.Opening.Ways.{read-few, read-count, read-refused}
 use borrow.Author.Needs.{needs}
 use Rattle.line.proofs.opener.open_table.Statement.{statement}
 use Rattle.line.proofs.opener.open_table.Tie as tie
@@ -18,10 +18,9 @@ slice-reshare-prefix-start-list c =
     let at-read = at-count .before .before .before .before .before .before in
     let entry = at-read .before .before .before .before .before .before .before .before in
     let args = entry .args in
-    let pre = entry .pre in
     omega (
       arith,
-      reads-few (args .bytes .now) (args .list .now) (args .work .now) (pre .0) (pre .1 .1) _ _ _
+      read-few (args .bytes .now) (args .list .now) (args .work .now) _ _ _
           (at-read .read .ensures) _ (at-count .count .given .1),
     )
 
@@ -31,8 +30,7 @@ slice-aggregate-start-list c =
     let at-read = at-count .before .before .before .before .before .before in
     let entry = at-read .before .before .before .before .before .before .before .before in
     let args = entry .args in
-    let pre = entry .pre in
-    sym (reads-few (args .bytes .now) (args .list .now) (args .work .now) (pre .0) (pre .1 .1) _ _ _
+    sym (read-few (args .bytes .now) (args .list .now) (args .work .now) _ _ _
     (at-read .read .ensures) _ (at-count .count .given .1) .1)
 
 start-list-requires : tie.Need-start-list-requires
@@ -60,10 +58,9 @@ returns c =
     let at-read = at-count .before .before .before .before .before .before in
     let entry = at-read .before .before .before .before .before .before .before .before in
     let args = entry .args in
-    let pre = entry .pre in
-    reads-count (args .bytes .now) (args .list .now) (args .work .now) (pre .0) (pre .1 .1) _ _ _
-    (at-read .read .ensures) _ (at-count .count .given .1) (args .next) (at-start-list .start-list .result) _ _ _
-    (at-start-list .start-list .ensures)
+    read-count (args .bytes .now) (args .list .now) (args .work .now) _ _ _ (at-read .read .ensures) _
+    (at-count .count .given .1) (args .next) (args .area0 .now) (args .area1 .now) (at-start-list .start-list .result)
+    _ _ _ (at-start-list .start-list .ensures)
 
 same-length-5 : tie.Need-same-length-5
 same-length-5 c = search needs
@@ -77,10 +74,8 @@ returns-2 c =
     let at-read = at-refusal .before .before .before .before .before .before in
     let entry = at-read .before .before .before .before .before .before .before .before in
     let args = entry .args in
-    let pre = entry .pre in
-    reads-refused (args .bytes .now) (args .list .now) (args .work .now) (pre .0) (pre .1 .1) _ _ _
-    (at-read .read .ensures) _ (at-refusal .refusal .given .1) (args .next) (args .area0 .now) (args .area1 .now)
-    (args .work .now)
+    read-refused (args .bytes .now) (args .list .now) (args .work .now) _ _ _ (at-read .read .ensures) _
+    (at-refusal .refusal .given .1) (args .next) (args .area0 .now) (args .area1 .now)
 
 pub open-table-spec : {M : Type 1} → statement M
 open-table-spec =

@@ -1,5 +1,5 @@
 -- `opener::start_list` meets its contract, by Start's answer. Assumes nothing.
-use Rattle.line.specs.Opening.Ways.{starts-given, starts-refused, starts-stopped}
+use Rattle.line.specs.Opening.Ways.{start-given, start-refused, start-stopped}
 use borrow.Author.Needs.{needs}
 use Rattle.line.proofs.opener.start_list.Statement.{statement}
 use Rattle.line.proofs.opener.start_list.Tie as tie
@@ -29,11 +29,9 @@ returns : tie.Need-returns
 returns c =
     let at-state = c .before in
     let at-start = at-state .before .before .before .before .before .before .before .before in
-    let entry = at-start .before .before .before .before .before .before .before .before in
-    let args = entry .args in
-    let pre = entry .pre in
-    starts-given (args .list .now) (args .area0 .now) (args .area1 .now) (args .work .now) (pre .0 .0)
-    (pre .0 .1) (pre .1) (args .next) _ _ _ _ (at-start .start .ensures) _ (at-state .state .given .1)
+    let args = at-start .before .before .before .before .before .before .before .before .args in
+    start-given (args .next) (args .list .now) (args .area0 .now) (args .area1 .now) (args .work .now) _ _ _ _
+    (at-start .start .ensures) _ (at-state .state .given .1)
 
 same-length-4 : tie.Need-same-length-4
 same-length-4 c = search needs
@@ -48,11 +46,9 @@ returns-2 : tie.Need-returns-2
 returns-2 c =
     let at-refusal = c .before in
     let at-start = at-refusal .before .before .before .before .before .before .before .before in
-    let entry = at-start .before .before .before .before .before .before .before .before in
-    let args = entry .args in
-    let pre = entry .pre in
-    starts-refused (args .list .now) (args .area0 .now) (args .area1 .now) (args .work .now) (pre .0 .0)
-    (pre .0 .1) (pre .1) (args .next) _ _ _ _ (at-start .start .ensures) _ (at-refusal .refusal .given .1)
+    let args = at-start .before .before .before .before .before .before .before .before .args in
+    start-refused (args .next) (args .list .now) (args .area0 .now) (args .area1 .now) (args .work .now) _ _ _ _
+    (at-start .start .ensures) _ (at-refusal .refusal .given .1)
 
 same-length-7 : tie.Need-same-length-7
 same-length-7 c = search needs
@@ -63,16 +59,14 @@ same-length-8 c = search needs
 same-length-9 : tie.Need-same-length-9
 same-length-9 c = search needs
 
--- Start has no such answer
+-- Start has no such answer (`startAnswer`)
 returns-3 : tie.Need-returns-3
 returns-3 c =
     let at-refusal2 = c .before in
     let at-start = at-refusal2 .before .before .before .before .before .before .before .before in
-    let entry = at-start .before .before .before .before .before .before .before .before in
-    let args = entry .args in
-    let pre = entry .pre in
-    starts-stopped (args .list .now) (args .area0 .now) (args .area1 .now) (args .work .now) (pre .0 .0)
-    (pre .0 .1) (pre .1) (args .next) _ _ _ _ (at-start .start .ensures) _ _ (at-refusal2 .refusal2 .given .1)
+    let args = at-start .before .before .before .before .before .before .before .before .args in
+    start-stopped (args .next) (args .list .now) (args .area0 .now) (args .area1 .now) (args .work .now) _ _ _ _
+    (at-start .start .ensures) _ _ (at-refusal2 .refusal2 .given .1)
 
 pub start-list-spec : {M : Type 1} → statement M
 start-list-spec =

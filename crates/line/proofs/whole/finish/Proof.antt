@@ -1,5 +1,5 @@
 -- `whole::finish` meets its contract, by what the events leave. Assumes nothing.
-use Rattle.line.specs.Answers.Laws.{end-going, end-over}
+use Rattle.line.specs.Whole.Ways.{end-going, end-over}
 use borrow.Author.Needs.{needs}
 use Rattle.line.proofs.whole.finish.Statement.{statement}
 use Rattle.line.proofs.whole.finish.Tie as tie
@@ -29,7 +29,9 @@ returns : tie.Need-returns
 returns c =
     let at-last = c .before .before in
     let at-resume = at-last .before .before .before .before .before .before .before .before in
-    end-going _ _ _ _ _ (at-resume .resume .ensures) _ (at-last .last .given .1) (c .conclude .result)
+    let args = at-resume .before .before .before .before .before .before .before .before .before .args in
+    end-going (args .list .now) (args .state) (args .area0 .now) (args .area1 .now) (args .events .now)
+    (args .work .now) _ _ _ _ (at-resume .resume .ensures) _ (at-last .last .given .1) (c .conclude .result)
     (c .conclude .ensures)
 
 same-length-4 : tie.Need-same-length-4
@@ -45,7 +47,9 @@ returns-2 : tie.Need-returns-2
 returns-2 c =
     let at-line = c .before in
     let at-resume = at-line .before .before .before .before .before .before .before .before in
-    end-over _ _ _ _ _ (at-resume .resume .ensures) _ (at-line .line .given .1)
+    let args = at-resume .before .before .before .before .before .before .before .before .before .args in
+    end-over (args .list .now) (args .state) (args .area0 .now) (args .area1 .now) (args .events .now)
+    (args .work .now) _ _ _ _ (at-resume .resume .ensures) _ (at-line .line .given .1)
 
 pub finish-spec : {M : Type 1} → statement M
 finish-spec =

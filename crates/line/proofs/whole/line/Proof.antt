@@ -1,8 +1,10 @@
--- `whole::line` meets its contract: the front is the whole input, and no piece follows it. Assumes nothing.
+-- `whole::line` meets its contract, by what `open` gives; its record stands within the list and the input. Assumes
+-- nothing.
 use native.Mathlib.Omega.{arith}
 use mathlib.Core.Path.{sym}
 use lib.Seq.{length-take-le}
-use Rattle.line.specs.Opening.Ways.{started-within, line-started, line-refused}
+use Rattle.line.specs.Opening.Ways.{started-within}
+use Rattle.line.specs.Whole.Ways.{line-started, line-refused}
 use borrow.Author.Needs.{needs}
 use Rattle.line.proofs.whole.line.Statement.{statement}
 use Rattle.line.proofs.whole.line.Tie as tie
@@ -85,7 +87,8 @@ returns c =
     let entry = at-open .before .before .before .before .before .before .before .before .before .before in
     let args = entry .args in
     line-started (args .input .now) (args .list .now) (args .area0 .now) (args .area1 .now) (args .work .now) _ _
-    _ _ _ (at-open .«open» .ensures) _ _ _ (at-state .state .given .1) _ (at-finish .finish .ensures)
+    _ _ _ (at-open .«open» .ensures) _ _ _ (at-state .state .given .1) (at-finish .finish .result) _
+    _ _ (at-finish .finish .ensures)
 
 same-length-5 : tie.Need-same-length-5
 same-length-5 c = search needs
@@ -106,7 +109,8 @@ returns-2 c =
     let entry = at-open .before .before .before .before .before .before .before .before .before .before in
     let args = entry .args in
     line-refused (args .input .now) (args .list .now) (args .area0 .now) (args .area1 .now) (args .work .now) _ _
-    _ _ _ (at-open .«open» .ensures) _ (at-refusal .refusal .given .1) _ (c .refused .ensures)
+    _ _ _ (at-open .«open» .ensures) _ (at-refusal .refusal .given .1) (c .refused .result)
+    (c .refused .ensures)
 
 pub line-spec : {M : Type 1} → statement M
 line-spec =
