@@ -2,11 +2,13 @@
 -- definition"), with what stands in the lent buffers; and what the functions on an input's head promise.
 --     lineSaid, courseSaid     a line; a monitor that goes on, on a number list with both areas, or a line that stands
 --     openSaid, resumeSaid, wholeSaid    an answer of `open`, `resume`, `line` with every lent word
+--     AfterPiece               the promise of `after_piece`
 --     PartsAt, HeadIs          the parts of an input by their places; an answer that says what a head is
 --     HeadSaid, CutSaid        the promises of `head` and `cut`
 -- The laws are in `Answers/Laws.antt`. Assumes nothing.
 use Prim.Native.Nat.{ℕ, _-_, _≤_}
 use mathlib.Core.Path.{_≡_}
+use mathlib.Core.Bool.{Bool}
 use mathlib.Core.List.{List}
 use lib.ListN.{length, take, drop}
 use Rattle.state.specs.Record.{stateOf, monitorOf}
@@ -19,7 +21,7 @@ use Rattle.line.specs.declared.answer.Course.the-variants.{Going, Over}
 use Rattle.line.specs.declared.answer.Opened as opened
 use Rattle.line.specs.declared.answer.Opened.the-variants as gave
 use Rattle.line.specs.Line.{Head, parts, wrong, cut, headOf, Line, runs, fails, refused}
-use Rattle.line.specs.Pieces.{Course, going, over}
+use Rattle.line.specs.Pieces.{Course, going, over, afterPiece}
 use Rattle.line.specs.Opening.{OpenAnswer, started, refuses, OpenOutcome}
 use Rattle.line.specs.Whole.{ResumeOutcome, LineOutcome}
 pub mod Laws
@@ -50,6 +52,10 @@ abbrev pub wholeSaid : code.Line → List ℕ → List ℕ → List ℕ → List
 wholeSaid x l a b w = record { line = lineSaid x; list = l; area0 = a; area1 = b; work = w }
 
 -- ---- an input's head
+
+-- the promise of `after_piece`
+abbrev pub AfterPiece : way.Course → Bool → way.Course → Type 0
+AfterPiece c last r = (l a b : List ℕ) → courseSaid l r a b ≡ afterPiece last (courseSaid l c a b)
 
 -- the table bytes of s stand from a up to b, its events from there on
 pub record PartsAt (h : Head) (s : List ℕ) (a b : ℕ) : Type 0 where

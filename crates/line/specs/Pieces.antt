@@ -1,10 +1,12 @@
 -- The same, of an input in pieces (ours): its front, which has the whole table, and any number of pieces after it.
 --     Course                         a running monitor on a number list, or a line that stands
 --     pieceOf, concludeOf            after one piece more; the line at the input's end
+--     afterPiece                     a course where the input ended, or did not
 --     Front, frontOf, feedFront      what Start leaves, with the events of the front; these fed
 --     piecesOf                       all of it
 -- The laws are in `Pieces/`: `Laws`, `Whole`, `Joined`. Assumes nothing.
 use Prim.Native.Nat.{ℕ}
+use mathlib.Core.Bool.{Bool, cond}
 use mathlib.Core.List.{List, [], _∷_}
 use Rattle.table.specs.Judge.{Judgement, accepted, declined, judgeBytes}
 use Rattle.table.specs.Operations.{zeros}
@@ -55,6 +57,10 @@ feedFront f = pieceOf (f .course) (f .events)
 unfoldable pub concludeOf : Course → Line
 concludeOf (going l m) = stateLine (m .state)
 concludeOf (over x) = x
+
+-- a course after a piece that was the input's last, or was not
+unfoldable pub afterPiece : Bool → Course → Course
+afterPiece last c = cond last (over (concludeOf c)) c
 
 unfoldable pub throughPieces : Course → List (List ℕ) → Course
 throughPieces c [] = c

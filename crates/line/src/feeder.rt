@@ -4,7 +4,7 @@ ghost use Rattle.state.specs.Record.{stateOf, monitorOf};
 ghost use Rattle.line.specs.Line.{stateLine};
 ghost use Rattle.line.specs.Line.{refused as refusedAt};
 ghost use Rattle.line.specs.Whole.{resumeOf};
-ghost use Rattle.line.specs.Answers.{lineSaid, resumeSaid};
+ghost use Rattle.line.specs.Answers.{lineSaid, resumeSaid, AfterPiece};
 use crate::answer::Course;
 use crate::answer::Line;
 use state::Answer;
@@ -51,4 +51,17 @@ pub fn resume(
         Answer::Refused(refusal) => Course::Over(refused(refusal)),
         Answer::Stopped(refusal, last) => Course::Over(Line::Refused(refusal.number, last.taken)),
     }
+}
+
+// The course after a piece: where it was the input's last, its line stands.
+pub fn after_piece(course: Course, last: bool) -> Course
+    ensures { λ r. ⌜ AfterPiece course last r ⌝ }
+{
+    if last {
+        return match course {
+            Course::Going(state) => Course::Over(conclude(state)),
+            Course::Over(line) => Course::Over(line),
+        };
+    }
+    course
 }

@@ -2,6 +2,7 @@
 // piece by piece. The definitions are in `specs/`; `specs/Lib.antt` lists them in reading order.
 //     line                    a whole input
 //     open, resume, conclude  its front, each piece after it, its end
+//     after_piece             a course where the input ended, or did not
 //     head                    where the table and the events of an input are
 mod answer;
 mod feeder;
@@ -13,6 +14,7 @@ pub use answer::Course;
 pub use answer::Head;
 pub use answer::Line;
 pub use answer::Opened;
+pub use feeder::after_piece;
 pub use feeder::conclude;
 pub use feeder::resume;
 pub use header::head;

@@ -19,13 +19,8 @@ enum Progress {
 
 // After events that were the last of the input, or were not.
 fn after(course: Course, last: bool) -> Progress {
-    match course {
-        Course::Going(state) => {
-            if last {
-                return Progress::Said(line::conclude(state));
-            }
-            Progress::Going(state)
-        }
+    match line::after_piece(course, last) {
+        Course::Going(state) => Progress::Going(state),
         Course::Over(line) => Progress::Said(line),
     }
 }

@@ -8,6 +8,7 @@ use Prim.Native.Nat.{ℕ, _+_, _≤_}
 use mathlib.Core.Path.{_≡_}
 use mathlib.Core.List.{List, _∷_, _++_}
 use lib.ListN.{length, take}
+use Rattle.io.specs.Counts.{Counts}
 use Rattle.text.specs.declared.Text.{Text}
 use Rattle.text.specs.Text.{decimal}
 pub mod Laws
@@ -22,7 +23,7 @@ pub record Room (t : Text) (n : ℕ) : Type 0 where
 pub record Shows (t : Text) (bs : List ℕ) : Type 0 where
   pub bytes : shown t ≡ bs
   pub count : t .count ≡ length bs
-  pub within : t .count ≤ 50
+  pub counts : Counts (t .count) (t .bytes)
 
 pub record Added (t : Text) (part : List ℕ) (r : Text) : Type 0 where
   pub size : length (r .bytes) ≡ 50

@@ -3,6 +3,7 @@
 --     head-value, head-truncated, head-malformed     by what is read at the input's start
 --     head-within, head-events                       the parts lie within the input; the events end it
 --     state-running, state-failed                    the line of a record, by its verdict
+--     piece-more, piece-going, piece-over            the course after a piece
 -- Not here: the ways of `open`, in `Opening/Ways.antt`; of `resume` and `line`, in `Whole/Ways.antt`.
 -- Assumes nothing.
 use Prim.Native.Nat.{ℕ, _+_, _-_, _≤_, _<_}
@@ -26,9 +27,13 @@ use Rattle.state.specs.declared.record.State.{State}
 use Rattle.state.specs.Record.{verdictOf, stateOf}
 use Rattle.line.specs.declared.answer.Head as head
 use Rattle.line.specs.declared.answer.Head.the-variants.{Parts, Wrong}
+use Rattle.line.specs.declared.answer.Line as code
 use Rattle.line.specs.declared.answer.Line.the-variants.{Running, Failed}
+use Rattle.line.specs.declared.answer.Course as way
+use Rattle.line.specs.declared.answer.Course.the-variants.{Going, Over}
 use Rattle.line.specs.Line.{Head, parts, wrong, cut, headBy, headOf, verdictLine, stateLine}
-use Rattle.line.specs.Answers.{lineSaid, PartsAt, HeadIs, HeadSaid, CutSaid}
+use Rattle.line.specs.Pieces.{concludeOf, afterPiece}
+use Rattle.line.specs.Answers.{lineSaid, courseSaid, AfterPiece, PartsAt, HeadIs, HeadSaid, CutSaid}
 
 -- ---- cut
 
@@ -127,3 +132,19 @@ module _ (s : State) where
   pub state-failed : (p : ℕ) → s .verdict ≡ verdict.Failed p → lineSaid (Failed p (s .taken)) ≡ stateLine (stateOf s)
   unfolding stateLine verdictLine
   state-failed p e = sym (ap (λ (v : Verdict). verdictLine v (s .taken) (s .count)) (ap verdictOf e))
+
+-- ---- after_piece
+
+module _ (c : way.Course) (last : Bool) where
+  pub piece-more : last ≡ false → AfterPiece c last c
+  unfolding afterPiece
+  piece-more e l a b = rw e
+
+  pub piece-going : last ≡ true → (s : State) → c ≡ Going s → (x : code.Line) → lineSaid x ≡ stateLine (stateOf s)
+      → AfterPiece c last (Over x)
+  unfolding afterPiece concludeOf
+  piece-going e s q x g l a b = rw (e, q, g)
+
+  pub piece-over : last ≡ true → (x : code.Line) → c ≡ Over x → AfterPiece c last (Over x)
+  unfolding afterPiece concludeOf
+  piece-over e x q l a b = rw (e, q)

@@ -5,7 +5,7 @@
 -- Assumes nothing.
 use Prim.Native.Nat.{ℕ, suc, _+_, _≤_, _<_}
 use native.Mathlib.Omega.{arith}
-use mathlib.Core.Path.{_≡_, sym, _∙_}
+use mathlib.Core.Path.{_≡_, ap, sym, _∙_}
 use mathlib.Core.List.{List, [], _∷_, _++_, append-assoc, append-nil}
 use lib.ListN.{length, getD, set, take, length-append}
 use lib.Seq.{take-suc, take-suc-set, take-all}
@@ -54,7 +54,13 @@ module _ (none first second third r : Text) (word : List ℕ) (a b : ℕ) (zero 
     (z : Added third (10 ∷ []) r) where
   pub spelled-shown : length word ≤ 7 → Shows r (spelled word a b)
   unfolding spelled
-  spelled-shown h = record { bytes = whole; count = size; within = omega (arith, zero, w .count, x .most, y .most, z .count) }
+  spelled-shown h =
+      let most : r .count ≤ 50 = omega (arith, zero, w .count, x .most, y .most, z .count) in
+      record {
+        bytes = whole;
+        count = size;
+        counts = (omega (arith, z .size), size ∙ ap length (sym whole));
+      }
     where
       start : shown first ≡ word
       start = w .bytes ∙ rw zero
