@@ -18,14 +18,14 @@ use Rattle.table.specs.Table.{fixed, family, Term, stop, fail, prefix, choice, 
 use Rattle.table.specs.Table.{Definition, Table, size, bodyOf}
 use Rattle.table.specs.Tokens.{listTokens, byteToken, byteTokensWith, byteTokens, placeOf, trailing}
 use Rattle.table.specs.Parser.{number, pure, next, andThen, times}
-use Rattle.table.specs.Grammar.{events, row, setOfKind, set, refOfKind, setRef, termOfKind, termWith}
+use Rattle.table.specs.Grammar.{events, row, setOfKind, eventSet, refOfKind, setRef, termOfKind, termWith}
 use Rattle.table.specs.Grammar.{definition, definitionsOf, table}
 use Rattle.table.specs.Writing.{rowNumbers, setNumbers, refNumbers, termNumbers, definitionNumbers, numbersOf}
 use Rattle.table.specs.First.{orElse, unless}
 use Rattle.table.specs.References.{levelIn, paramFits, callFits, wrongRef, wrongIn, wrongFrom, firstWrong}
 use Rattle.table.specs.Grow.{grow}
 use Rattle.table.specs.Width.{widthWith, widest, callWidth, nextWidth, allWidths, firstAbove, tooWide}
-use Rattle.table.specs.Branches.{branchesWith, lookup, bodyIn, nextBranches, allBranches}
+use Rattle.table.specs.Branches.{branchesWith, branchesAt, bodyIn, nextBranches, allBranches}
 use Rattle.table.specs.Branches.{followerAbove, bodyAbove, tooManyBranches}
 use Rattle.table.specs.Judge.{Judgement, accepted, unlessMet, placed, judgeRead, judge, judgeBytes, sized, judgeList}
 use Rattle.table.specs.Judge.Laws.{list-out}
@@ -34,7 +34,7 @@ use Rattle.table.specs.Member.{elem, rowIn}
 use Rattle.table.specs.Examples as InBytes
 use Rattle.meaning.specs.Formed.{rules-guarded, last-exists}
 use Rattle.meaning.specs.Figure1 as F
-use Rattle.meaning.specs.Figure1.{plainRef, plain, body, count, last, member, subArg, subSet, sub}
+use Rattle.meaning.specs.Figure1.{plainRef, plain, body, bodyCount, last, member, subArg, subSet, sub}
 use Rattle.meaning.specs.Figure2.{TraceSet, Model}
 use Rattle.meaning.specs.Figure3.{Viable, Chain}
 use Rattle.meaning.specs.Theorem3.{theorem3}
@@ -173,14 +173,14 @@ rows =
 
 -- ---- by computing
 
-abbrev some : List F.Term → Bool
-some [] = false
-some (r ∷ rs) = true
+abbrev nonempty : List F.Term → Bool
+nonempty [] = false
+nonempty (r ∷ rs) = true
 
-inhabited-some : (rs : List F.Term) (v : Bool) → some rs ≡ v → C.Inhabited rs ↔ T v
+inhabited-some : (rs : List F.Term) (v : Bool) → nonempty rs ≡ v → C.Inhabited rs ↔ T v
 inhabited-some rs v e = subst (λ (u : Bool). C.Inhabited rs ↔ T u) e (by rs)
   where
-    by : (l : List F.Term) → C.Inhabited l ↔ T (some l)
+    by : (l : List F.Term) → C.Inhabited l ↔ T (nonempty l)
     by [] = (λ h. h, λ h. h)
     by (r ∷ l) = (λ h. h, λ h. h)
 
@@ -192,7 +192,7 @@ abbrev taken : Row → Judgement
 taken r = accepted (numbersOf (r .table)) (r .table)
 
 abbrev left : Row → Bool
-left r = some (residuals (r .table) (F.call (last (r .table))) (r .events))
+left r = nonempty (residuals (r .table) (F.call (last (r .table))) (r .events))
 
 row-meant : (r : Row) → judged r ≡ taken r → left r ≡ r .held → Meant r
 row-meant r j e =
@@ -234,15 +234,15 @@ all-judged : (map judged rows ≡ map taken rows)
     × (judgeList (numbersOf onlyFail) ≡ accepted (numbersOf onlyFail) onlyFail)
 unfolding tableOf tableB onlyFail judgeBytes judgeList judge judgeRead sized listBytes bytesOf groups unlessMet placed
     placeOf trailing byteTokens byteTokensWith byteToken readNumber scanWith
-    listTokens table number andThen next pure times events row setOfKind set refOfKind setRef termOfKind termWith
+    listTokens table number andThen next pure times events row setOfKind eventSet refOfKind setRef termOfKind termWith
     definition definitionsOf size numbersOf rowNumbers setNumbers refNumbers termNumbers definitionNumbers flatMap
     orElse unless levelIn paramFits callFits wrongRef wrongIn wrongFrom firstWrong grow
     widthWith widest callWidth nextWidth allWidths firstAbove tooWide
-    branchesWith lookup bodyIn nextBranches allBranches followerAbove bodyAbove tooManyBranches
+    branchesWith branchesAt bodyIn nextBranches allBranches followerAbove bodyAbove tooManyBranches
 all-judged = (refl, refl, refl)
 
 rows-left : map left rows ≡ map (λ r. r .held) rows
-unfolding tableOf tableB count body bodyOf plain plainRef member rowIn elem sub subSet subArg
+unfolding tableOf tableB bodyCount body bodyOf plain plainRef member rowIn elem sub subSet subArg
     residuals run afterEvent resolve resolveCall resolveWith pairs flatMap
 rows-left = refl
 

@@ -20,7 +20,7 @@ use Rattle.table.specs.Grow.{grow}
 use Rattle.table.specs.Grow.Laws.{length-grow}
 use Rattle.table.specs.Table.{Term, stop, fail, prefix, choice, par, call, Table, size, bodyNumber, termCount}
 use Rattle.table.specs.Fields.{depthOf}
-use Rattle.table.specs.Branches.{branchesWith, lookup, bodyIn, nextBranches, allBranches, branches}
+use Rattle.table.specs.Branches.{branchesWith, branchesAt, bodyIn, nextBranches, allBranches, branches}
 use Rattle.table.specs.Node.{Node, nodeAt, termOf, kindOf, leftSize, calledOf}
 use Rattle.table.specs.Node.Parts.{size-positive}
 use Rattle.table.specs.Node.Laws.{choice-nodes, par-nodes, body-node}
@@ -67,8 +67,8 @@ unfolding resolvedBelow
 below-there t b d h = rw (ne-eqb _ _ h, resolvedBelow)
 
 -- those of the definitions below b, and none from b on
-counted : (t : Table) (b d : ℕ) → length (resolvedBelow t b d) ≡ lookup (grow (nextBranches (t .definitions)) b) d
-unfolding resolvedBelow lookup grow
+counted : (t : Table) (b d : ℕ) → length (resolvedBelow t b d) ≡ branchesAt (grow (nextBranches (t .definitions)) b) d
+unfolding resolvedBelow branchesAt grow
 counted t zero d = refl
 counted t (suc b) d =
     let ds = t .definitions in
@@ -76,9 +76,9 @@ counted t (suc b) d =
     elim (ℕ-discrete d b) [
       | yes e ↦
           rw e (ap length (below-here t b) ∙ length-resolve (resolvedBelow t b) (bodyNumber t b) 0 (bodyIn ds b)
-          ∙ count-ext (λ d. length (resolvedBelow t b d)) (lookup g) (counted t b) (bodyIn ds b)
+          ∙ count-ext (λ d. length (resolvedBelow t b d)) (branchesAt g) (counted t b) (bodyIn ds b)
           ∙ sym (getD-at g (nextBranches ds g) [] 0 b (length-grow (nextBranches ds) b)
-          ∙ unfold nextBranches in ap (λ (k : ℕ). branchesWith (lookup g) (bodyIn ds k))
+          ∙ unfold nextBranches in ap (λ (k : ℕ). branchesWith (branchesAt g) (bodyIn ds k))
           (length-grow (nextBranches ds) b)))
       | no e ↦ ap length (below-there t b d e) ∙ counted t b d ∙ sym (beyond g (nextBranches ds g) d (ne-length e))
     ]
