@@ -19,7 +19,7 @@ use Rattle.walk.specs.declared.nodes.Tree.{Tree}
 use Rattle.slots.specs.Holding.{said, putAll}
 use Rattle.residual.specs.Residual.{resolvedBelow, ResolvesDefinition}
 use Rattle.residual.specs.Distinct.{empty}
-use Rattle.slots.specs.Canon.Sets.{SameMembers}
+use Rattle.slots.specs.Canon.{SameMembers}
 use Rattle.step.specs.Stepped.{gathered, Source}
 use Rattle.step.specs.Successors as words
 use Rattle.moves.specs.Takes.{TreeAt, Takes}

@@ -20,9 +20,9 @@ use Rattle.walk.specs.Walk.Results.{onto-append}
 use Rattle.walk.specs.Forest.{Valid, afterKept}
 use Rattle.walk.specs.Forest.Laws.{results-moved}
 use Rattle.step.specs.Stepped.{gathered, SoundSlot, Source}
-use Rattle.slots.specs.Canon.{canonFrom, joined, areaOf, Slots}
+use Rattle.slots.specs.Canon.{canonFrom, joined, areaOf, Slots, SameMembers}
 use Rattle.slots.specs.Canon.Laws.{put-canon, put-exceeded-canon}
-use Rattle.slots.specs.Canon.Sets.{SameMembers, canon-members}
+use Rattle.slots.specs.Canon.Sets.{canon-members}
 use Rattle.slots.specs.Canon.Members.{sub-map, slots-in}
 use Rattle.moves.specs.Members.{Short, short-of, same-after, append-both}
 use Rattle.step.specs.Successors.{Holds, allAfter, allKept, slotsOf, canon}

@@ -15,7 +15,7 @@ use Rattle.meaning.specs.Figure1.{bodyCount, last}
 use Rattle.slots.specs.declared.slots.Held.the-variants.{Count, Exceeded}
 use Rattle.slots.specs.Holding.{said, putAll}
 use Rattle.residual.specs.Residual.{resolvedBelow}
-use Rattle.slots.specs.Canon.Sets.{SameMembers}
+use Rattle.slots.specs.Canon.{SameMembers}
 use Rattle.step.specs.Stepped.{gathered, Source}
 use Rattle.slots.specs.Canon.Laws.{put-canon, put-exceeded-canon}
 use Rattle.step.specs.Successors.{Holds, allAfter}
