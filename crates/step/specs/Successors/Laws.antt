@@ -12,7 +12,7 @@ use lib.ListN.{length, replicate, length-replicate}
 use Rattle.table.specs.Table.{Table}
 use Rattle.slots.specs.declared.slots.Held.the-variants.{Count, Exceeded}
 use Rattle.residual.specs.Residual.{Residual, words, after, pushAll}
-use Rattle.residual.specs.Residual.Into.{length-pushAll}
+use Rattle.residual.specs.Residual.Pushed.{length-pushAll}
 use Rattle.residual.specs.Distinct.{empty}
 use Rattle.walk.specs.Walk.{results, joins, onto}
 use Rattle.slots.specs.Holding.{said, putAll}

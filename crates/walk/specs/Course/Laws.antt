@@ -24,7 +24,7 @@ use Rattle.slots.specs.declared.slots.Held.the-variants.{Count, Exceeded}
 use Rattle.walk.specs.declared.nodes.Tree.{Tree}
 use Rattle.residual.specs.Residual.{Residual, leaf, pair, words, resolved, leafAfter, nth, pushed, pushAll}
 use Rattle.residual.specs.Residual.{Resolves, resolvedInto}
-use Rattle.residual.specs.Residual.Into.{length-pushed, head-pushed, length-pushAll, head-pushAll}
+use Rattle.residual.specs.Residual.Pushed.{length-pushed, head-pushed, length-pushAll, head-pushAll}
 use Rattle.residual.specs.Residual.Resolved.{length-resolved}
 use Rattle.residual.specs.Distinct.{window, kept, slotAt, Indices}
 use Rattle.residual.specs.Distinct.Laws.{window-cons, at-window, kept-below, kept-few}
