@@ -1,7 +1,7 @@
 -- Resolving lists as many residuals as the term has branches (01, "Openings").
 --     resolveDef-length    of a definition's body;  resolve-length: of the term of a number, with whatever memory
 --     residuals-few        at Start there are 256 at most
--- That there are none exactly for a doomed term is the table layer's `Doom/Branches.antt`. Assumes nothing.
+-- That there are none exactly for a doomed term is in `Doom/Branches.antt` of crate meaning. Assumes nothing.
 use Prim.Native.Nat.{ℕ, zero, suc, _+_, _*_, _≤_, _<_}
 use native.Mathlib.Omega.{arith}
 use native.Mathlib.Nat.{suc-mul, zero-mul}

@@ -1,4 +1,4 @@
--- `step::resolve::resolve_definition` and `step::resolve::resolve_term` meet their contracts: one law of
+-- `residual::resolve::resolve_definition` and `residual::resolve::resolve_term` meet their contracts: one law of
 -- `Residual/Ways.antt` per way out. The measure is the number that bounds the calls, then the depth of the term; a
 -- definition stands above the terms of its body. Assumes nothing.
 use Prim.Native.Nat.{ℕ, _+_, _*_, _<_}

@@ -1,4 +1,5 @@
--- `State::after` meets its contract: with no residual left it fails, else it holds them. Assumes nothing.
+-- `state::record::State::after` meets its contract: with no residual left it fails, else it holds them. Assumes
+-- nothing.
 use mathlib.Core.Path.{ap, _∙_}
 use Rattle.monitor_spec.specs.State.{State}
 use Rattle.state.specs.Record.{failing, holding}
