@@ -18,8 +18,8 @@ use Rattle.meaning.specs.Doom
 use Rattle.meaning.specs.Doom.Branches
 use Rattle.meaning.specs.Doom.Falls
 use Rattle.meaning.specs.Models.{holds-model, holds-only, theorem3-model, lemma5-model}
-use Rattle.meaning.specs.Examples as E
-use Rattle.meaning.specs.Examples.{rows-meant, only-fail-rules}
+use Rattle.meaning.specs.Examples.Laws as E
+use Rattle.meaning.specs.Examples.Laws.{rows-meant, only-fail-rules}
 use Rattle.meaning.specs.Closing.Laws.{close-sub, close-plain, member-close}
 use Rattle.meaning.specs.Claims.{RulesGuarded, RulesScoped, BodyClosed, SubstitutedIsRemembered}
 use Rattle.meaning.specs.Claims.{MemberIsMember, ParallelEquations, ParallelUnique, ModelExists}

@@ -33,7 +33,8 @@ use Rattle.table.specs.Branches.{branches}
 use Rattle.table.specs.Writing.{numbersOf}
 use Rattle.table.specs.Judge.{accepted, judgeBytes}
 use Rattle.table.specs.Examples as InBytes
-use Rattle.meaning.specs.Figure1.{SetRef, Term, fail, prefix, choice, call, plain, body, count, last, member, sub}
+use Rattle.meaning.specs.Figure1.{SetRef, Term, fail, prefix, choice, call, plain, body, bodyCount, last}
+use Rattle.meaning.specs.Figure1.{member, sub}
 use Rattle.meaning.specs.Figure1.{WellFormed, GuardedTable, CallFree}
 use Rattle.meaning.specs.Figure2.{TraceSet, NonEmpty, PrefixClosed, after, Parallel, IsParallel, Model}
 use Rattle.meaning.specs.Figure3.{Action, event, τ, Doomed, Viable, In, Step, Chain}
@@ -50,11 +51,11 @@ RulesGuarded = (t : Table) → Rules t → GuardedTable t
 
 -- "k is below the count of enclosing prefixes", "0 to 3"
 unfoldable pub RulesScoped : Type 0
-RulesScoped = (t : Table) → Rules t → (d : ℕ) → d < count t → Scoped 0 (bodyOf t d)
+RulesScoped = (t : Table) → Rules t → (d : ℕ) → d < bodyCount t → Scoped 0 (bodyOf t d)
 
 -- a body is the same closed term under every memory
 unfoldable pub BodyClosed : Type 0
-BodyClosed = (t : Table) → Rules t → (m : Memory) (d : ℕ) → d < count t → close 0 m (bodyOf t d) ≡ body t d
+BodyClosed = (t : Table) → Rules t → (m : Memory) (d : ℕ) → d < bodyCount t → close 0 m (bodyOf t d) ≡ body t d
 
 -- "settles its follower with memory (e, m0, m1, m2)": that is [e/x]P
 unfoldable pub SubstitutedIsRemembered : Type 0

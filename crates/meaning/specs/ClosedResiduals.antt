@@ -9,7 +9,8 @@ use Prim.Native.Nat.{ℕ, zero, suc}
 use mathlib.Core.Bool.{cond}
 use mathlib.Core.List.{List, [], _∷_, _++_, map, flatMap}
 use Rattle.table.specs.Table.{Table}
-use Rattle.meaning.specs.Figure1.{SetRef, Term, stop, fail, prefix, choice, par, call, body, member, sub, count}
+use Rattle.meaning.specs.Figure1.{SetRef, Term, stop, fail, prefix, choice, par, call, body, bodyCount}
+use Rattle.meaning.specs.Figure1.{member, sub}
 pub mod Resolved
 
 unfoldable pub pairs : SetRef → List Term → List Term → List Term
@@ -30,7 +31,7 @@ resolveCall t (suc n) d = resolveWith (resolveCall t n) (body t d)
 
 -- "call the settled body"
 unfoldable pub resolve : Table → Term → List Term
-resolve t P = resolveWith (resolveCall t (count t)) P
+resolve t P = resolveWith (resolveCall t (bodyCount t)) P
 
 -- "After e: STOP gives nothing; a prefix whose set holds e settles its follower ..., otherwise nothing. A pair whose
 -- set holds e gives every pair of the sides' results, otherwise one side's results with the other side kept."

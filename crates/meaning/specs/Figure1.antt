@@ -2,7 +2,8 @@
 -- recursion; the named definitions here are ours").
 --     Arg, SetRef, Term    an event set's parameter: a variable or an event; an event set; a term
 --     plain                a term of the table, its parameters as variables
---     body, count, last    the definitions of a table, how many, and the number of the last
+--     body, bodyCount      the definitions of a table, and how many
+--     last                 the number of the last definition, which is the start
 --     member               e ∈ E
 --     sub                  [e/x]P
 --     Guarded, WellFormed  the calls with no prefix around them are below a bound; every call names a definition
@@ -58,12 +59,12 @@ plain (Table.call d) = call d
 unfoldable pub body : Table → ℕ → Term
 body t d = plain (bodyOf t d)
 
-unfoldable pub count : Table → ℕ
-count t = length (t .definitions)
+unfoldable pub bodyCount : Table → ℕ
+bodyCount t = length (t .definitions)
 
 -- 01, "Numbers and table": "The last definition is the start"
 abbrev pub last : Table → ℕ
-last t = count t - 1
+last t = bodyCount t - 1
 
 -- ---- event sets
 
@@ -106,7 +107,7 @@ Guarded n d (call c) = c < d
 
 -- 01, "References": "A call names an existing definition"
 abbrev pub WellFormed : Table → Term → Type 0
-WellFormed t P = Guarded (count t) (count t) P
+WellFormed t P = Guarded (bodyCount t) (bodyCount t) P
 
 -- 000: "we omit recursion": no definition number is below 0
 abbrev pub CallFree : Term → Type 0
@@ -114,4 +115,4 @@ CallFree P = Guarded 0 0 P
 
 -- 01, "References": "A call with no prefix around it names a lower definition number", any other an existing one
 pub record GuardedTable (t : Table) : Type 0 where
-  pub bodies : (d : ℕ) → d < count t → Guarded (count t) d (body t d)
+  pub bodies : (d : ℕ) → d < bodyCount t → Guarded (bodyCount t) d (body t d)

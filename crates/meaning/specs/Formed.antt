@@ -16,7 +16,7 @@ use Rattle.table.specs.Fields.{OfRef, ParamSmall}
 use Rattle.table.specs.References.Laws.{Linked, BodyLinked}
 use Rattle.table.specs.Rules.{Rules}
 use Rattle.table.specs.Rules.Laws.{linked}
-use Rattle.meaning.specs.Figure1.{plain, body, count, last, Guarded, WellFormed, GuardedTable}
+use Rattle.meaning.specs.Figure1.{plain, body, bodyCount, last, Guarded, WellFormed, GuardedTable}
 use Rattle.meaning.specs.Closing.{ScopedRef, Scoped}
 use Rattle.meaning.specs.Theorem3.{guarded-more}
 
@@ -77,22 +77,22 @@ module _ (t : Table) (rules : Rules t) where
       from-at (BodyLinked (t .definitions)) _ 0 (t .definitions) (linked t rules) d d (omega arith) b
 
   pub rules-guarded : GuardedTable t
-  unfolding count body bodyOf
+  unfolding bodyCount body bodyOf
   rules-guarded = record {
     bodies = λ d b.
         outer-guarded (t .definitions) (At d .level) d outermost (At d .body) refl (body-linked d b);
   }
 
-  pub rules-scoped : (d : ℕ) → d < count t → Scoped 0 (bodyOf t d)
-  unfolding count bodyOf
+  pub rules-scoped : (d : ℕ) → d < bodyCount t → Scoped 0 (bodyOf t d)
+  unfolding bodyCount bodyOf
   rules-scoped d b =
       term-scoped (t .definitions) (At d .level) d outermost (At d .body) (body-linked d b)
       (all-at (λ x. Each (OfRef ParamSmall) (x .body)) _ (t .definitions) d (rules .fields .parameters) b)
 
   -- "number of definitions, 1 to 32"
-  pub last-exists : last t < count t
-  unfolding count
+  pub last-exists : last t < bodyCount t
+  unfolding bodyCount
   last-exists = let h = rules .fields .definitions-least in omega arith
 
-  pub body-formed : (d : ℕ) → d < count t → WellFormed t (body t d)
-  body-formed d b = guarded-more (count t) d (count t) (omega arith) (body t d) (rules-guarded .bodies d b)
+  pub body-formed : (d : ℕ) → d < bodyCount t → WellFormed t (body t d)
+  body-formed d b = guarded-more (bodyCount t) d (bodyCount t) (omega arith) (body t d) (rules-guarded .bodies d b)

@@ -12,7 +12,7 @@ use mathlib.Core.Logic.{_↔_, inl, inr, ⊎-elim}
 use lib.ListN.{length}
 use Rattle.table.specs.Table.{Table}
 use Rattle.meaning.specs.Figure1.{Term, stop, fail, prefix, choice, par, call, body, sub}
-use Rattle.meaning.specs.Figure1.{Guarded, GuardedTable, WellFormed, count}
+use Rattle.meaning.specs.Figure1.{Guarded, GuardedTable, WellFormed, bodyCount}
 use Rattle.meaning.specs.Figure2.{TraceSet, after, PrefixClosed, Parallel, traces, Model}
 use Rattle.meaning.specs.Figure2.Closed.{model-closed}
 use Rattle.meaning.specs.Figure3.{Chain, Viable}
@@ -136,9 +136,9 @@ module _ (t : Table) where
       abbrev Agrees : ℕ → Term → Type 0
       Agrees n P = (s : List ℕ) → length s < n → H P s → Holds t P s
 
-      term-agrees : (n d : ℕ) → d ≤ count t → ((P : Term) → WellFormed t P → Agrees n P)
+      term-agrees : (n d : ℕ) → d ≤ bodyCount t → ((P : Term) → WellFormed t P → Agrees n P)
           → ((c : ℕ) → c < d → Agrees (suc n) (body t c))
-          → (P : Term) → Guarded (count t) d P → Agrees (suc n) P
+          → (P : Term) → Guarded (bodyCount t) d P → Agrees (suc n) P
       term-agrees n d b shorter below stop g [] l h = h-stop
       term-agrees n d b shorter below stop g (e ∷ s) l h = absurd (model .equations stop (e ∷ s) .0 h)
       term-agrees n d b shorter below fail g s l h = absurd (model .equations fail s .0 h)
@@ -152,8 +152,8 @@ module _ (t : Table) where
           (λ k. h-right (term-agrees n d b shorter below Q (g .1) s l k))
           (model .equations (choice P Q) s .0 h)
       term-agrees n d b shorter below (par S P Q) g s l h =
-          let cp = model-closed t H model w P (guarded-more (count t) d (count t) b P (g .0)) in
-          let cq = model-closed t H model w Q (guarded-more (count t) d (count t) b Q (g .1)) in
+          let cp = model-closed t H model w P (guarded-more (bodyCount t) d (bodyCount t) b P (g .0)) in
+          let cq = model-closed t H model w Q (guarded-more (bodyCount t) d (bodyCount t) b Q (g .1)) in
           let (r, u, m, x, y) = parallel→merge (H P) (H Q) cp cq s (model .equations (par S P Q) s .0 h) in
           let le = merge-length m in
           h-par m
@@ -162,7 +162,7 @@ module _ (t : Table) where
       term-agrees n d b shorter below (call c) g s l h = h-call (below c g s l (model .equations (call c) s .0 h))
 
       body-agrees : (n : ℕ) → ((P : Term) → WellFormed t P → Agrees n P)
-          → (d : ℕ) → d ≤ count t → (c : ℕ) → c < d → Agrees (suc n) (body t c)
+          → (d : ℕ) → d ≤ bodyCount t → (c : ℕ) → c < d → Agrees (suc n) (body t c)
       body-agrees n shorter zero b c h = absurd (omega arith)
       body-agrees n shorter (suc d) b c h =
           term-agrees n c (omega arith) shorter (λ c′ k. body-agrees n shorter d (omega arith) c′ (omega arith))
@@ -171,7 +171,8 @@ module _ (t : Table) where
       agrees-to : (n : ℕ) (P : Term) → WellFormed t P → Agrees n P
       agrees-to zero P g s l h = absurd (omega arith)
       agrees-to (suc n) P g s l h =
-          term-agrees n (count t) (omega arith) (agrees-to n) (body-agrees n (agrees-to n) (count t) (omega arith))
+          term-agrees n (bodyCount t) (omega arith) (agrees-to n)
+          (body-agrees n (agrees-to n) (bodyCount t) (omega arith))
           P g s l h
 
       pub holds-only : (P : Term) → WellFormed t P → (s : List ℕ) → H P s ↔ Holds t P s

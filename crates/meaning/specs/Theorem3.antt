@@ -13,7 +13,7 @@ use mathlib.Core.List.{List, [], _∷_, _++_}
 use mathlib.Core.Logic.{_↔_, _⊎_, inl, inr, ⊎-elim}
 use Rattle.table.specs.Table.{Table}
 use Rattle.meaning.specs.Figure1.{SetRef, Term, stop, fail, prefix, choice, par, call, body, sub}
-use Rattle.meaning.specs.Figure1.{Guarded, GuardedTable, WellFormed, count}
+use Rattle.meaning.specs.Figure1.{Guarded, GuardedTable, WellFormed, bodyCount}
 use Rattle.meaning.specs.Figure3.{Action, event, τ, Doomed, d-fail, d-choice, d-left, d-right, d-call, Viable}
 use Rattle.meaning.specs.Figure3.{Step, prefix-step, choice-τ-left, choice-τ-right, choice-left, choice-right}
 use Rattle.meaning.specs.Figure3.{par-left, par-right, par-both, doomed-left, doomed-right, choice-fail}
@@ -122,14 +122,14 @@ module _ (t : Table) where
   term-decided n d below (call c) g = ⊎-elim (λ p. inl (d-call p)) (λ h. inr (h-call h)) (below c g)
 
   module _ (w : GuardedTable t) where
-    body-decided : (d : ℕ) → d ≤ count t → (c : ℕ) → c < d → Decided (body t c)
+    body-decided : (d : ℕ) → d ≤ bodyCount t → (c : ℕ) → c < d → Decided (body t c)
     body-decided zero b c h = absurd (omega arith)
     body-decided (suc d) b c h =
-        term-decided (count t) c (λ c′ k. body-decided d (omega arith) c′ (omega arith)) (body t c)
+        term-decided (bodyCount t) c (λ c′ k. body-decided d (omega arith) c′ (omega arith)) (body t c)
         (w .bodies c (omega arith))
 
     pub doomed-or-holds : (P : Term) → WellFormed t P → Doomed t P ⊎ Holds t P []
-    doomed-or-holds P g = term-decided (count t) (count t) (body-decided (count t) (omega arith)) P g
+    doomed-or-holds P g = term-decided (bodyCount t) (bodyCount t) (body-decided (bodyCount t) (omega arith)) P g
 
     -- ---- Chain
 

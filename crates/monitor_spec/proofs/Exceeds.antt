@@ -9,7 +9,7 @@ use Rattle.table.specs.Table.{Table}
 use Rattle.table.specs.Judge.{accepted, judgeList}
 use Rattle.monitor_spec.specs.Valid.Laws.{and-split}
 use Rattle.monitor_spec.specs.State.{refused, areasMeasured, workMeasured, slotCount}
-use Rattle.monitor_spec.specs.State.Areas.{and-true}
+use Rattle.monitor_spec.specs.State.Areas.{both-true}
 use Rattle.monitor_spec.specs.Start.{startOf}
 use Rattle.monitor_spec.specs.Joined.{residualCount}
 use Rattle.monitor_spec.specs.Refusals.{StartRefused, wrong-length, bad-table, exceeded}
@@ -36,7 +36,7 @@ module _ (l ns : List ℕ) (t : Table) (says : judgeList l ≡ accepted ns t) (a
   exceeds-from : T (areasMeasured a b) → T (workMeasured w) → slotCount a < residualCount t []
       → StartRefused l a b w 13 0
   exceeds-from p q h =
-      let x = measured-out a b w (and-true (T-true (areasMeasured a b) p) (T-true (workMeasured w) q)) in
+      let x = measured-out a b w (both-true (T-true (areasMeasured a b) p) (T-true (workMeasured w) q)) in
       exceeded x t (is-table-out l ns t says) h refl refl
 
   pub start-exceeds-exactly : (startOf l a b w .answer ≡ refused 13 0)

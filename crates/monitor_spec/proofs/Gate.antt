@@ -21,7 +21,7 @@ use Rattle.monitor_spec.specs.Regular.{Regular}
 use Rattle.monitor_spec.specs.Regular.Laws.{regular}
 use Rattle.monitor_spec.specs.Valid.Laws.{and-split}
 use Rattle.monitor_spec.specs.State.{Monitor, areasMeasured, workMeasured, slotCount}
-use Rattle.monitor_spec.specs.State.Areas.{and-true}
+use Rattle.monitor_spec.specs.State.Areas.{both-true}
 use Rattle.monitor_spec.specs.Consistent.{consistent}
 use Rattle.monitor_spec.specs.Consistent.Reading.{consistent-laid}
 use Rattle.monitor_spec.specs.Consistent.Laws.{laid-still}
@@ -51,10 +51,10 @@ measured-out a b w e =
 pub measured-in : (a b w : List ℕ) → Measured a b w → lent a b w ≡ true
 unfolding areasMeasured workMeasured
 measured-in a b w m =
-    and-true
-    (and-true (eq-eqb (length a) (length b) (m .equal))
-    (and-true (eq-eqb (length a % 16) 0 (m .multiple))
-    (and-true (le-leb 16 (length a) (m .least)) (le-leb (length a) 4096 (m .most)))))
+    both-true
+    (both-true (eq-eqb (length a) (length b) (m .equal))
+    (both-true (eq-eqb (length a % 16) 0 (m .multiple))
+    (both-true (le-leb 16 (length a) (m .least)) (le-leb (length a) 4096 (m .most)))))
     (eq-eqb (length w) 8192 (m .work))
 
 clash : {X : Type 0} {b : Bool} → b ≡ true → b ≡ false → X

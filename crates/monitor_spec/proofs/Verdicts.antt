@@ -8,7 +8,7 @@ use mathlib.Core.List.{List, [], _∷_}
 use mathlib.Core.Logic.{_↔_}
 use lib.ListN.{take}
 use Rattle.table.specs.Table.{Table}
-use Rattle.meaning.specs.Figure1.{Term, count, last, WellFormed}
+use Rattle.meaning.specs.Figure1.{Term, bodyCount, last, WellFormed}
 use Rattle.meaning.specs.Figure2.{TraceSet, Model}
 use Rattle.monitor_spec.specs.Regular.{Regular}
 use Rattle.monitor_spec.specs.Residual.{Residual, resolveDef, afterAll, run, fromDefinition, residualsOf}
@@ -50,7 +50,7 @@ module _ (t : Table) (regular : Regular t) (H : Term → TraceSet) (model : Mode
   Verdicts s running = Some (residualsOf t s)
   Verdicts s (failedAt p) = (residualsOf t s ≡ []) × ShortestOutside (H (start t)) s p
 
-  verdicts-by : (s : List ℕ) (v : Verdict) → Says t (resolveDef t (count t) (last t)) s 0 v → Verdicts s v
+  verdicts-by : (s : List ℕ) (v : Verdict) → Says t (resolveDef t (bodyCount t) (last t)) s 0 v → Verdicts s v
   unfolding residualsOf fromDefinition
   verdicts-by s running h = h
   verdicts-by s (failedAt p) (n, q, f) =
@@ -91,7 +91,7 @@ module _ (t : Table) (regular : Regular t) (H : Term → TraceSet) (model : Mode
 
   closed : (s : List ℕ) (p : ℕ) → H (start t) s → H (start t) (take p s)
   unfolding residualsOf fromDefinition
-  closed s p h = held-some (take p s) .1 (some-begins t s p (resolveDef t (count t) (last t)) (held-some s .0 h))
+  closed s p h = held-some (take p s) .1 (some-begins t s p (resolveDef t (bodyCount t) (last t)) (held-some s .0 h))
 
   outside-not : (s : List ℕ) (p : ℕ) → ShortestOutside (H (start t)) s p → H (start t) s → ⊥
   outside-not s p o h = o .outside (closed s p h)

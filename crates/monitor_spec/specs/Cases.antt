@@ -102,8 +102,8 @@ abbrev pub word : ℕ → ℕ → ℕ
 word n d = n * 16777216 + d * 262144
 
 -- x in {0,1}
-abbrev any : Term → Term
-any p = prefix (fixed 3) p
+abbrev either : Term → Term
+either p = prefix (fixed 3) p
 
 -- (0 to STOP) choice ((0 to STOP) parallel over {} itself): slots of one node and of three
 abbrev mixed : List ℕ
@@ -114,7 +114,7 @@ eight = drawn (par (fixed 2) (a stop) (a stop))
 
 -- an event set of a parameter k, behind four prefixes
 abbrev behind : ℕ → List ℕ
-behind k = drawn (any (any (any (any (prefix (family 4 k) stop)))))
+behind k = drawn (either (either (either (either (prefix (family 4 k) stop)))))
 
 abbrev pub cases : List Case
 cases =

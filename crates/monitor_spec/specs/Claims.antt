@@ -35,7 +35,7 @@ use Rattle.table.specs.Judge.{accepted, judgeList}
 use Rattle.table.specs.Operations.{zeros}
 use Rattle.numbers.specs.Every.{All}
 use Rattle.meaning.specs.Some.{Any}
-use Rattle.meaning.specs.Figure1.{Term, call, count}
+use Rattle.meaning.specs.Figure1.{Term, call, bodyCount}
 use Rattle.meaning.specs.Figure2.{TraceSet, Model}
 use Rattle.monitor_spec.specs.Residual.{Residual, resolveDef, resolve, run, fromDefinition, residualsOf}
 use Rattle.monitor_spec.specs.Slots.{slotOf, slotsOf, Sorted}
@@ -70,7 +70,7 @@ ResidualsAreTraces =
 unfoldable pub DefinitionsAreTraces : Type 1
 DefinitionsAreTraces =
     (t : Table) → Rules t → (H : Term → TraceSet) → Model t H
-    → (d : ℕ) → d < count t → (s : List ℕ)
+    → (d : ℕ) → d < bodyCount t → (s : List ℕ)
     → H (call d) s ↔ Some (fromDefinition t d s)
 
 unfoldable pub LastIsTraces : Type 1
@@ -81,8 +81,8 @@ LastIsTraces =
 -- 01, "Residuals": "call the settled body", "Memory is .. all 0 at a body's start"
 unfoldable pub CallsResolve : Type 0
 CallsResolve =
-    (t : Table) → Rules t → (d : ℕ) → d < count t
-    → resolveDef t (count t) d ≡ resolve t (bodyNumber t d) noMemory
+    (t : Table) → Rules t → (d : ℕ) → d < bodyCount t
+    → resolveDef t (bodyCount t) d ≡ resolve t (bodyNumber t d) noMemory
 
 -- ours; 01, "Openings": resolving lists as many residuals as the term has branches
 unfoldable pub ResolvesBranches : Type 0

@@ -8,7 +8,7 @@ use Prim.Native.Nat.{ℕ, suc, _+_}
 use mathlib.Core.List.{List, [], _∷_}
 use lib.ListN.{length}
 use Rattle.table.specs.Table.{Table}
-use Rattle.meaning.specs.Figure1.{count, last}
+use Rattle.meaning.specs.Figure1.{bodyCount, last}
 use Rattle.monitor_spec.specs.Residual.{Residual, resolveDef, afterAll, run, residualsOf}
 use Rattle.monitor_spec.specs.Slots.{slotsOf}
 use Rattle.monitor_spec.specs.State.{Verdict, running, failedAt, Monitor, laid}
@@ -25,7 +25,7 @@ verdictFrom t rs k [] = ifNone rs (failedAt k) running
 verdictFrom t rs k (e ∷ s) = ifNone rs (failedAt k) (verdictFrom t (afterAll t e rs) (suc k) s)
 
 unfoldable pub verdictOf : Table → List ℕ → Verdict
-verdictOf t s = verdictFrom t (resolveDef t (count t) (last t)) 0 s
+verdictOf t s = verdictFrom t (resolveDef t (bodyCount t) (last t)) 0 s
 
 unfoldable pub monitorAfter : Table → ℕ → List ℕ → Monitor
 monitorAfter t n s = laid n (length s) (verdictOf t s) (slotsOf (residualsOf t s))

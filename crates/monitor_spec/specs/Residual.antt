@@ -13,7 +13,7 @@ use mathlib.Core.Option.{none, some}
 use Rattle.table.specs.Table.{Table, Term, stop, fail, prefix, choice, par, call, size, bodyOf, bodyNumber, termAt}
 use Rattle.table.specs.Memory.{Memory, noMemory, remember}
 use Rattle.table.specs.Member.{member}
-use Rattle.meaning.specs.Figure1.{count, last}
+use Rattle.meaning.specs.Figure1.{bodyCount, last}
 pub mod Resolve
 pub mod After
 pub mod Traces
@@ -49,7 +49,7 @@ resolveDef t (suc b) d = resolveIn (resolveDef t b) (bodyOf t d) (bodyNumber t d
 
 -- "Settling a term gives a set": the term of number n, with a memory
 unfoldable pub resolve : Table → ℕ → Memory → List Residual
-resolve t n m = elim (termAt t n) [ none ↦ [] | some p ↦ resolveIn (resolveDef t (count t)) p n m ]
+resolve t n m = elim (termAt t n) [ none ↦ [] | some p ↦ resolveIn (resolveDef t (bodyCount t)) p n m ]
 
 -- "After e: STOP gives nothing; a prefix whose set holds e settles its follower with memory (e, m0, m1, m2),
 -- otherwise nothing". The other kinds are no leaves.
@@ -88,7 +88,7 @@ run t rs [] = rs
 run t rs (e ∷ s) = run t (afterAll t e rs) s
 
 unfoldable pub fromDefinition : Table → ℕ → List ℕ → List Residual
-fromDefinition t d s = run t (resolveDef t (count t) d) s
+fromDefinition t d s = run t (resolveDef t (bodyCount t) d) s
 
 -- 01, "Operations": "The residuals of a list are the set after it, from the settled last definition."
 unfoldable pub residualsOf : Table → List ℕ → List Residual

@@ -2,7 +2,7 @@
 --     pack, termOf, memoryOf    a node word, and what it holds
 --     nodes, slotOf             a residual's node words; its slot
 --     Order, compareWords       the order "by first differing word"
---     insert, canon             one slot put in its place; a list of slots ascending, each once
+--     insertSorted, canon       one slot put in its place; a list of slots ascending, each once
 --     slotsOf                   the slots of a list of residuals
 --     Precedes, Sorted          that order as a relation; strictly ascending
 -- The laws are in `Slots/`: `Packing`, `Comparison`, `Canonical`. Assumes nothing.
@@ -50,14 +50,14 @@ compareWords (x ∷ xs) (y ∷ ys) =
     elim (ltb x y) [ true ↦ below | false ↦ elim (ltb y x) [ true ↦ above | false ↦ compareWords xs ys ] ]
 
 -- "A residual already held is not held twice."
-unfoldable pub insert : List ℕ → List (List ℕ) → List (List ℕ)
-insert s [] = s ∷ []
-insert s (x ∷ xs) = elim (compareWords s x) [ below ↦ s ∷ x ∷ xs | same ↦ x ∷ xs | above ↦ x ∷ insert s xs ]
+unfoldable pub insertSorted : List ℕ → List (List ℕ) → List (List ℕ)
+insertSorted s [] = s ∷ []
+insertSorted s (x ∷ xs) = elim (compareWords s x) [ below ↦ s ∷ x ∷ xs | same ↦ x ∷ xs | above ↦ x ∷ insertSorted s xs ]
 
 -- "An area holds slots ascending"
 unfoldable pub canon : List (List ℕ) → List (List ℕ)
 canon [] = []
-canon (s ∷ ss) = insert s (canon ss)
+canon (s ∷ ss) = insertSorted s (canon ss)
 
 -- "Two residuals are equal when their words are."
 unfoldable pub slotsOf : List Residual → List (List ℕ)

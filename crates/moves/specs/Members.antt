@@ -26,7 +26,7 @@ use Rattle.walk.specs.Walk.{leafKept, leafResults, joins, before, longest, room
 use Rattle.walk.specs.Forest.{Valid, afterKept}
 use Rattle.walk.specs.Forest.Words.{words-pairs, term-of-node, memory-of-node}
 use Rattle.walk.specs.Walk.Leaves.{results-yes, kept-yes, kept-not-kind, kept-not-held, words-short}
-use Rattle.slots.specs.Canon.Sets.{Mem, SameMembers}
+use Rattle.slots.specs.Canon.{Mem, SameMembers}
 use Rattle.slots.specs.Canon.Members.{Sub, in-left, in-right, out-append, map-in, map-out, sub-map, same-refl}
 use Rattle.slots.specs.Canon.Members.{same-append}
 

@@ -1,167 +1,26 @@
-// Reading the terms of a table: each becomes a word, with the place of its kind in the list beside
-// it.
-//     word = kind + 2^3 * parameter + 2^6 * parallel + 2^7 * entry + 2^8 * prefixes + 2^14 * own
-//            + 2^19 * right + 2^30 * target
+// Reading a term and the terms in it, each of which becomes a word (`leaves`).
+//     read_term                    the term at a place, by its kind
+//     read_follower, read_sides    what is in a prefix; what is in a choice or a parallel
+use crate::leaves::read_call;
+use crate::leaves::read_leaf;
+use crate::leaves::store_term;
+use crate::references::read_reference;
+use crate::spots::beside;
+use crate::spots::follower;
+use crate::spots::side;
 use table::Head;
 use table::Reference;
 use table::Refusal;
 use table::Spot;
 use table::TermEnd;
-ghost use mathlib.Core.Path.{_≡_};
-ghost use Prim.Native.Nat.{ℕ, _+_, _*_, _<_, _≤_};
-ghost use lib.ListN.{length, set};
-ghost use Rattle.table.specs.Index.{setsIn, packed};
-ghost use Rattle.table.specs.Node.{followerSpot, sideSpot, besideSpot};
+ghost use Prim.Native.Nat.{_+_, _<_, _≤_};
+ghost use lib.ListN.{length};
+ghost use Rattle.table.specs.Index.{setsIn};
+ghost use Rattle.table.specs.Node.{followerSpot};
 ghost use Rattle.table.specs.Table.{SetRef};
-ghost use Rattle.table.specs.Parse.{SetsReady, SpotFits, HeadFits, ReferenceRead, TermRead};
-ghost use Rattle.table.specs.Parse.{DefinitionsRead};
-ghost use Rattle.table.specs.Parse.Terms.{LeafRead, TermReadBy, callRest, DefinitionRead};
-ghost use Rattle.table.specs.Parse.Terms.{Joint, before, TwoSided, HeadOf};
+ghost use Rattle.table.specs.Parse.{SetsReady, SpotFits, HeadFits, TermRead};
+ghost use Rattle.table.specs.Parse.Terms.{TermReadBy, Joint, before, TwoSided, HeadOf};
 ghost use Rattle.table.specs.Parse.Terms.{followerOf, sidesOf};
-
-// Where a prefix's follower stands.
-fn follower(spot: Spot) -> Spot
-    requires { ⌜ spot .prefixes < 32 ⌝ }
-    ensures { λ r. ⌜ r ≡ followerSpot spot ⌝ }
-{
-    Spot {
-        prefixes: spot.prefixes + 1,
-        parallel: spot.parallel,
-        entry: 1,
-        own: spot.own,
-    }
-}
-
-// Where a choice's sides stand.
-fn side(spot: Spot) -> Spot
-    ensures { λ r. ⌜ r ≡ sideSpot spot ⌝ }
-{
-    Spot {
-        prefixes: spot.prefixes,
-        parallel: spot.parallel,
-        entry: 0,
-        own: spot.own,
-    }
-}
-
-// Where a parallel's sides stand.
-fn beside(spot: Spot) -> Spot
-    ensures { λ r. ⌜ r ≡ besideSpot spot ⌝ }
-{
-    Spot {
-        prefixes: spot.prefixes,
-        parallel: 1,
-        entry: 0,
-        own: spot.own,
-    }
-}
-
-// The set reference at a place.
-fn read_reference(list: &[u16], work: &[u64], sets: usize, at: usize) -> Reference
-    requires { ⌜ SetsReady (now list) (now work) sets ⌝ }
-    requires { ⌜ at ≤ length (now list) ⌝ }
-    ensures { λ r. ⌜ ReferenceRead (setsIn (now (list .entry))) (now (list .entry)) at r ⌝ }
-{
-    if list.len() <= at {
-        return Reference::NoReference(Refusal {
-            number: 3,
-            place: list.len(),
-        });
-    }
-    let s = list[at] as usize;
-    if sets <= s {
-        return Reference::NoReference(Refusal {
-            number: 5,
-            place: at,
-        });
-    }
-    let w = work[7168 + s];
-    let p = at + 1;
-    if w % 2 == 0 {
-        return Reference::Found {
-            target: w / 2,
-            parameter: 0,
-            next: p,
-        };
-    }
-    if list.len() <= p {
-        return Reference::NoReference(Refusal {
-            number: 3,
-            place: list.len(),
-        });
-    }
-    let k = list[p];
-    if 3 < k {
-        return Reference::NoReference(Refusal {
-            number: 5,
-            place: p,
-        });
-    }
-    Reference::Found {
-        target: w / 2,
-        parameter: k as u64 + 1,
-        next: p + 1,
-    }
-}
-
-// Stores term n, whose right side, if it has one, has the number `right`.
-fn store_term(work: &mut [u64], n: usize, h: Head, right: usize)
-    requires { ⌜ (length (now work) ≡ 8192) × (n < 1024) × (right ≤ 1024) × HeadFits h ⌝ }
-    ensures { λ _.
-        ⌜ now (work .exit)
-        ≡ set
-        (set (now (work .entry)) (4096 + n)
-        (packed (h .spot) (h .kind) (h .parameter) right (h .target))) (5120 + n) (h .place) ⌝ }
-{
-    let s = h.spot;
-    let low = h.kind
-        + h.parameter * 8
-        + s.parallel * 64
-        + s.entry * 128
-        + s.prefixes * 256
-        + s.own * 16384;
-    work[4096 + n] = low + right as u64 * 524288 + h.target * 1073741824;
-    work[5120 + n] = h.place as u64;
-}
-
-// A term without terms in it, whose numbers end before `next`.
-fn read_leaf(work: &mut [u64], n: usize, h: Head, next: usize) -> TermEnd
-    requires { ⌜ (length (now work) ≡ 8192) × (n < 1024) × HeadFits h ⌝ }
-    ensures { λ r. ⌜ LeafRead h n next (now (work .entry)) (now (work .exit)) r ⌝ }
-{
-    store_term(work, n, h, n + 1);
-    TermEnd::NextTerm { next, terms: n + 1 }
-}
-
-// The call, number n, whose kind stands at a place.
-fn read_call(list: &[u16], work: &mut [u64], at: usize, n: usize, spot: Spot) -> TermEnd
-    requires { ⌜ (length (now work) ≡ 8192) × (at < length (now list)) ⌝ }
-    requires { ⌜ (n < 1024) × SpotFits spot 0 ⌝ }
-    ensures { λ r.
-        ⌜ TermReadBy callRest (setsIn (now (list .entry))) (now (list .entry)) spot n at (at + 1)
-        (now (work .entry)) (now (work .exit)) r ⌝ }
-{
-    let p = at + 1;
-    if list.len() <= p {
-        return TermEnd::NoTerm(Refusal {
-            number: 3,
-            place: list.len(),
-        });
-    }
-    let d = list[p] as u64;
-    read_leaf(
-        work,
-        n,
-        Head {
-            kind: 5,
-            parameter: 0,
-            target: d,
-            spot,
-            place: at,
-        },
-        p + 1,
-    )
-}
 
 // The term at a place, number n, with room for so many levels of terms.
 pub fn read_term(
@@ -338,82 +197,4 @@ fn read_sides(
         }
         TermEnd::NoTerm(r) => TermEnd::NoTerm(r),
     }
-}
-
-// The definition at a place: its level and its body, whose number is n.
-fn read_definition(
-    list: &[u16],
-    work: &mut [u64],
-    sets: usize,
-    d: usize,
-    at: usize,
-    n: usize,
-) -> TermEnd
-    requires { ⌜ SetsReady (now list) (now work) sets ⌝ }
-    requires { ⌜ (d < 32) × (at ≤ length (now list)) × (n ≤ 1024) ⌝ }
-    ensures { λ r.
-        ⌜ DefinitionRead (setsIn (now (list .entry))) (now (list .entry)) d n at (now (work .entry))
-        (now (work .exit)) r ⌝ }
-{
-    if list.len() <= at {
-        return TermEnd::NoTerm(Refusal {
-            number: 3,
-            place: list.len(),
-        });
-    }
-    let level = list[at];
-    if 7 < level {
-        return TermEnd::NoTerm(Refusal {
-            number: 5,
-            place: at,
-        });
-    }
-    work[7232 + d] = n as u64;
-    work[7265 + d] = level as u64;
-    read_term(
-        list,
-        work,
-        sets,
-        at + 1,
-        n,
-        32,
-        Spot {
-            prefixes: 0,
-            parallel: 0,
-            entry: 1,
-            own: d as u64,
-        },
-    )
-}
-
-// So many definitions.
-pub fn read_definitions(
-    list: &[u16],
-    work: &mut [u64],
-    sets: usize,
-    count: usize,
-    at: usize,
-) -> TermEnd
-    requires { ⌜ SetsReady (now list) (now work) sets ⌝ }
-    requires { ⌜ (at ≤ length (now list)) × (count ≤ 32) ⌝ }
-    ensures { λ r.
-        ⌜ DefinitionsRead (setsIn (now (list .entry))) (now (list .entry)) count at
-        (now (work .entry)) (now (work .exit)) r ⌝ }
-{
-    let mut d = 0;
-    let mut p = at;
-    let mut n = 0;
-    while d < count {
-        match read_definition(list, work, sets, d, p, n) {
-            TermEnd::NextTerm { next, terms } => {
-                p = next;
-                n = terms;
-                d += 1;
-            }
-            TermEnd::NoTerm(r) => {
-                return TermEnd::NoTerm(r);
-            }
-        }
-    }
-    TermEnd::NextTerm { next: p, terms: n }
 }

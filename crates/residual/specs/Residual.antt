@@ -6,7 +6,8 @@
 --     after                           the residuals after an event
 --     pushed, pushAll                 a slot with one word more, with several more
 --     Resolves, resolvedInto          what resolving the i-th residual of a term asks; the slot it gives
--- The laws are in `Residual/Resolved.antt` (lists) and `Residual/Into.antt` (slots). Assumes nothing.
+-- The laws are in `Residual/Resolved.antt`, `Kinds.antt` and `Nth.antt` (lists), `Pushed.antt`, `Into.antt` and
+-- `Ways.antt` (slots), and `Descent.antt`. Assumes nothing.
 use Prim.Native.Nat.{ℕ, zero, suc, _+_, _<_, _≤_}
 use mathlib.Core.Path.{_≡_}
 use mathlib.Core.Bool.{true, false}
@@ -19,7 +20,11 @@ use Rattle.table.specs.Node.{termOf, kindOf}
 use Rattle.residual.specs.Words.{nodeWord, remember, inSet}
 use Rattle.residual.specs.Lawful.{Below}
 pub mod Resolved
+pub mod Kinds
+pub mod Nth
+pub mod Pushed
 pub mod Into
+pub mod Ways
 pub mod Descent
 
 pub data Residual : Type 0 where

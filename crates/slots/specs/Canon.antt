@@ -3,10 +3,12 @@
 --     insertSlot, canonFrom     one slot in its place; several, one after the other: ascending, none twice
 --     joined, areaOf            the words of slots; an area that holds them
 --     Slots                     lists of sixteen words
+--     Mem, SameMembers          a slot is one of several; two lists have the same slots
 -- The laws are in `Canon/Compare.antt` (the order of slots), `Canon/Sets.antt` (what comes out is ascending, and
 -- depends on the members only), `Canon/Members.antt`, `Canon/Places.antt` and `Canon/Laws.antt` (areas). Assumes nothing.
 use Prim.Native.Nat.{ℕ, _-_, _*_}
 use mathlib.Core.Path.{_≡_}
+use mathlib.Core.Logic.{_⊎_}
 use mathlib.Core.List.{List, [], _∷_, _++_}
 use lib.ListN.{length, replicate}
 use Rattle.slots.specs.Slots.{Order, below, same, above, order}
@@ -41,3 +43,14 @@ areaOf cap xs = joined xs ++ replicate ((cap - length xs) * 16) 0
 abbrev pub Slots : List (List ℕ) → Type 0
 Slots [] = Unit
 Slots (x ∷ xs) = (length x ≡ 16) × Slots xs
+
+-- ---- members
+
+-- z is one of the slots of a list
+abbrev pub Mem : List ℕ → List (List ℕ) → Type 0
+Mem z [] = ⊥
+Mem z (x ∷ l) = (z ≡ x) ⊎ Mem z l
+
+-- two lists have the same slots, in whatever order and however often
+abbrev pub SameMembers : List (List ℕ) → List (List ℕ) → Type 0
+SameMembers a b = ((z : List ℕ) → Mem z a → Mem z b) × ((z : List ℕ) → Mem z b → Mem z a)

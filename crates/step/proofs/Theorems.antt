@@ -4,7 +4,7 @@
 use Rattle.table.specs.Table.{size, sizes, bodyNumber}
 use Rattle.table.specs.Writing.{refNumbers, termNumbers, definitionNumbers, rowNumbers, setNumbers}
 use Rattle.table.specs.Grow.{grow}
-use Rattle.table.specs.Branches.{bodyIn, branches, allBranches, branchesWith, nextBranches, lookup}
+use Rattle.table.specs.Branches.{bodyIn, branches, allBranches, branchesWith, nextBranches, branchesAt}
 use Rattle.table.specs.Node.{nodes, nodesFrom, nodesOf, nodeAt, definitionsAt, termOf, kindOf, refOf}
 use Rattle.table.specs.Member.{elem, rowIn, rowOf, inRow}
 use Rattle.slots.specs.Slots.{order}
@@ -37,7 +37,7 @@ examples = tt
 
 pub way-examples : WayExamples
 unfolding WayExamples wayHolds wayOf leafWay nth sameWords kindAt holdsAt termOfWord memoryOfWord branches allBranches
-    branchesWith nextBranches lookup grow resolved resolvedBelow resolve pairs words nodeWord termOf nodeAt nodesOf
+    branchesWith nextBranches branchesAt grow resolved resolvedBelow resolve pairs words nodeWord termOf nodeAt nodesOf
     nodesFrom nodes definitionsAt size sizes bodyIn bodyNumber kindOf refOf digitOf elem rowIn rowOf inRow inSet remember
     refNumbers termNumbers definitionNumbers rowNumbers setNumbers
 way-examples = tt

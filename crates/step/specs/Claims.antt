@@ -13,8 +13,7 @@ use Rattle.table.specs.Table.{Table}
 use Rattle.slots.specs.declared.slots.Held.the-variants.{Count, Exceeded}
 use Rattle.slots.specs.Holding.{said, putAll}
 use Rattle.residual.specs.Residual.{Residual}
-use Rattle.slots.specs.Canon.{areaOf}
-use Rattle.slots.specs.Canon.Sets.{SameMembers}
+use Rattle.slots.specs.Canon.{areaOf, SameMembers}
 use Rattle.step.specs.Stepped.{gathered, Source}
 use Rattle.step.specs.Successors.{Holds, allAfter, canon}
 

@@ -15,7 +15,7 @@ use Rattle.residual.specs.Residual.{Residual, words}
 use Rattle.walk.specs.Walk.{room, results, onto}
 use Rattle.slots.specs.Holding.{Outcome, putAll, Gave}
 use Rattle.walk.specs.Forest.{Valid}
-use Rattle.slots.specs.Canon.Sets.{SameMembers}
+use Rattle.slots.specs.Canon.{SameMembers}
 use Rattle.slots.specs.declared.slots.Held.{Held}
 pub mod One
 pub mod Laws

@@ -13,13 +13,13 @@ use Rattle.numbers.specs.Every.{All}
 use Rattle.table.specs.Table.{Table}
 use Rattle.table.specs.Memory.{noMemory}
 use Rattle.table.specs.Rules.{Rules}
-use Rattle.meaning.specs.Figure1.{count, last}
+use Rattle.meaning.specs.Figure1.{bodyCount, last}
 use Rattle.slots.specs.declared.slots.Held.the-variants.{Count, Exceeded}
 use Rattle.walk.specs.declared.nodes.Tree.{Tree}
 use Rattle.slots.specs.Holding.{said, putAll}
 use Rattle.residual.specs.Residual.{resolvedBelow, ResolvesDefinition}
 use Rattle.residual.specs.Distinct.{empty}
-use Rattle.slots.specs.Canon.Sets.{SameMembers}
+use Rattle.slots.specs.Canon.{SameMembers}
 use Rattle.step.specs.Stepped.{gathered, Source}
 use Rattle.step.specs.Successors as words
 use Rattle.moves.specs.Takes.{TreeAt, Takes}
@@ -66,15 +66,15 @@ module _ (t : Table) (rules : Rules t) where
     takes-some e i h k c s = takes-low t rules rs proper n room e i h k c s
 
   -- the slots of the last definition's residuals, repeats included
-  pub start-resolves : (i : ℕ) → i < length (resolvedBelow t (count t) (last t))
+  pub start-resolves : (i : ℕ) → i < length (resolvedBelow t (bodyCount t) (last t))
       → ResolvesDefinition t (last t) i empty
   start-resolves i h = resolves-low t rules i h
 
   pub start-holds : (n : ℕ) → length (slotsOf (residualsOf t [])) ≤ n
-      → putAll (fill n []) 0 (words.slotsOf (resolvedBelow t (count t) (last t)))
+      → putAll (fill n []) 0 (words.slotsOf (resolvedBelow t (bodyCount t) (last t)))
       ≡ said (Count (length (slotsOf (residualsOf t [])))) (fill n (slotsOf (residualsOf t [])))
   start-holds n h = first-holds t rules n h
 
   pub start-exceeds : (n : ℕ) → n < length (slotsOf (residualsOf t []))
-      → (putAll (fill n []) 0 (words.slotsOf (resolvedBelow t (count t) (last t)))) .held ≡ Exceeded
+      → (putAll (fill n []) 0 (words.slotsOf (resolvedBelow t (bodyCount t) (last t)))) .held ≡ Exceeded
   start-exceeds n h = first-exceeds t rules n h

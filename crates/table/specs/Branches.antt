@@ -1,6 +1,7 @@
 -- Branches, in ℕ and without a cap (01, "Openings"): in how many ways a term can go on.
 --     branchesWith       of a term, where a call counts as given
 --     allBranches        of each definition;  branches: of a term of a table
+--     branchesAt         of one definition, in a list of each one's
 --     tooManyBranches    the lowest body or follower above 256 (refusal 9)
 -- The laws are in `Branches/Laws.antt`. Assumes nothing.
 use Prim.Native.Nat.{ℕ, zero, suc, _+_, _*_}
@@ -24,21 +25,22 @@ branchesWith calls (choice p q) = branchesWith calls p + branchesWith calls q
 branchesWith calls (par r p q) = branchesWith calls p * branchesWith calls q
 branchesWith calls (call d) = calls d
 
-unfoldable pub lookup : List ℕ → ℕ → ℕ
-lookup l d = getD l d 0
+-- those of definition d, in a list of each definition's
+unfoldable pub branchesAt : List ℕ → ℕ → ℕ
+branchesAt l d = getD l d 0
 
 unfoldable pub bodyIn : List Definition → ℕ → Term
 bodyIn ds d = (getD ds d (record { level = 0; body = fail })) .body
 
 -- "the openings of a call are those of the definition called": a call with no prefix around it is of a lower number
 unfoldable pub nextBranches : List Definition → List ℕ → ℕ
-nextBranches ds lower = branchesWith (lookup lower) (bodyIn ds (length lower))
+nextBranches ds lower = branchesWith (branchesAt lower) (bodyIn ds (length lower))
 
 unfoldable pub allBranches : List Definition → List ℕ
 allBranches ds = grow (nextBranches ds) (length ds)
 
 unfoldable pub branches : Table → Term → ℕ
-branches t p = branchesWith (lookup (allBranches (t .definitions))) p
+branches t p = branchesWith (branchesAt (allBranches (t .definitions))) p
 
 -- the lowest follower above 256 in the term of number n
 unfoldable pub followerAbove : (ℕ → ℕ) → ℕ → Term → Option ℕ
@@ -61,4 +63,4 @@ bodyAbove calls n (d ∷ ds) =
 unfoldable pub tooManyBranches : Table → Option ℕ
 tooManyBranches t =
     let all : List ℕ = allBranches (t .definitions) in
-    bodyAbove (lookup all) 0 (t .definitions)
+    bodyAbove (branchesAt all) 0 (t .definitions)

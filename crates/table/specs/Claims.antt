@@ -34,7 +34,7 @@ use Rattle.table.specs.Context.{Each}
 use Rattle.table.specs.Fields.{Fields}
 use Rattle.table.specs.References.{firstWrong}
 use Rattle.table.specs.Width.{widthWith, widest, levelWidth, reach}
-use Rattle.table.specs.Branches.{lookup, branches, bodyIn}
+use Rattle.table.specs.Branches.{branchesAt, branches, bodyIn}
 use Rattle.table.specs.Branches.Capped.{capped, cappedWith, allCapped}
 use Rattle.table.specs.Resolve.{Memory, noMemory, resolve, reachSum}
 use Rattle.table.specs.Equations.{callCount}
@@ -109,7 +109,7 @@ ReachMost =
 -- ours: "Each body and each prefix's follower has at most 256" is judged the same by counts that stop at 257
 unfoldable pub CappedBranches : Type 0
 CappedBranches = (t : Table) (p : Term)
-    → (cappedWith (lookup (allCapped (t .definitions))) p ≡ capped (branches t p))
+    → (cappedWith (branchesAt (allCapped (t .definitions))) p ≡ capped (branches t p))
     × ((capped (branches t p) ≤ 256) ↔ (branches t p ≤ 256))
 
 -- "the openings of a call are those of the definition called": where 7 is not met, whatever 8 and 9

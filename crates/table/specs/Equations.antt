@@ -26,7 +26,7 @@ use Rattle.table.specs.Context.{Context, outermost, underPrefix, underPa
 use Rattle.table.specs.Fields.{OfCall, Fields}
 use Rattle.table.specs.References.{levelIn, firstWrong}
 use Rattle.table.specs.Width.{widthWith, widest, callWidth, nextWidth, allWidths, levelWidth}
-use Rattle.table.specs.Branches.{branchesWith, lookup, bodyIn, nextBranches, allBranches, branches}
+use Rattle.table.specs.Branches.{branchesWith, branchesAt, bodyIn, nextBranches, allBranches, branches}
 use Rattle.table.specs.Rules.Laws.{levels-out, guarded-out}
 use Rattle.table.specs.Resolve.{Memory, noMemory, Residual, leaf, pair, pairs, resolveWith, resolved}
 use Rattle.table.specs.Resolve.{nextResolved, allResolved, resolve}
@@ -60,15 +60,15 @@ module _ (f g : ℕ → ℕ) (n : ℕ) (same : (e : ℕ) → e < n → f e ≡ g
 
 pub branches-guarded : (t : Table) → Guarded t → (d : ℕ) → d < length (t .definitions)
     → branches t (call d) ≡ branches t (bodyIn (t .definitions) d)
-unfolding branches branchesWith lookup allBranches
+unfolding branches branchesWith branchesAt allBranches
 branches-guarded t g d b =
     let ds = t .definitions in
     let f = nextBranches ds in
     getD-grow f 0 (length ds) d b
     ∙ unfold nextBranches in
-    ap (λ (k : ℕ). branchesWith (lookup (grow f d)) (bodyIn ds k)) (length-grow f d)
-    ∙ branches-agree (lookup (grow f d)) (lookup (grow f (length ds))) d
-    (λ e h. unfold lookup in grow-stable f 0 d (length ds) e h (omega arith))
+    ap (λ (k : ℕ). branchesWith (branchesAt (grow f d)) (bodyIn ds k)) (length-grow f d)
+    ∙ branches-agree (branchesAt (grow f d)) (branchesAt (grow f (length ds))) d
+    (λ e h. unfold branchesAt in grow-stable f 0 d (length ds) e h (omega arith))
     outermost (bodyIn ds d) refl (below-body t g d b)
 
 pub branches-call : (t : Table) → firstWrong t ≡ none → (d : ℕ) → d < length (t .definitions)
@@ -198,31 +198,31 @@ branches-same f g s (choice p q) = ap₂ _+_ (branches-same f g s p) (branches-s
 branches-same f g s (par r p q) = ap₂ _*_ (branches-same f g s p) (branches-same f g s q)
 branches-same f g s (call d) = s d
 
-abbrev count : List Residual → ℕ
-count l = length l
+abbrev countOf : List Residual → ℕ
+countOf l = length l
 
-count-lookup : (l : List (List Residual)) (d : ℕ) → length (resolved l d) ≡ lookup (map count l) d
-unfolding resolved lookup
-count-lookup [] d = refl
-count-lookup (x ∷ l) zero = refl
-count-lookup (x ∷ l) (suc d) = unfold resolved lookup in count-lookup l d
+count-at : (l : List (List Residual)) (d : ℕ) → length (resolved l d) ≡ branchesAt (map countOf l) d
+unfolding resolved branchesAt
+count-at [] d = refl
+count-at (x ∷ l) zero = refl
+count-at (x ∷ l) (suc d) = unfold resolved branchesAt in count-at l d
 
-count-grow : (ds : List Definition) (n : ℕ) → map count (grow (nextResolved ds) n) ≡ grow (nextBranches ds) n
+count-grow : (ds : List Definition) (n : ℕ) → map countOf (grow (nextResolved ds) n) ≡ grow (nextBranches ds) n
 unfolding grow nextResolved nextBranches
 count-grow ds zero = refl
 count-grow ds (suc n) =
     let g = grow (nextResolved ds) n in
-    map-append count g _
-    ∙ ap (λ (x : ℕ). map count g ++ (x ∷ []))
+    map-append countOf g _
+    ∙ ap (λ (x : ℕ). map countOf g ++ (x ∷ []))
     (resolveWith-count (resolved g) noMemory (bodyIn ds (length g))
-    ∙ branches-same (λ d. length (resolved g d)) (lookup (map count g)) (count-lookup g) (bodyIn ds (length g))
-    ∙ ap (λ (k : ℕ). branchesWith (lookup (map count g)) (bodyIn ds k)) (sym (length-map g count)))
-    ∙ ap (λ (l : List ℕ). l ++ (branchesWith (lookup l) (bodyIn ds (length l)) ∷ [])) (count-grow ds n)
+    ∙ branches-same (λ d. length (resolved g d)) (branchesAt (map countOf g)) (count-at g) (bodyIn ds (length g))
+    ∙ ap (λ (k : ℕ). branchesWith (branchesAt (map countOf g)) (bodyIn ds k)) (sym (length-map g countOf)))
+    ∙ ap (λ (l : List ℕ). l ++ (branchesWith (branchesAt l) (bodyIn ds (length l)) ∷ [])) (count-grow ds n)
 
 pub resolve-count : (t : Table) (m : Memory) (p : Term) → length (resolve t m p) ≡ branches t p
 unfolding resolve branches allResolved allBranches
 resolve-count t m p =
     let g = allResolved (t .definitions) in
     resolveWith-count (resolved g) m p
-    ∙ branches-same (λ d. length (resolved g d)) (lookup (map count g)) (count-lookup g) p
-    ∙ ap (λ (l : List ℕ). branchesWith (lookup l) p) (count-grow (t .definitions) (length (t .definitions)))
+    ∙ branches-same (λ d. length (resolved g d)) (branchesAt (map countOf g)) (count-at g) p
+    ∙ ap (λ (l : List ℕ). branchesWith (branchesAt l) p) (count-grow (t .definitions) (length (t .definitions)))

@@ -25,6 +25,7 @@ use Rattle.table.specs.Node.{Node, nodeAt, termOf}
 use Rattle.table.specs.Index.{Structured, Branching}
 pub mod Kinds
 pub mod Spans
+pub mod OneWidth
 pub mod Widths
 pub mod Levels
 pub mod Wide

@@ -18,7 +18,7 @@ use Rattle.table.specs.Table.{SetRef, Term, stop, fail, prefix, choice, 
 use Rattle.table.specs.Table.{Definition, Table, size, termCount, bodyNumber}
 use Rattle.table.specs.Tokens.{listTokens}
 use Rattle.table.specs.Parser.{Result, got, refused, number, andThen, times}
-use Rattle.table.specs.Grammar.{set, table}
+use Rattle.table.specs.Grammar.{eventSet, table}
 use Rattle.table.specs.References.{levelIn}
 use Rattle.table.specs.Width.{reach}
 use Rattle.table.specs.Branches.{branches}
@@ -118,8 +118,8 @@ setsGot (refused n at) = []
 -- the sets that a number list begins with, after the alphabet size
 unfoldable pub setsIn : List ℕ → List SetDef
 setsIn l =
-    setsGot (andThen (number (λ a. leb 1 a && leb a 64)) (λ a. andThen (number (λ c. leb c 64)) (λ c. times c (set a)))
-    (listTokens 0 l))
+    setsGot (andThen (number (λ a. leb 1 a && leb a 64)) (λ a.
+    andThen (number (λ c. leb c 64)) (λ c. times c (eventSet a))) (listTokens 0 l))
 
 -- the table of a number list is accepted, and its index stands in the work area
 pub record Indexed (l w : List ℕ) : Type 0 where

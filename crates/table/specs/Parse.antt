@@ -26,7 +26,7 @@ use Rattle.table.specs.declared.terms.TermEnd.the-variants.{NextTerm, No
 use Rattle.table.specs.Table.{SetRef, Term, SetDef, Definition, Table, size, sizes}
 use Rattle.table.specs.Tokens.{listTokens, tokensAt}
 use Rattle.table.specs.Parser.{Parser, Result, got, refused, times}
-use Rattle.table.specs.Grammar.{row, set, setRef, termWith, definitionsOf, table}
+use Rattle.table.specs.Grammar.{row, eventSet, setRef, termWith, definitionsOf, table}
 use Rattle.table.specs.References.{levelIn}
 use Rattle.table.specs.Judge.{declined, judge}
 use Rattle.table.specs.Node.{nodes, nodesFrom, noNode, setOf, parameterOf}
@@ -100,7 +100,7 @@ RowsRead l A count i row₀ w w' (Stop r) = Stops (times count (row A) (tokensAt
 
 pub record SetFound (l : List ℕ) (A i row₀ : ℕ) (w w' : List ℕ) (j kind end : ℕ) : Type 0 where
   pub value : SetDef
-  pub parsed : set A (tokensAt l i) ≡ got value (tokensAt l j)
+  pub parsed : eventSet A (tokensAt l i) ≡ got value (tokensAt l j)
   pub kinds : kind ≡ kindOfSet value
   pub ends : end ≡ row₀ + length (setMasks value)
   pub few : length (setMasks value) ≤ 64
@@ -109,11 +109,11 @@ pub record SetFound (l : List ℕ) (A i row₀ : ℕ) (w w' : List ℕ) (j kind 
 
 abbrev pub SetRead : List ℕ → ℕ → ℕ → ℕ → List ℕ → List ℕ → SetEnd → Type 0
 SetRead l A i row₀ w w' (NextSet j kind end) = SetFound l A i row₀ w w' j kind end
-SetRead l A i row₀ w w' (NoSet r) = Stops (set A (tokensAt l i)) r × (length w' ≡ length w)
+SetRead l A i row₀ w w' (NoSet r) = Stops (eventSet A (tokensAt l i)) r × (length w' ≡ length w)
 
 pub record SetsFound (l : List ℕ) (A count i : ℕ) (w w' : List ℕ) (j : ℕ) : Type 0 where
   pub sets : List SetDef
-  pub parsed : times count (set A) (tokensAt l i) ≡ got sets (tokensAt l j)
+  pub parsed : times count (eventSet A) (tokensAt l i) ≡ got sets (tokensAt l j)
   pub counted : length sets ≡ count
   pub indexed : SetsIndexed sets w'
   pub same : length w' ≡ length w
@@ -121,7 +121,7 @@ pub record SetsFound (l : List ℕ) (A count i : ℕ) (w w' : List ℕ) (j : ℕ
 
 abbrev pub SetsRead : List ℕ → ℕ → ℕ → ℕ → List ℕ → List ℕ → Place → Type 0
 SetsRead l A count i w w' (At j) = SetsFound l A count i w w' j
-SetsRead l A count i w w' (Stop r) = Stops (times count (set A) (tokensAt l i)) r × (length w' ≡ length w)
+SetsRead l A count i w w' (Stop r) = Stops (times count (eventSet A) (tokensAt l i)) r × (length w' ≡ length w)
 
 -- ---- terms
 

@@ -22,7 +22,7 @@ use Rattle.table.specs.Writing.{setNumbers, numbersOf}
 use Rattle.table.specs.Fields.{Fields}
 use Rattle.table.specs.References.{paramFits, callFits}
 use Rattle.table.specs.Width.{allWidths}
-use Rattle.table.specs.Branches.{branchesWith, lookup, allBranches}
+use Rattle.table.specs.Branches.{branchesWith, branchesAt, allBranches}
 use Rattle.table.specs.Rules.{Rules}
 use Rattle.table.specs.Marks.{Open, Fits}
 pub mod Laws
@@ -69,7 +69,7 @@ fewFrom calls [] = []
 fewFrom calls (d ∷ ds) = (leb (branchesWith calls (d .body)) 256 ∷ fewIn calls (d .body)) ++ fewFrom calls ds
 
 unfoldable pub fewTerms : Table → List Bool
-fewTerms t = fewFrom (lookup (allBranches (t .definitions))) (t .definitions)
+fewTerms t = fewFrom (branchesAt (allBranches (t .definitions))) (t .definitions)
 
 unfoldable pub narrowLevels : Table → List Bool
 narrowLevels t = map (λ n. leb n 8) (allWidths (t .definitions))

@@ -16,7 +16,7 @@ use Rattle.table.specs.Rules.{Rules}
 use Rattle.slots.specs.declared.slots.Held.{Held}
 use Rattle.slots.specs.declared.slots.Held.the-variants.{Count, Exceeded}
 use Rattle.slots.specs.Holding.{Outcome, said, putAll}
-use Rattle.slots.specs.Canon.Sets.{SameMembers}
+use Rattle.slots.specs.Canon.{SameMembers}
 use Rattle.step.specs.Stepped.{gathered, Source, SteppedSet}
 use Rattle.monitor_spec.specs.Regular.Laws.{regular}
 use Rattle.monitor_spec.specs.Residual.{Residual, afterAll}

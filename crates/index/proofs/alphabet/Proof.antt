@@ -1,4 +1,4 @@
--- `table::index::alphabet` meets its contract: the word of the alphabet size holds what the table has.
+-- `index::alphabet` meets its contract: the word of the alphabet size holds what the table has.
 -- Assumes nothing.
 use native.Mathlib.Omega.{arith}
 use borrow.Author.Needs.{needs}

@@ -1,4 +1,4 @@
--- `table::index::called` meets its contract: the last digit of the call's word holds what the table has.
+-- `index::called` meets its contract: the last digit of the call's word holds what the table has.
 -- Assumes nothing.
 use native.Mathlib.Omega.{arith}
 use Rattle.index.specs.Facts.{terms-few, called-is}

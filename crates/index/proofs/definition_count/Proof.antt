@@ -1,4 +1,4 @@
--- `table::index::definition_count` meets its contract: the word of the definition count holds what the table has.
+-- `index::definition_count` meets its contract: the word of the definition count holds what the table has.
 -- Assumes nothing.
 use native.Mathlib.Omega.{arith}
 use borrow.Author.Needs.{needs}

@@ -1,4 +1,4 @@
--- `table::index::enclosing` meets its contract: a digit of the term's word holds what the table has.
+-- `index::enclosing` meets its contract: a digit of the term's word holds what the table has.
 -- Assumes nothing.
 use native.Mathlib.Omega.{arith}
 use Rattle.index.specs.Facts.{terms-few, enclosing-is}

@@ -1,4 +1,4 @@
--- `table::index::holds` meets its contract: the word that it reads is the mask of the row, by the kind of the set.
+-- `index::holds` meets its contract: the word that it reads is the mask of the row, by the kind of the set.
 -- Assumes nothing.
 use native.Mathlib.Omega.{arith}
 use mathlib.Core.Path.{_∙_}

@@ -1,4 +1,4 @@
--- `table::index::kind` meets its contract: a digit of the term's word holds what the table has.
+-- `index::kind` meets its contract: a digit of the term's word holds what the table has.
 -- Assumes nothing.
 use native.Mathlib.Omega.{arith}
 use Rattle.index.specs.Facts.{terms-few, kind-is}

@@ -1,4 +1,4 @@
--- `table::index::level` meets its contract: word 7,265 + d holds what the table has.
+-- `index::level` meets its contract: word 7,265 + d holds what the table has.
 -- Assumes nothing.
 use native.Mathlib.Omega.{arith}
 use Rattle.index.specs.Facts.{definitions-few, level-is}

@@ -1,4 +1,4 @@
--- `table::index::term_count` meets its contract: the word of the term count holds what the table has.
+-- `index::term_count` meets its contract: the word of the term count holds what the table has.
 -- Assumes nothing.
 use native.Mathlib.Omega.{arith}
 use borrow.Author.Needs.{needs}

@@ -13,7 +13,7 @@ use Rattle.meaning.specs.Some.{Any, any-imp, any-append-left, any-append
 use Rattle.meaning.specs.Some.{all-flat}
 use Rattle.table.specs.Table.{Table}
 use Rattle.meaning.specs.Figure1.{SetRef, Term, stop, fail, prefix, choice, par, call, body}
-use Rattle.meaning.specs.Figure1.{Guarded, GuardedTable, WellFormed, count}
+use Rattle.meaning.specs.Figure1.{Guarded, GuardedTable, WellFormed, bodyCount}
 use Rattle.meaning.specs.Holds.{Holds, h-stop, h-wait, h-left, h-right, m-none, h-par, h-call}
 use Rattle.meaning.specs.ClosedResiduals.{pairs, resolveWith, resolveCall, resolve}
 
@@ -81,7 +81,7 @@ module _ (t : Table) where
 
   pub resolve-resolved : (P : Term) → All Resolved (resolve t P)
   unfolding resolve
-  resolve-resolved P = with-resolved (resolveCall t (count t)) (call-resolved (count t)) P
+  resolve-resolved P = with-resolved (resolveCall t (bodyCount t)) (call-resolved (bodyCount t)) P
 
   pub resolved-holds : (R : Term) → Resolved R → Holds t R []
   resolved-holds stop h = h-stop
@@ -121,7 +121,7 @@ module _ (t : Table) where
 
   pub resolve-into : (P : Term) → All (Into P) (resolve t P)
   unfolding resolve
-  resolve-into P = with-into (resolveCall t (count t)) (call-into (count t)) P
+  resolve-into P = with-into (resolveCall t (bodyCount t)) (call-into (bodyCount t)) P
 
   -- ---- each trace of the term is a resolved term's
 
@@ -147,27 +147,28 @@ module _ (t : Table) where
   with-out n d f b (call c) g s (h-call h) = b c g s h
 
   module _ (w : GuardedTable t) where
-    call-out : (n : ℕ) → n ≤ count t → (c : ℕ) → c < n → Reaches (resolveCall t n) c
+    call-out : (n : ℕ) → n ≤ bodyCount t → (c : ℕ) → c < n → Reaches (resolveCall t n) c
     unfolding resolveCall
     call-out zero l c h s k = absurd (omega arith)
     call-out (suc n) l c h s k =
-        with-out (count t) c (resolveCall t n) (λ c′ h′. call-out n (omega arith) c′ (omega arith)) (body t c)
+        with-out (bodyCount t) c (resolveCall t n) (λ c′ h′. call-out n (omega arith) c′ (omega arith)) (body t c)
         (w .bodies c (omega arith)) s k
 
     pub resolve-out : (P : Term) → WellFormed t P → (s : List ℕ) → Holds t P s → Any (Has s) (resolve t P)
     unfolding resolve
     resolve-out P g s h =
-        with-out (count t) (count t) (resolveCall t (count t)) (call-out (count t) (omega arith)) P g s h
+        with-out (bodyCount t) (bodyCount t) (resolveCall t (bodyCount t)) (call-out (bodyCount t) (omega arith)) P g s
+        h
 
-    call-formed : (n : ℕ) → n ≤ count t → (c : ℕ) → c < n → All (WellFormed t) (resolveCall t n c)
+    call-formed : (n : ℕ) → n ≤ bodyCount t → (c : ℕ) → c < n → All (WellFormed t) (resolveCall t n c)
     unfolding resolveCall
     call-formed zero l c h = absurd (omega arith)
     call-formed (suc n) l c h =
-        with-formed (count t) c (omega arith) (resolveCall t n)
+        with-formed (bodyCount t) c (omega arith) (resolveCall t n)
         (λ c′ h′. call-formed n (omega arith) c′ (omega arith)) (body t c) (w .bodies c (omega arith))
 
     pub resolve-formed : (P : Term) → WellFormed t P → All (WellFormed t) (resolve t P)
     unfolding resolve
     resolve-formed P g =
-        with-formed (count t) (count t) (omega arith) (resolveCall t (count t))
-        (call-formed (count t) (omega arith)) P g
+        with-formed (bodyCount t) (bodyCount t) (omega arith) (resolveCall t (bodyCount t))
+        (call-formed (bodyCount t) (omega arith)) P g

@@ -14,7 +14,7 @@ use Rattle.table.specs.Branches.{branchesWith, bodyIn, branches}
 use Rattle.table.specs.Rules.Laws.{no-wrong}
 use Rattle.table.specs.Equations.{branches-call}
 use Rattle.table.specs.Rules.{Rules}
-use Rattle.meaning.specs.Figure1.{SetRef, Term, choice, par, call, plain, body, count, Guarded, WellFormed}
+use Rattle.meaning.specs.Figure1.{SetRef, Term, choice, par, call, plain, body, bodyCount, Guarded, WellFormed}
 use Rattle.meaning.specs.Figure3.{Doomed, d-fail, d-choice, d-left, d-right, d-call}
 use Rattle.meaning.specs.Figure3.Laws.{call-doomed}
 use Rattle.meaning.specs.Closing.{close}
@@ -66,14 +66,14 @@ module _ (t : Table) where
   -- ---- of a table that keeps the rules
 
   module _ (rules : Rules t) where
-    call-barren : (d : ℕ) → d ≤ count t → (e : ℕ) → e < d → Barren (Table.call e) (call e)
-    unfolding count body bodyOf bodyIn
+    call-barren : (d : ℕ) → d ≤ bodyCount t → (e : ℕ) → e < d → Barren (Table.call e) (call e)
+    unfolding bodyCount body bodyOf bodyIn
     call-barren zero b e h = absurd (omega arith)
     call-barren (suc d) b e h =
-        let l : e < count t = omega arith in
+        let l : e < bodyCount t = omega arith in
         let g = rules-guarded t rules .bodies e l in
         let p = bodyOf t e in
-        let x = term-barren (count t) e (λ e′ k. call-barren d (omega arith) e′ (omega arith)) p g 0 noMemory in
+        let x = term-barren (bodyCount t) e (λ e′ k. call-barren d (omega arith) e′ (omega arith)) p g 0 noMemory in
         let y : close 0 noMemory p ≡ body t e = close-plain 0 noMemory p (rules-scoped t rules e l) in
         let z = branches-call t (no-wrong t rules) e l in (
           λ k. z ∙ x .0 (subst (λ (P : Term). Doomed t P) (sym y) (call-doomed t k)),
@@ -82,4 +82,4 @@ module _ (t : Table) where
 
     pub doomed-branches : (m : Memory) (p : Table.Term) → WellFormed t (plain p)
         → Doomed t (close 0 m p) ↔ (branches t p ≡ 0)
-    doomed-branches m p g = term-barren (count t) (count t) (call-barren (count t) (omega arith)) p g 0 m
+    doomed-branches m p g = term-barren (bodyCount t) (bodyCount t) (call-barren (bodyCount t) (omega arith)) p g 0 m

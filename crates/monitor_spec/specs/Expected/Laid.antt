@@ -23,7 +23,7 @@ use Rattle.monitor_spec.specs.State.{laid}
 use Rattle.monitor_spec.specs.Consistent.{every, allZero, ascendsFrom, ascends, verdictFits, recordFits, areaFits}
 use Rattle.monitor_spec.specs.Consistent.{consistent}
 use Rattle.monitor_spec.specs.Feed.{presentSlots, nextSlots, nextVerdict, taking}
-use Rattle.monitor_spec.specs.State.Areas.{Sixteen, and-true, choose-twice, choose-flip, choose-same, choose-ap}
+use Rattle.monitor_spec.specs.State.Areas.{Sixteen, both-true, choose-twice, choose-flip, choose-same, choose-ap}
 use Rattle.monitor_spec.specs.State.Areas.{even-suc, length-fill, slotCount-fill, chunks-fill, zero-after, zero-fill}
 use Rattle.monitor_spec.specs.Sensible.{Agrees, Sensible}
 use Rattle.monitor_spec.specs.Expected.Verdicts.{slots-none, slots-some}
@@ -38,12 +38,12 @@ module _ (t : Table) where
   every-all : (l : List (List ℕ)) → All (λ w. validSlot t w ≡ true) l → every (validSlot t) l ≡ true
   unfolding every
   every-all [] h = refl
-  every-all (x ∷ l) h = and-true (h .0) (every-all l (h .1))
+  every-all (x ∷ l) h = both-true (h .0) (every-all l (h .1))
 
   ascends-from : (x : List ℕ) (l : List (List ℕ)) → Ascending (x ∷ l) → ascendsFrom x l ≡ true
   unfolding ascendsFrom
   ascends-from x [] h = refl
-  ascends-from x (y ∷ l) h = and-true (ap isBelow (h .0 .0)) (ascends-from y l (h .1))
+  ascends-from x (y ∷ l) h = both-true (ap isBelow (h .0 .0)) (ascends-from y l (h .1))
 
   ascends-all : (l : List (List ℕ)) → Ascending l → ascends l ≡ true
   unfolding ascends
@@ -72,9 +72,9 @@ module _ (t : Table) where
       → verdictFits v k (length (slotsOf rs)) n ≡ true
   unfolding verdictFits
   verdict-fits n k rs l running h =
-      and-true (lt-ltb 0 (length (slotsOf rs)) (some-length rs h)) (not-less n (length (slotsOf rs)) l)
+      both-true (lt-ltb 0 (length (slotsOf rs)) (some-length rs h)) (not-less n (length (slotsOf rs)) l)
   verdict-fits n k rs l (failedAt p) (e, h) =
-      and-true (not-less k p h) (eq-eqb (length (slotsOf rs)) 0 (none-length rs e))
+      both-true (not-less k p h) (eq-eqb (length (slotsOf rs)) 0 (none-length rs e))
 
   module _ (regular : Regular t) (n k : ℕ) (v : Verdict) (rs : List Residual) (ok : Sensible t n k v rs) where
     pub all-sixteen : All Sixteen (slotsOf rs)
@@ -106,11 +106,11 @@ module _ (t : Table) where
     area-fits =
         let ss : List (List ℕ) = slotsOf rs in
         let e : chunks (length ss) (fill n ss) ≡ ss = chunks-fill n ss all-sixteen in
-        and-true
+        both-true
         (ap (every (validSlot t)) e
         ∙ every-all ss (slots-all t regular (λ w. validSlot t w ≡ true) (proper-valid t regular) rs
         (ok .proper)))
-        (and-true (ap ascends e ∙ ascends-all ss (slots-ascending rs)) (zero-after n ss all-sixteen))
+        (both-true (ap ascends e ∙ ascends-all ss (slots-ascending rs)) (zero-after n ss all-sixteen))
 
     -- Refusal 10 is not met.
     pub laid-consistent : consistent t (laid n k v (slotsOf rs)) ≡ true
@@ -118,9 +118,9 @@ module _ (t : Table) where
     laid-consistent =
         let ss : List (List ℕ) = slotsOf rs in
         let e : Bool = even k in
-        and-true
+        both-true
         (ap (verdictFits v k (length ss)) laid-count ∙ verdict-fits n k rs (ok .room) v (ok .agrees))
-        (and-true (ap (areaFits t (length ss)) (choose-twice e (fill n ss) (fill n [])) ∙ area-fits)
+        (both-true (ap (areaFits t (length ss)) (choose-twice e (fill n ss) (fill n [])) ∙ area-fits)
         (ap allZero (choose-twice e (fill n []) (fill n ss)) ∙ zero-fill n))
 
     pub laid-present : presentSlots (laid n k v (slotsOf rs)) ≡ slotsOf rs

@@ -12,7 +12,7 @@ use borrow.Author.Tests.{eq-eqb, ne-eqb, leb-false, ltb-false}
 use Rattle.table.specs.Table.{Table}
 use Rattle.numbers.specs.Every.{All, all-append}
 use Rattle.monitor_spec.specs.Regular.{Regular}
-use Rattle.meaning.specs.Figure1.{count}
+use Rattle.meaning.specs.Figure1.{bodyCount}
 use Rattle.monitor_spec.specs.Residual.{Residual, resolveDef, afterAll, fromDefinition, residualsOf}
 use Rattle.monitor_spec.specs.Slots.{slotsOf}
 use Rattle.monitor_spec.specs.Proper.Laws.{residualsOf-proper}
@@ -55,9 +55,9 @@ sift-stops false true c m e = (12, refl)
 sift-stops false false true m e = (13, refl)
 sift-stops false false false m e = absurd (let z : _≡_ {A = ℕ} 0 1 = cc in omega arith)
 
-or-false : (a b : Bool) → (a || b) ≡ false → (a ≡ false) × (b ≡ false)
-or-false true b e = absurd (let z : _≡_ {A = ℕ} 0 1 = cc in omega arith)
-or-false false b e = (refl, e)
+or-false-out : (a b : Bool) → (a || b) ≡ false → (a ≡ false) × (b ≡ false)
+or-false-out true b e = absurd (let z : _≡_ {A = ℕ} 0 1 = cc in omega arith)
+or-false-out false b e = (refl, e)
 
 -- the list would be 2^64 long exactly where 2^64-1 were taken
 full-counter : (k : ℕ) → eqb k 18446744073709551615 ≡ eqb (suc k) 18446744073709551616
@@ -96,7 +96,7 @@ laid-sift t regular n k v rs ok e =
     take-sift t m e ∙ (λ i. sift a (b i) (c i) (d i))
 
 -- a list's monitor is laid out of its residuals, sensibly
-says-agrees : (t : Table) (s : List ℕ) (v : Verdict) → Says t (resolveDef t (count t) (count t - 1)) s 0 v
+says-agrees : (t : Table) (s : List ℕ) (v : Verdict) → Says t (resolveDef t (bodyCount t) (bodyCount t - 1)) s 0 v
     → Agrees (length s) (residualsOf t s) v
 unfolding residualsOf fromDefinition
 says-agrees t s running h = h
@@ -153,9 +153,9 @@ module _ (t : Table) (regular : Regular t) (n : ℕ) (s : List ℕ) (fed : Fed t
   pub fed-next : (e : ℕ) → halts t n s e ≡ false → Fed t n (s ++ e ∷ [])
   unfolding halts residualCount
   fed-next e h =
-      let (a, r) = or-false (leb (t .alphabet) e)
+      let (a, r) = or-false-out (leb (t .alphabet) e)
       (eqb (length (s ++ e ∷ [])) 18446744073709551616 || ltb n (residualCount t (s ++ e ∷ []))) h in
-      let (b, c) = or-false (eqb (length (s ++ e ∷ [])) 18446744073709551616)
+      let (b, c) = or-false-out (eqb (length (s ++ e ∷ [])) 18446744073709551616)
       (ltb n (residualCount t (s ++ e ∷ []))) r in
       record {
         known = all-append (λ x. x < t .alphabet) s (e ∷ []) (fed .known)

@@ -6,23 +6,24 @@ use mathlib.Core.Path.{_≡_, refl, ap, sym, _∙_}
 use mathlib.Core.List.{List, [], _∷_, _++_, map, flatMap}
 use lib.ListN.{length, take}
 use Rattle.table.specs.Table.{Table}
-use Rattle.meaning.specs.Figure1.{count}
+use Rattle.meaning.specs.Figure1.{bodyCount}
 use Rattle.monitor_spec.specs.Residual.{Residual, resolveDef, afterAll, run, fromDefinition, residualsOf}
 use Rattle.monitor_spec.specs.Meaning.{Some}
-use Rattle.monitor_spec.specs.Slots.{Order, below, same, above, compareWords, slotOf, insert, canon, slotsOf}
+use Rattle.monitor_spec.specs.Slots.{Order, below, same, above, compareWords, slotOf, insertSorted, canon}
+use Rattle.monitor_spec.specs.Slots.{slotsOf}
 use Rattle.monitor_spec.specs.State.{Verdict, running, failedAt}
 use Rattle.monitor_spec.specs.Feed.{nextVerdict}
 use Rattle.monitor_spec.specs.Expected.{ifNone, verdictFrom, verdictOf}
 
 -- ---- an empty list and its slots
 
-insert-some : (s : List ℕ) (l : List (List ℕ)) → Some (insert s l)
-unfolding insert
+insert-some : (s : List ℕ) (l : List (List ℕ)) → Some (insertSorted s l)
+unfolding insertSorted
 insert-some s [] = tt
 insert-some s (x ∷ l) = by (compareWords s x)
   where
     by : (o : Order) → Some {A = List ℕ}
-        (elim o as (λ z. List (List ℕ)) [ below ↦ s ∷ x ∷ l | same ↦ x ∷ l | above ↦ x ∷ insert s l ])
+        (elim o as (λ z. List (List ℕ)) [ below ↦ s ∷ x ∷ l | same ↦ x ∷ l | above ↦ x ∷ insertSorted s l ])
     by below = tt
     by same = tt
     by above = tt
@@ -58,7 +59,7 @@ run-snoc t (d ∷ s) e rs = run-snoc t s e (afterAll t d rs)
 
 pub residuals-snoc : (t : Table) (s : List ℕ) (e : ℕ) → residualsOf t (s ++ e ∷ []) ≡ afterAll t e (residualsOf t s)
 unfolding residualsOf fromDefinition
-residuals-snoc t s e = run-snoc t s e (resolveDef t (count t) (count t - 1))
+residuals-snoc t s e = run-snoc t s e (resolveDef t (bodyCount t) (bodyCount t - 1))
 
 pub run-none : (t : Table) (s : List ℕ) → run t [] s ≡ []
 unfolding run afterAll flatMap
@@ -96,7 +97,7 @@ module _ (t : Table) where
   unfolding verdictOf residualsOf fromDefinition
   verdictOf-snoc s e =
       let n : suc (0 + length s) ≡ suc (length s) = omega arith in
-      let d : List Residual = resolveDef t (count t) (count t - 1) in
+      let d : List Residual = resolveDef t (bodyCount t) (bodyCount t - 1) in
       verdict-snoc s e d 0 ∙ ap (λ (i : ℕ). nextVerdict (verdictFrom t d 0 s) i (slotsOf (run t d (s ++ e ∷ [])))) n
 
   -- ---- what a verdict says
@@ -157,6 +158,6 @@ module _ (t : Table) where
         },
       )
 
-  pub verdictOf-says : (s : List ℕ) → Says (resolveDef t (count t) (count t - 1)) s 0 (verdictOf t s)
+  pub verdictOf-says : (s : List ℕ) → Says (resolveDef t (bodyCount t) (bodyCount t - 1)) s 0 (verdictOf t s)
   unfolding verdictOf
-  verdictOf-says s = verdict-says s (resolveDef t (count t) (count t - 1)) 0
+  verdictOf-says s = verdict-says s (resolveDef t (bodyCount t) (bodyCount t - 1)) 0

@@ -13,7 +13,7 @@ use borrow.Author.Tests.{leb-true, ltb-false}
 use Rattle.table.specs.Table.{Table}
 use Rattle.table.specs.Judge.{Judgement, accepted, declined, judgeList}
 use Rattle.table.specs.Operations.{zeros}
-use Rattle.meaning.specs.Figure1.{count, last}
+use Rattle.meaning.specs.Figure1.{bodyCount, last}
 use Rattle.monitor_spec.specs.Residual.{resolveDef, run, fromDefinition, residualsOf}
 use Rattle.monitor_spec.specs.Slots.{slotsOf}
 use Rattle.monitor_spec.specs.Valid.Laws.{and-split}
@@ -95,7 +95,7 @@ given-same x y e = cc
 
 now-verdict : (t : Table) → nextVerdict running 0 (slotsOf (residualsOf t [])) ≡ verdictOf t []
 unfolding verdictOf residualsOf fromDefinition run
-now-verdict t = sym (verdict-now t (resolveDef t (count t) (last t)) 0)
+now-verdict t = sym (verdict-now t (resolveDef t (bodyCount t) (last t)) 0)
 
 begun-after : (t : Table) (n : ℕ)
     → record {

@@ -18,7 +18,7 @@ use Rattle.monitor_spec.specs.State.{Monitor, Answer, given, stopped, Ou
 use Rattle.monitor_spec.specs.Consistent.{consistent}
 use Rattle.monitor_spec.specs.Feed.{takeEvent, endingOf, refusing, feedAccepted, feedJudged, feedOf}
 use Rattle.monitor_spec.specs.Joined.{Call, halts, extend, joinCall, joinFrom, joined}
-use Rattle.monitor_spec.specs.State.Areas.{and-true}
+use Rattle.monitor_spec.specs.State.Areas.{both-true}
 use Rattle.monitor_spec.specs.Expected.{verdictOf, monitorAfter}
 use Rattle.monitor_spec.specs.Expected.Laid.{laid-lengths, laid-consistent}
 use Rattle.monitor_spec.specs.Expected.Steps.{Fed, fed-sensible, take-went, take-stops, fed-next}
@@ -169,9 +169,9 @@ module _ (t : Table) (regular : Regular t) (n : ℕ) where
     measured s f =
         let (x, y) = length-areas s f in
         let k : ℕ = length (monitorAfter t n s .area0) in
-        and-true (eq-eqb k (length (monitorAfter t n s .area1)) (x ∙ sym y))
-        (and-true (eq-eqb (k % 16) 0 (omega arith))
-        (and-true (le-leb 16 k (omega arith)) (le-leb k 4096 (omega arith))))
+        both-true (eq-eqb k (length (monitorAfter t n s .area1)) (x ∙ sym y))
+        (both-true (eq-eqb (k % 16) 0 (omega arith))
+        (both-true (le-leb 16 k (omega arith)) (le-leb k 4096 (omega arith))))
 
     feed-measured : (m : Monitor) (es work : List ℕ) → areasMeasured (m .area0) (m .area1) ≡ true
         → workMeasured work ≡ true → feedOf l m es work ≡ feedAccepted t m es work

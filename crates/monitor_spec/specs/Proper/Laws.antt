@@ -8,7 +8,7 @@ use mathlib.Core.List.{List, [], _∷_, _++_, map}
 use mathlib.Core.Option.{some}
 use Rattle.table.specs.Table.{Table, Term, stop, fail, prefix, choice, par, call, size, termAt, bodyOf, bodyNumber}
 use Rattle.table.specs.Table.{enclosing}
-use Rattle.meaning.specs.Figure1.{count, last}
+use Rattle.meaning.specs.Figure1.{bodyCount, last}
 use Rattle.table.specs.Member.{member}
 use Rattle.numbers.specs.Every.{All, all-imp, all-append, all-and}
 use Rattle.meaning.specs.Some.{all-map, all-flat}
@@ -109,10 +109,10 @@ module _ (t : Table) where
     body-kept : (f : ℕ → List Residual) → ((d : ℕ) → All (Kept t (levelWidth t (levelIn (t .definitions) d))) (f d))
         → (d : ℕ) → All (Kept t (levelWidth t (levelIn (t .definitions) d)))
         (resolveIn f (bodyOf t d) (bodyNumber t d) noMemory)
-    unfolding count resolveIn
-    body-kept f k d = by (decLt d (count t))
+    unfolding bodyCount resolveIn
+    body-kept f k d = by (decLt d (bodyCount t))
       where
-        by : Dec (d < count t) → All (Kept t (levelWidth t (levelIn (t .definitions) d)))
+        by : Dec (d < bodyCount t) → All (Kept t (levelWidth t (levelIn (t .definitions) d)))
             (resolveIn f (bodyOf t d) (bodyNumber t d) noMemory)
         by (yes l) =
             kept-more (reach t (bodyOf t d)) (levelWidth t (levelIn (t .definitions) d)) (regular .reach-body d l)
@@ -130,7 +130,7 @@ module _ (t : Table) where
         → Remembers (t .alphabet) c m → All (Kept t (reach t p)) (resolve t n m)
     resolve-kept n m p s g =
         rw (resolve-at t n m p (at-number t s))
-        (resolveIn-kept (resolveDef t (count t)) (resolveDef-kept (count t)) p m s g)
+        (resolveIn-kept (resolveDef t (bodyCount t)) (resolveDef-kept (bodyCount t)) p m s g)
 
     choose-kept : (b : Bool) (k : ℕ) (l r : List Residual) → All (Kept t k) l → All (Kept t k) r
         → All (Kept t k) (elim b [ true ↦ l | false ↦ r ])
@@ -201,12 +201,12 @@ module _ (t : Table) where
       afterAll-proper rs h = all-flat (Proper t) (after t e) rs
           (all-imp (Proper t) (λ r. All (Proper t) (after t e r)) after-proper rs h)
 
-    pub definition-proper : (d : ℕ) → d < count t → All (Proper t) (resolveDef t (count t) d)
+    pub definition-proper : (d : ℕ) → d < bodyCount t → All (Proper t) (resolveDef t (bodyCount t) d)
     definition-proper d l =
-        all-and (Sound t) (Kept t 8) (resolveDef t (count t) d) (resolveDef-sound t regular (count t) d)
+        all-and (Sound t) (Kept t 8) (resolveDef t (bodyCount t) d) (resolveDef-sound t regular (bodyCount t) d)
         (kept-more (levelWidth t (levelIn (t .definitions) d)) 8
-        (regular .width-most (levelIn (t .definitions) d)) (resolveDef t (count t) d)
-        (resolveDef-kept (count t) d))
+        (regular .width-most (levelIn (t .definitions) d)) (resolveDef t (bodyCount t) d)
+        (resolveDef-kept (bodyCount t) d))
 
     pub run-proper : (s : List ℕ) → All (λ e. e < t .alphabet) s → (rs : List Residual) → All (Proper t) rs
         → All (Proper t) (run t rs s)
@@ -218,4 +218,4 @@ module _ (t : Table) where
     unfolding residualsOf fromDefinition
     residualsOf-proper s h =
         let l = regular .some-definition in
-        run-proper s h (resolveDef t (count t) (last t)) (definition-proper (last t) (omega arith))
+        run-proper s h (resolveDef t (bodyCount t) (last t)) (definition-proper (last t) (omega arith))

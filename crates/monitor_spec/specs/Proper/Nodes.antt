@@ -6,7 +6,7 @@ use mathlib.Core.Option.{some}
 use lib.ListN.{length, length-append}
 use Rattle.table.specs.Table.{Table, Term, stop, fail, prefix, choice, par, call, termAt}
 use Rattle.table.specs.Table.{enclosing}
-use Rattle.meaning.specs.Figure1.{count, plain, Guarded}
+use Rattle.meaning.specs.Figure1.{bodyCount, plain, Guarded}
 use Rattle.numbers.specs.Every.{All, all-append}
 use Rattle.monitor_spec.specs.Part.Numbers.{number-at, number-below}
 use Rattle.table.specs.Memory.{Memory, digit}
@@ -22,7 +22,7 @@ use Rattle.monitor_spec.specs.Proper.Laws.{reachAt-at}
 
 module _ (t : Table) (regular : Regular t) where
   -- ---- a slot has room for the nodes
-  reach-some : (p : Term) → Guarded (count t) (count t) (plain p) → 1 ≤ reach t p
+  reach-some : (p : Term) → Guarded (bodyCount t) (bodyCount t) (plain p) → 1 ≤ reach t p
   unfolding plain reach widthWith
   reach-some stop g = omega arith
   reach-some fail g = omega arith

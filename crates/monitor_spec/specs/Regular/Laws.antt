@@ -11,7 +11,7 @@ use Rattle.table.specs.Width.Reach.{reach-body}
 use Rattle.monitor_spec.specs.Regular.Least.{width-some}
 use Rattle.table.specs.Branches.{bodyIn}
 use Rattle.table.specs.Rules.{Rules}
-use Rattle.meaning.specs.Figure1.{count}
+use Rattle.meaning.specs.Figure1.{bodyCount}
 use Rattle.meaning.specs.Formed.{rules-guarded, rules-scoped}
 use Rattle.monitor_spec.specs.Regular.{Regular}
 
@@ -25,7 +25,7 @@ module _ (t : Table) (rules : Rules t) where
       unfold bodyIn in each-here (λ q. reach t q ≤ levelWidth t (levelIn ds d)) (bodyIn ds d) (reach-body t rules d h)
 
   pub regular : Regular t
-  unfolding count
+  unfolding bodyCount
   regular =
       record {
         alphabet-some = rules .fields .alphabet-least;

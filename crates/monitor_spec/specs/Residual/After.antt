@@ -6,7 +6,7 @@ use mathlib.Core.List.{List, [], _∷_, _++_, map, map-append}
 use mathlib.Core.Option.{some}
 use Rattle.table.specs.Table
 use Rattle.table.specs.Table.{Table, termAt}
-use Rattle.meaning.specs.Figure1.{SetRef, Term, stop, fail, prefix, choice, par, call, count, sub}
+use Rattle.meaning.specs.Figure1.{SetRef, Term, stop, fail, prefix, choice, par, call, bodyCount, sub}
 use Rattle.meaning.specs.Figure1 as F
 use Rattle.table.specs.Member.{member}
 use Rattle.numbers.specs.Every.{All, all-imp, all-append}
@@ -60,13 +60,13 @@ module _ (t : Table) where
     unfolding C.resolve
     resolve-denote n m p s =
         ap (map (denote t)) (resolve-at t n m p (at-number t s))
-        ∙ resolveIn-denote t (resolveDef t (count t)) (C.resolveCall t (count t))
-        (resolveDef-denote t regular (count t)) p m s
+        ∙ resolveIn-denote t (resolveDef t (bodyCount t)) (C.resolveCall t (bodyCount t))
+        (resolveDef-denote t regular (bodyCount t)) p m s
 
     resolve-sound : (n : ℕ) (m : Memory) (p : Table.Term) {h c : ℕ} → Stands (t .definitions) h c n p
         → All (Sound t) (resolve t n m)
     resolve-sound n m p s = rw (resolve-at t n m p (at-number t s))
-        (resolveIn-sound t (resolveDef t (count t)) (resolveDef-sound t regular (count t)) p m s)
+        (resolveIn-sound t (resolveDef t (bodyCount t)) (resolveDef-sound t regular (bodyCount t)) p m s)
 
     leaf-denote : (e n : ℕ) (m : Memory) (x : Table.Term) → termAt t n ≡ some x → IsLeaf x
         → map (denote t) (afterLeaf t e n m x) ≡ C.afterEvent t e (close 0 m x)

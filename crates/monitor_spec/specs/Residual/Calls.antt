@@ -6,7 +6,7 @@ use mathlib.Core.Path.{_≡_, refl, ap₂, sym, _∙_}
 use mathlib.Core.List.{List, _++_}
 use Rattle.table.specs.Table.{Table, Term, stop, fail, prefix, choice, par, call, size, bodyOf, bodyNumber}
 use Rattle.table.specs.Memory.{Memory, noMemory}
-use Rattle.meaning.specs.Figure1.{count, body, plain, Guarded}
+use Rattle.meaning.specs.Figure1.{bodyCount, body, plain, Guarded}
 use Rattle.monitor_spec.specs.Part.Numbers.{at-number, body-number}
 use Rattle.monitor_spec.specs.Residual.{Residual, pairs, resolveIn, resolveDef, resolve}
 use Rattle.monitor_spec.specs.Residual.Resolve.{resolve-at}
@@ -28,12 +28,12 @@ resolveIn-agree f g n k h (call d) b i m = h d b
 
 module _ (t : Table) (regular : Regular t) where
   -- any two bounds above d
-  resolveDef-agree : (b c d : ℕ) → d < b → d < c → d < count t → resolveDef t b d ≡ resolveDef t c d
+  resolveDef-agree : (b c d : ℕ) → d < b → d < c → d < bodyCount t → resolveDef t b d ≡ resolveDef t c d
   unfolding resolveDef body
   resolveDef-agree zero c d h k l = absurd (omega arith)
   resolveDef-agree (suc b) zero d h k l = absurd (omega arith)
   resolveDef-agree (suc b) (suc c) d h k l =
-      resolveIn-agree (resolveDef t b) (resolveDef t c) (count t) d
+      resolveIn-agree (resolveDef t b) (resolveDef t c) (bodyCount t) d
       (λ e i. resolveDef-agree b c e (omega arith) (omega arith) (omega arith))
       (bodyOf t d) (regular .guarded .bodies d l) (bodyNumber t d) noMemory
 
@@ -42,9 +42,9 @@ module _ (t : Table) (regular : Regular t) where
   unfolding resolveDef
   resolveDef-suc b d = refl
 
-  pub resolveDef-body : (d : ℕ) → d < count t → resolveDef t (count t) d ≡ resolve t (bodyNumber t d) noMemory
-  unfolding count
+  pub resolveDef-body : (d : ℕ) → d < bodyCount t → resolveDef t (bodyCount t) d ≡ resolve t (bodyNumber t d) noMemory
+  unfolding bodyCount
   resolveDef-body d l =
-      resolveDef-agree (count t) (suc (count t)) d l (omega arith) l
-      ∙ resolveDef-suc (count t) d
+      resolveDef-agree (bodyCount t) (suc (bodyCount t)) d l (omega arith) l
+      ∙ resolveDef-suc (bodyCount t) d
       ∙ sym (resolve-at t (bodyNumber t d) noMemory (bodyOf t d) (at-number t (body-number t d l)))

@@ -1,7 +1,7 @@
 -- Resolving lists as many residuals as the term has branches (01, "Openings").
 --     resolveDef-length    of a definition's body;  resolve-length: of the term of a number, with whatever memory
 --     residuals-few        at Start there are 256 at most
--- That there are none exactly for a doomed term is the table layer's `Doom/Branches.antt`. Assumes nothing.
+-- That there are none exactly for a doomed term is in `Doom/Branches.antt` of crate meaning. Assumes nothing.
 use Prim.Native.Nat.{ℕ, zero, suc, _+_, _*_, _≤_, _<_}
 use native.Mathlib.Omega.{arith}
 use native.Mathlib.Nat.{suc-mul, zero-mul}
@@ -15,7 +15,7 @@ use Rattle.table.specs.Branches.{branchesWith, bodyIn, branches}
 use Rattle.table.specs.Rules.Laws.{no-wrong}
 use Rattle.table.specs.Equations.{branches-call}
 use Rattle.table.specs.Rules.{Rules}
-use Rattle.meaning.specs.Figure1.{count, last, body, plain, Guarded}
+use Rattle.meaning.specs.Figure1.{bodyCount, last, body, plain, Guarded}
 use Rattle.monitor_spec.specs.Part.{Stands}
 use Rattle.monitor_spec.specs.Part.Numbers.{at-number}
 use Rattle.monitor_spec.specs.Residual.{Residual, pair, pairs, resolveIn, resolveDef, resolve, run}
@@ -63,16 +63,16 @@ module _ (t : Table) (rules : Rules t) where
   branches-with (par r p q) = ap₂ _*_ (branches-with p) (branches-with q)
   branches-with (call d) = refl
 
-  body-branches : (d : ℕ) → d < count t → branches t (bodyOf t d) ≡ B d
-  unfolding count bodyOf
+  body-branches : (d : ℕ) → d < bodyCount t → branches t (bodyOf t d) ≡ B d
+  unfolding bodyCount bodyOf
   body-branches d h = unfold bodyIn in sym (branches-call t (no-wrong t rules) d h)
 
   -- a bound above d, at most the count
-  pub resolveDef-length : (b d : ℕ) → d < b → b ≤ count t → length (resolveDef t b d) ≡ B d
+  pub resolveDef-length : (b d : ℕ) → d < b → b ≤ bodyCount t → length (resolveDef t b d) ≡ B d
   unfolding resolveDef body
   resolveDef-length zero d h k = absurd (omega arith)
   resolveDef-length (suc b) d h k =
-      resolveIn-length (resolveDef t b) B (count t) d (λ c i. resolveDef-length b c (omega arith) (omega arith))
+      resolveIn-length (resolveDef t b) B (bodyCount t) d (λ c i. resolveDef-length b c (omega arith) (omega arith))
       (bodyOf t d)
       (regular t rules .guarded .bodies d (omega arith)) (bodyNumber t d) noMemory
       ∙ branches-with (bodyOf t d)
@@ -82,8 +82,8 @@ module _ (t : Table) (rules : Rules t) where
       → length (resolve t n m) ≡ branches t p
   resolve-length {n = n} {p = p} m s =
       ap length (resolve-at t n m p (at-number t s))
-      ∙ resolveIn-length (resolveDef t (count t)) B (count t) (count t)
-      (λ d h. resolveDef-length (count t) d h (omega arith)) p
+      ∙ resolveIn-length (resolveDef t (bodyCount t)) B (bodyCount t) (bodyCount t)
+      (λ d h. resolveDef-length (bodyCount t) d h (omega arith)) p
       (number-guarded t (regular t rules) s) n m
       ∙ branches-with p
 
@@ -95,11 +95,11 @@ module _ (t : Table) (rules : Rules t) where
   body-few (x ∷ ds) (suc d) h k = body-few ds d (h .1) (omega arith)
 
   pub residuals-few : length (residualsOf t []) ≤ 256
-  unfolding residualsOf fromDefinition run count
+  unfolding residualsOf fromDefinition run bodyCount
   residuals-few =
       let b = rules .fields .definitions-least in
-      let i : last t < count t = omega arith in
-      let a = resolveDef-length (count t) (last t) i (omega arith) in
+      let i : last t < bodyCount t = omega arith in
+      let a = resolveDef-length (bodyCount t) (last t) i (omega arith) in
       let c = branches-call t (no-wrong t rules) (last t) i in
       let e = body-few (t .definitions) (last t) (rules .branches-bodies) i in
       omega arith

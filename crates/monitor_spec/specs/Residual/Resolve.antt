@@ -8,7 +8,7 @@ use mathlib.Core.Option.{some}
 use mathlib.Core.Logic.{_↔_}
 use Rattle.table.specs.Table
 use Rattle.table.specs.Table.{Table, termAt, bodyOf, bodyNumber, size}
-use Rattle.meaning.specs.Figure1.{SetRef, Term, stop, fail, prefix, choice, par, call, count, body, plain, Guarded}
+use Rattle.meaning.specs.Figure1.{SetRef, Term, stop, fail, prefix, choice, par, call, bodyCount, body, plain, Guarded}
 use Rattle.meaning.specs.Figure1.{WellFormed}
 use Rattle.meaning.specs.Theorem3.{guarded-more}
 use Rattle.numbers.specs.Every.{All, all-imp, all-append}
@@ -88,7 +88,7 @@ module _ (t : Table) where
   resolveIn-denote f g k (Table.call d) m s = k d
 
   pub resolve-at : (n : ℕ) (m : Memory) (p : Table.Term) → termAt t n ≡ some p
-      → resolve t n m ≡ resolveIn (resolveDef t (count t)) p n m
+      → resolve t n m ≡ resolveIn (resolveDef t (bodyCount t)) p n m
   unfolding resolve
   resolve-at n m p e = rw (e, resolve)
 
@@ -142,32 +142,32 @@ module _ (t : Table) where
   module _ (regular : Regular t) where
     -- what stands under a number is scoped and guarded
     pub number-scoped : {h c n : ℕ} {x : Table.Term} → Stands (t .definitions) h c n x → (c′ : ℕ) × Scoped c′ x
-    unfolding count
+    unfolding bodyCount
     number-scoped {h} s = let (l, (k, p)) = number-home t s in part-scoped p 0 (regular .scoped h l)
 
     pub number-guarded : {h c n : ℕ} {x : Table.Term} → Stands (t .definitions) h c n x → WellFormed t (plain x)
-    unfolding count body
+    unfolding bodyCount body
     number-guarded {h} s =
         let (l, (k, p)) = number-home t s in
-        part-guarded (count t) h (omega arith) p (regular .guarded .bodies h l)
+        part-guarded (bodyCount t) h (omega arith) p (regular .guarded .bodies h l)
 
     body-denote : (f : ℕ → List Residual) (g : ℕ → List Term) → ((d : ℕ) → map (denote t) (f d) ≡ g d) → (d : ℕ)
         → map (denote t) (resolveIn f (bodyOf t d) (bodyNumber t d) noMemory) ≡ C.resolveWith g (body t d)
-    unfolding body count resolveIn C.resolveWith plain
-    body-denote f g k d = by (decLt d (count t))
+    unfolding body bodyCount resolveIn C.resolveWith plain
+    body-denote f g k d = by (decLt d (bodyCount t))
       where
-        by : Dec (d < count t) → map (denote t) (resolveIn f (bodyOf t d) (bodyNumber t d) noMemory) ≡ C.resolveWith g
-            (body t d)
+        by : Dec (d < bodyCount t)
+            → map (denote t) (resolveIn f (bodyOf t d) (bodyNumber t d) noMemory) ≡ C.resolveWith g (body t d)
         by (yes l) = resolveIn-denote f g k (bodyOf t d) noMemory (body-number t d l)
             ∙ ap (C.resolveWith g) (close-plain 0 noMemory (bodyOf t d) (regular .scoped d l))
         by (no l) = let e : bodyOf t d ≡ Table.fail = body-beyond t d (omega arith) in rw e
 
     body-sound : (f : ℕ → List Residual) → ((d : ℕ) → All (Sound t) (f d)) → (d : ℕ)
         → All (Sound t) (resolveIn f (bodyOf t d) (bodyNumber t d) noMemory)
-    unfolding count resolveIn
-    body-sound f k d = by (decLt d (count t))
+    unfolding bodyCount resolveIn
+    body-sound f k d = by (decLt d (bodyCount t))
       where
-        by : Dec (d < count t) → All (Sound t) (resolveIn f (bodyOf t d) (bodyNumber t d) noMemory)
+        by : Dec (d < bodyCount t) → All (Sound t) (resolveIn f (bodyOf t d) (bodyNumber t d) noMemory)
         by (yes l) = resolveIn-sound f k (bodyOf t d) noMemory (body-number t d l)
         by (no l) = let e : bodyOf t d ≡ Table.fail = body-beyond t d (omega arith) in rw e tt
 

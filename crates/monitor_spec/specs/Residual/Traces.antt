@@ -10,7 +10,7 @@ use mathlib.Core.Option.{some}
 use mathlib.Core.Logic.{_↔_}
 use Rattle.table.specs.Table
 use Rattle.table.specs.Table.{Table, termAt}
-use Rattle.meaning.specs.Figure1.{Term, stop, fail, prefix, choice, par, call, count, last, plain}
+use Rattle.meaning.specs.Figure1.{Term, stop, fail, prefix, choice, par, call, bodyCount, last, plain}
 use Rattle.meaning.specs.Figure2.{TraceSet, Model}
 use Rattle.meaning.specs.Holds.{Holds}
 use Rattle.meaning.specs.Models.{holds-only}
@@ -39,7 +39,7 @@ module _ (t : Table) where
     leaf-ready n m Table.fail h i = absurd i
     leaf-ready n m (Table.prefix r p) h i = (
       tt,
-      guarded-close (count t) (count t) 0 m (Table.prefix r p)
+      guarded-close (bodyCount t) (bodyCount t) 0 m (Table.prefix r p)
           (number-guarded t regular (number-at t n (Table.prefix r p) h .stands)),
     )
     leaf-ready n m (Table.choice p q) h i = absurd i
@@ -96,17 +96,18 @@ module _ (t : Table) where
             λ x. a .1 (b .1 (d .0 (rw e at (c .0 x)))),
           )
 
-      pub traces-definition : (d : ℕ) → d < count t → (s : List ℕ) → H (call d) s ↔ Some (fromDefinition t d s)
+      pub traces-definition : (d : ℕ) → d < bodyCount t → (s : List ℕ) → H (call d) s ↔ Some (fromDefinition t d s)
       unfolding fromDefinition C.residuals C.resolve C.resolveWith
       traces-definition d l s =
-          let h = resolveDef-sound t regular (count t) d in
+          let h = resolveDef-sound t regular (bodyCount t) d in
           let a = holds-only t H model (regular .guarded) (call d) l s in
           let b = residuals-hold t (regular .guarded) (call d) l s in
-          let e : map (denote t) (run t (resolveDef t (count t) d) s) ≡ C.run t (C.resolveCall t (count t) d) s =
-          run-denote t regular s (resolveDef t (count t) d) h
-          ∙ ap (λ (z : List Term). C.run t z s) (resolveDef-denote t regular (count t) d) in
-          let c = some-map (denote t) (run t (resolveDef t (count t) d) s) in
-          let f = some-inhabited (C.run t (C.resolveCall t (count t) d) s) in (
+          let e : map (denote t) (run t (resolveDef t (bodyCount t) d) s)
+          ≡ C.run t (C.resolveCall t (bodyCount t) d) s =
+          run-denote t regular s (resolveDef t (bodyCount t) d) h
+          ∙ ap (λ (z : List Term). C.run t z s) (resolveDef-denote t regular (bodyCount t) d) in
+          let c = some-map (denote t) (run t (resolveDef t (bodyCount t) d) s) in
+          let f = some-inhabited (C.run t (C.resolveCall t (bodyCount t) d) s) in (
             λ x. c .1 (rw e (f .1 (b .0 (a .0 x)))),
             λ x. a .1 (b .1 (f .0 (rw e at (c .0 x)))),
           )

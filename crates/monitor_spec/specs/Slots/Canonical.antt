@@ -9,7 +9,8 @@ use lib.ListN.{length, length-map}
 use Rattle.numbers.specs.Every.{All, all-imp}
 use Rattle.meaning.specs.Some.{Any, any-append-left, any-append-right, any-append-cases}
 use Rattle.monitor_spec.specs.Residual.{Residual}
-use Rattle.monitor_spec.specs.Slots.{Order, below, same, above, slotOf, compareWords, insert, canon, slotsOf}
+use Rattle.monitor_spec.specs.Slots.{Order, below, same, above, slotOf, compareWords, insertSorted, canon}
+use Rattle.monitor_spec.specs.Slots.{slotsOf}
 use Rattle.monitor_spec.specs.Slots.{Precedes, Sorted}
 use Rattle.monitor_spec.specs.Slots.Comparison.{Less, same-eq, above-less, less-trans, less-not-eq, less-not-back}
 use Rattle.monitor_spec.specs.Slots.Comparison.{less-precedes}
@@ -21,25 +22,26 @@ abbrev pub Ascending : List (List ℕ) → Type 0
 Ascending [] = Unit
 Ascending (x ∷ l) = All (Less x) l × Ascending l
 
-insert-below : (s x : List ℕ) (l : List (List ℕ)) → compareWords s x ≡ below → insert s (x ∷ l) ≡ s ∷ x ∷ l
-unfolding insert
-insert-below s x l e = rw (e, insert)
+insert-below : (s x : List ℕ) (l : List (List ℕ)) → compareWords s x ≡ below → insertSorted s (x ∷ l) ≡ s ∷ x ∷ l
+unfolding insertSorted
+insert-below s x l e = rw (e, insertSorted)
 
-insert-same : (s x : List ℕ) (l : List (List ℕ)) → compareWords s x ≡ same → insert s (x ∷ l) ≡ x ∷ l
-unfolding insert
-insert-same s x l e = rw (e, insert)
+insert-same : (s x : List ℕ) (l : List (List ℕ)) → compareWords s x ≡ same → insertSorted s (x ∷ l) ≡ x ∷ l
+unfolding insertSorted
+insert-same s x l e = rw (e, insertSorted)
 
-insert-above : (s x : List ℕ) (l : List (List ℕ)) → compareWords s x ≡ above → insert s (x ∷ l) ≡ x ∷ insert s l
-unfolding insert
-insert-above s x l e = rw (e, insert)
+insert-above : (s x : List ℕ) (l : List (List ℕ)) → compareWords s x ≡ above
+    → insertSorted s (x ∷ l) ≡ x ∷ insertSorted s l
+unfolding insertSorted
+insert-above s x l e = rw (e, insertSorted)
 
-pub in-insert : (a s : List ℕ) (l : List (List ℕ)) → In a (insert s l) ↔ (a ≡ s ⊎ In a l)
-unfolding insert
+pub in-insert : (a s : List ℕ) (l : List (List ℕ)) → In a (insertSorted s l) ↔ (a ≡ s ⊎ In a l)
+unfolding insertSorted
 in-insert a s [] = (λ h. h, λ h. h)
 in-insert a s (x ∷ l) = by (compareWords s x) refl (in-insert a s l)
   where
-    by : (o : Order) → compareWords s x ≡ o → (In a (insert s l) ↔ (a ≡ s ⊎ In a l)) → In a (insert s (x ∷ l))
-        ↔ (a ≡ s ⊎ In a (x ∷ l))
+    by : (o : Order) → compareWords s x ≡ o → (In a (insertSorted s l) ↔ (a ≡ s ⊎ In a l))
+        → In a (insertSorted s (x ∷ l)) ↔ (a ≡ s ⊎ In a (x ∷ l))
     by below e ih = rw (insert-below s x l e) (λ h. h, λ h. h)
     by same e ih = rw (insert-same s x l e) (λ h. inr h, λ h. ⊎-elim (λ k. inl (k ∙ same-eq s x e)) (λ k. k) h)
     by above e ih = rw (insert-above s x l e) (
@@ -69,18 +71,18 @@ of-all X [] h a i = absurd i
 of-all X (x ∷ l) h a i = ⊎-elim (λ e. rw e (h .0)) (λ k. of-all X l (h .1) a k) i
 
 -- Insertion of one slot keeps the order.
-pub insert-ascending : (s : List ℕ) (l : List (List ℕ)) → Ascending l → Ascending (insert s l)
-unfolding insert
+pub insert-ascending : (s : List ℕ) (l : List (List ℕ)) → Ascending l → Ascending (insertSorted s l)
+unfolding insertSorted
 insert-ascending s [] h = (tt, tt)
 insert-ascending s (x ∷ l) h = by (compareWords s x) refl (insert-ascending s l (h .1))
   where
-    by : (o : Order) → compareWords s x ≡ o → Ascending (insert s l) → Ascending (insert s (x ∷ l))
+    by : (o : Order) → compareWords s x ≡ o → Ascending (insertSorted s l) → Ascending (insertSorted s (x ∷ l))
     by below e ih = rw (insert-below s x l e)
         ((e, all-imp (Less x) (Less s) (λ y k. less-trans s x y e k) l (h .0)), h)
     by same e ih = rw (insert-same s x l e) h
     by above e ih =
         rw (insert-above s x l e) (
-          all-of (Less x) (insert s l)
+          all-of (Less x) (insertSorted s l)
               (λ a i. ⊎-elim (λ k. rw k (above-less s x e)) (λ k. of-all (Less x) l (h .0) a k)
               (in-insert a s l .0 i)),
           ih,
@@ -126,14 +128,14 @@ canon-members l k f g =
     (λ a h. in-canon a l .1 (g a (in-canon a k .0 h)))
 
 -- A slot already held is not held twice.
-pub insert-held : (s : List ℕ) (l : List (List ℕ)) → Ascending l → In s l → insert s l ≡ l
+pub insert-held : (s : List ℕ) (l : List (List ℕ)) → Ascending l → In s l → insertSorted s l ≡ l
 insert-held s l h i =
-    ascending-unique (insert s l) l (insert-ascending s l h) h
+    ascending-unique (insertSorted s l) l (insert-ascending s l h) h
     (λ a k. ⊎-elim (λ e. rw e i) (λ m. m) (in-insert a s l .0 k)) (λ a k. in-insert a s l .1 (inr k))
 
 -- ---- one slot after another, in whatever order they come
 
-pub canon-snoc : (l : List (List ℕ)) (s : List ℕ) → canon (l ++ s ∷ []) ≡ insert s (canon l)
+pub canon-snoc : (l : List (List ℕ)) (s : List ℕ) → canon (l ++ s ∷ []) ≡ insertSorted s (canon l)
 unfolding canon
 canon-snoc l s = canon-members (l ++ s ∷ []) (s ∷ l) into back
   where
@@ -147,14 +149,14 @@ canon-snoc l s = canon-members (l ++ s ∷ []) (s ∷ l) into back
 
 -- a list of slots put in grows by one at most, and never shrinks: once too many, always too many
 pub insert-length : (s : List ℕ) (l : List (List ℕ))
-    → (length l ≤ length (insert s l)) × (length (insert s l) ≤ suc (length l))
-unfolding insert
+    → (length l ≤ length (insertSorted s l)) × (length (insertSorted s l) ≤ suc (length l))
+unfolding insertSorted
 insert-length s [] = (omega arith, omega arith)
 insert-length s (x ∷ l) = by (compareWords s x) refl (insert-length s l)
   where
     by : (o : Order) → compareWords s x ≡ o
-        → (length l ≤ length (insert s l)) × (length (insert s l) ≤ suc (length l))
-        → (length (x ∷ l) ≤ length (insert s (x ∷ l))) × (length (insert s (x ∷ l)) ≤ suc (length (x ∷ l)))
+        → (length l ≤ length (insertSorted s l)) × (length (insertSorted s l) ≤ suc (length l))
+        → (length (x ∷ l) ≤ length (insertSorted s (x ∷ l))) × (length (insertSorted s (x ∷ l)) ≤ suc (length (x ∷ l)))
     by below e ih = rw (insert-below s x l e) (omega arith, omega arith)
     by same e ih = rw (insert-same s x l e) (omega arith, omega arith)
     by above e ih = rw (insert-above s x l e) (omega arith, omega arith)

@@ -16,8 +16,8 @@ use Rattle.monitor_spec.specs.Consistent.{every, allZero}
 abbrev pub Sixteen : List ℕ → Type 0
 Sixteen s = length s ≡ 16
 
-pub and-true : {a b : Bool} → a ≡ true → b ≡ true → (a && b) ≡ true
-and-true {a} {b} e f = rw (e, f)
+pub both-true : {a b : Bool} → a ≡ true → b ≡ true → (a && b) ≡ true
+both-true {a} {b} e f = rw (e, f)
 
 -- ---- parity and choice
 

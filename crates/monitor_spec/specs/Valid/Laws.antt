@@ -21,7 +21,7 @@ use Rattle.monitor_spec.specs.Valid.{joinTrees, plant, plantWord, forest
 use Rattle.monitor_spec.specs.Valid.{memoryFits, memoriesFit, reachSum, isSame, validSlot}
 use Rattle.monitor_spec.specs.Proper.{Remembers, Fits, Proper}
 use Rattle.monitor_spec.specs.Valid.Residuals.{read-back}
-use Rattle.monitor_spec.specs.State.Areas.{and-true}
+use Rattle.monitor_spec.specs.State.Areas.{both-true}
 
 -- ---- a valid slot
 
@@ -34,7 +34,7 @@ or-right false b e = e
 
 digit-fits : (a c i v : ℕ) → v < a → (c ≤ i → v ≡ 0) → digitFits a c i v ≡ true
 unfolding digitFits
-digit-fits a c i v h f = and-true (lt-ltb v a h) (by (decLt i c))
+digit-fits a c i v h f = both-true (lt-ltb v a h) (by (decLt i c))
   where
     by : Dec (i < c) → (ltb i c || eqb v 0) ≡ true
     by (yes l) = or-left (ltb i c) (eqb v 0) (lt-ltb i c l)
@@ -47,16 +47,16 @@ memory-fits a c m f =
     let y = f 1 (omega arith) in
     let z = f 2 (omega arith) in
     let w = f 3 (omega arith) in
-    and-true (digit-fits a c 0 (m .m0) (x .0) (x .1))
-    (and-true (digit-fits a c 1 (m .m1) (y .0) (y .1))
-    (and-true (digit-fits a c 2 (m .m2) (z .0) (z .1)) (digit-fits a c 3 (m .m3) (w .0) (w .1))))
+    both-true (digit-fits a c 0 (m .m0) (x .0) (x .1))
+    (both-true (digit-fits a c 1 (m .m1) (y .0) (y .1))
+    (both-true (digit-fits a c 2 (m .m2) (z .0) (z .1)) (digit-fits a c 3 (m .m3) (w .0) (w .1))))
 
 module _ (t : Table) where
   memories-fit : (r : Residual) → Fits t r → memoriesFit t r ≡ true
   unfolding memoriesFit
   memories-fit (leaf n m) f = memory-fits (t .alphabet) (enclosing t n) m f
   memories-fit (pair n m l r) (f, a, b) =
-      and-true (memory-fits (t .alphabet) (enclosing t n) m f) (and-true (memories-fit l a) (memories-fit r b))
+      both-true (memory-fits (t .alphabet) (enclosing t n) m f) (both-true (memories-fit l a) (memories-fit r b))
 
   pub valid-at : (w : List ℕ) (r : Residual) → slotResidual t w ≡ some r
       → validSlot t w ≡ (isSame (compareWords (slotOf r) w) && (memoriesFit t r && leb (reachSum t r) 8))
@@ -66,7 +66,7 @@ module _ (t : Table) where
   pub proper-valid : Regular t → (r : Residual) → Proper t r → validSlot t (slotOf r) ≡ true
   proper-valid regular r (s, (f, k)) =
       valid-at (slotOf r) r (read-back t regular r (s, (f, k)))
-      ∙ and-true (ap isSame (cmp-refl (slotOf r))) (and-true (memories-fit r f) (le-leb (reachSum t r) 8 k))
+      ∙ both-true (ap isSame (cmp-refl (slotOf r))) (both-true (memories-fit r f) (le-leb (reachSum t r) 8 k))
 
 -- ---- and back
 

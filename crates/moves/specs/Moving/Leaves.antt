@@ -21,7 +21,7 @@ use Rattle.residual.specs.Words.Laws.{remember-small}
 use Rattle.residual.specs.Lawful.{Lawful, follower-in}
 use Rattle.residual.specs.Residual.{words, nth, resolved, pushAll, Resolves, resolvedInto}
 use Rattle.residual.specs.Residual.Resolved.{length-resolved}
-use Rattle.residual.specs.Residual.Into.{length-pushAll, head-pushAll, pushAll-append}
+use Rattle.residual.specs.Residual.Pushed.{length-pushAll, head-pushAll, pushAll-append}
 use Rattle.residual.specs.Distinct.{window}
 use Rattle.residual.specs.Distinct.Laws.{window-cons}
 use Rattle.walk.specs.Walk.{room, leafResults, longest, onto}

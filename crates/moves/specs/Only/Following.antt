@@ -15,7 +15,8 @@ use Rattle.residual.specs.Words.Laws.{remember-small}
 use Rattle.residual.specs.Lawful.{Lawful, follower-in}
 use Rattle.residual.specs.Residual.{pushed, pushAll, Resolves, resolvedInto, definitionInto}
 use Rattle.residual.specs.Residual.Resolved.{length-resolved}
-use Rattle.residual.specs.Residual.Into.{into-definition, go-call, go-leaf}
+use Rattle.residual.specs.Residual.Into.{into-definition}
+use Rattle.residual.specs.Residual.Ways.{go-call, go-leaf}
 use Rattle.walk.specs.Walk.{option, room}
 use Rattle.moves.specs.Only.{grown, Follows, Carries}
 use Rattle.moves.specs.Only.Marks.{grown-kept, grown-moved}

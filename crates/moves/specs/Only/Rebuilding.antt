@@ -13,7 +13,7 @@ use Rattle.table.specs.Table.{Table}
 use Rattle.residual.specs.Words.{remember, termOfWord, memoryOfWord}
 use Rattle.residual.specs.Residual.{words, pushed, pushAll}
 use Rattle.residual.specs.Residual.Resolved.{length-resolved}
-use Rattle.residual.specs.Residual.Into.{length-pushed, head-pushed, length-pushAll, head-pushAll, pushAll-append}
+use Rattle.residual.specs.Residual.Pushed.{length-pushed, head-pushed, length-pushAll, head-pushAll, pushAll-append}
 use Rattle.residual.specs.Distinct.{window}
 use Rattle.residual.specs.Distinct.Laws.{window-cons, window-none}
 use Rattle.walk.specs.Walk.{option, room, leafResults, longest}

@@ -17,7 +17,7 @@ use Rattle.table.specs.Table.{SetDef, one, each}
 use Rattle.table.specs.Tokens.{Tokens, tokensAt}
 use Rattle.table.specs.Parser.{Parser, Result, got, refused, pure, next, andThen, number, times}
 use Rattle.table.specs.Parser.Steps.{number-got, number-off, number-short, then-got, then-stop}
-use Rattle.table.specs.Grammar.{row, setOfKind, set}
+use Rattle.table.specs.Grammar.{row, setOfKind, eventSet}
 use Rattle.table.specs.Index.{maskOf, setMasks, kindOfSet}
 use Rattle.table.specs.Parse.{rowCount, Overlaid, RowsFound, RowsRead, SetFound}
 
@@ -101,26 +101,26 @@ module _ (A : ℕ) where
 -- ---- a set
 
 module _ (l : List ℕ) (A at : ℕ) where
-  pub set-short : at ≤ length l → length l ≤ at → set A (tokensAt l at) ≡ refused 3 (length l)
-  unfolding set
+  pub set-short : at ≤ length l → length l ≤ at → eventSet A (tokensAt l at) ≡ refused 3 (length l)
+  unfolding eventSet
   set-short h k =
       let e : at ≡ length l = omega arith in
       then-stop _ _ _ (number-short (λ k. leb k 1) l at e ∙ ap (λ (n : ℕ). refused 3 n) e)
 
-  pub set-off : at < length l → 1 < getD l at 0 → set A (tokensAt l at) ≡ refused 5 at
-  unfolding set
+  pub set-off : at < length l → 1 < getD l at 0 → eventSet A (tokensAt l at) ≡ refused 5 at
+  unfolding eventSet
   set-off h k = then-stop _ _ _ (number-off (λ k. leb k 1) l at h (lt-leb (getD l at 0) 1 k))
 
   module _ (kind : ℕ) (k : kind ≡ getD l at 0) (b : at < length l) (small : kind ≤ 1) where
-    from-kind : {r : Result SetDef} → setOfKind A kind (tokensAt l (at + 1)) ≡ r → set A (tokensAt l at) ≡ r
-    unfolding set
+    from-kind : {r : Result SetDef} → setOfKind A kind (tokensAt l (at + 1)) ≡ r → eventSet A (tokensAt l at) ≡ r
+    unfolding eventSet
     from-kind {r} e =
         then-got _ _ _ (number-got (λ k. leb k 1) l at b (le-leb (getD l at 0) 1 (omega arith)))
         (subst (λ (n : ℕ). setOfKind A n (tokensAt l (at + 1)) ≡ r) k e)
 
     pub set-stop : (count row₀ : ℕ) (w w' : List ℕ) (z : Refusal) (r : Place) → r ≡ Stop z
         → RowsRead l A count (at + 1) row₀ w w' r → count ≡ rowCount kind A
-        → (set A (tokensAt l at) ≡ refused (z .number) (z .place)) × (length w' ≡ length w)
+        → (eventSet A (tokensAt l at) ≡ refused (z .number) (z .place)) × (length w' ≡ length w)
     set-stop count row₀ w w' z r is told c =
         let f = subst (λ (y : Place). RowsRead l A count (at + 1) row₀ w w' y) is told in
         let t = tokensAt l (at + 1) in

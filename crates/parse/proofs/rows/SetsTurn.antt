@@ -28,7 +28,7 @@ kind-few (each rs) = omega arith
 module _ (l : List ℕ) (A count at : ℕ) (w : List ℕ) where
   pub record Head (w' : List ℕ) (s p row : ℕ) : Type 0 where
     pub sets : List SetDef
-    pub read : ReadsPlain (grammar.set A) (tokensAt l at) sets (tokensAt l p)
+    pub read : ReadsPlain (grammar.eventSet A) (tokensAt l at) sets (tokensAt l p)
     pub counted : length sets ≡ s
     pub rows : row ≡ length (flatMap setMasks sets)
     pub rows-few : row ≤ 64 * s
@@ -104,11 +104,11 @@ module _ {l : List ℕ} {A count at : ℕ} {w w' : List ℕ} {s p row : ℕ} (h 
       (subst (λ (k : ℕ). k ≤ 1) (sym (f .kinds)) (kind-few (f .value)), omega arith)
 
   pub head-stop : (w'' : List ℕ) (z : Refusal) (r : SetEnd) → r ≡ NoSet z → SetRead l A p row w' w'' r → s < count
-      → (times count (grammar.set A) (tokensAt l at) ≡ refused (z .number) (z .place)) × (length w'' ≡ length w)
+      → (times count (grammar.eventSet A) (tokensAt l at) ≡ refused (z .number) (z .place)) × (length w'' ≡ length w)
   head-stop w'' z r is told b =
       let f = subst (λ (y : SetEnd). SetRead l A p row w' w'' y) is told in
       let c = h .counted in
-      (times-stop (grammar.set A) count (h .read) (omega arith) (f .0), f .1 ∙ h .same)
+      (times-stop (grammar.eventSet A) count (h .read) (omega arith) (f .0), f .1 ∙ h .same)
 
   pub head-done : count ≤ s → SetsFound l A count at w w' p
   head-done b =
@@ -117,8 +117,8 @@ module _ {l : List ℕ} {A count at : ℕ} {w w' : List ℕ} {s p row : ℕ} (h 
       let e : length (h .sets) ≡ count = omega arith in
       record {
         sets = h .sets;
-        parsed = subst (λ (n : ℕ). times n (grammar.set A) (tokensAt l at) ≡ got (h .sets) (tokensAt l p)) e
-            (times-done (grammar.set A) (h .read));
+        parsed = subst (λ (n : ℕ). times n (grammar.eventSet A) (tokensAt l at) ≡ got (h .sets) (tokensAt l p)) e
+            (times-done (grammar.eventSet A) (h .read));
         counted = e;
         indexed = h .indexed;
         same = h .same;

@@ -16,8 +16,8 @@ use Rattle.table.specs.Node.{termOf, kindOf, calledOf, leftSize}
 use Rattle.residual.specs.Words.{nodeWord}
 use Rattle.residual.specs.Lawful.{Lawful}
 use Rattle.residual.specs.Residual.{pushed, Resolves, resolvedInto, definitionInto}
-use Rattle.residual.specs.Residual.Into.{into-definition, choice-next-in, go-left, go-right, go-call, go-leaf}
-use Rattle.residual.specs.Residual.Into.{go-none}
+use Rattle.residual.specs.Residual.Into.{into-definition}
+use Rattle.residual.specs.Residual.Ways.{choice-next-in, go-left, go-right, go-call, go-leaf, go-none}
 
 pub record Descent (t : Table) (n₀ m₀ i₀ : ℕ) (slot : List ℕ) (b n m j k : ℕ) : Type 0 where
   pub resolves : Resolves t b n m j slot

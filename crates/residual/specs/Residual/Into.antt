@@ -1,57 +1,31 @@
--- Resolving the i-th residual of a term into a slot: one law per way out of `resolve_term`.
---     length-pushed, head-pushed, length-pushAll, head-pushAll, pushAll-append     slots
---     go-leaf, go-left, go-right, par-first, par-second, go-call, go-none          by the kind of the term
---     into-definition                                                              a definition is its body
--- Assumes nothing.
+-- Resolving the i-th residual of a term into a slot, by the kind of the term.
+--     into-leaf, into-none, into-call                   a term that is its own residual; that has none; a call
+--     choice-left, choice-right                         a side of a choice
+--     par-facts, par-divides, par-left, par-right       the sides of a parallel
+--     into-definition                                   a definition is its body
+-- `Ways.antt` has these as `resolve_term` needs them. Assumes nothing.
 use Prim.Native.Nat.{ℕ, suc, _+_, _-_, _*_, _/_, _%_, _<_, _≤_}
 use native.Mathlib.Omega.{arith}
 use native.Mathlib.Nat.{mod-lt, div-lt-iff-lt-mul, mul-comm, le-mul-of-pos-right}
-use mathlib.Core.Path.{_≡_, refl, ap, sym, _∙_}
-use mathlib.Core.List.{List, [], _∷_, _++_}
-use mathlib.Core.Logic.{_⊎_, inl, inr}
-use lib.ListN.{length, getD, set, length-append, length-set}
-use lib.Seq.{getD-set-same}
-use Rattle.table.specs.Table.{Table, bodyNumber, termCount}
-use Rattle.table.specs.Fields.{depthOf}
+use mathlib.Core.Path.{_≡_, ap, sym, _∙_}
+use mathlib.Core.List.{List, _++_}
+use mathlib.Core.Logic.{_⊎_}
+use lib.ListN.{length, getD, length-append}
+use Rattle.table.specs.Table.{Table, bodyNumber}
 use Rattle.table.specs.Branches.{bodyIn, branches}
 use Rattle.table.specs.Branches.Capped.{capped}
-use Rattle.table.specs.Node.{termOf, kindOf, leftSize, calledOf}
+use Rattle.table.specs.Node.{termOf, kindOf}
 use Rattle.table.specs.Node.Parts.{size-positive}
 use Rattle.table.specs.Node.Laws.{body-node}
 use Rattle.residual.specs.Lawful.{Lawful}
 use Rattle.residual.specs.Residual.{pair, words, pairs, resolved, nth, pushed, pushAll, Resolves, resolvedInto}
 use Rattle.residual.specs.Residual.{ResolvesDefinition, definitionInto}
 use Rattle.residual.specs.Words.{nodeWord}
-use Rattle.residual.specs.Residual.Resolved.{length-pairs, length-resolved, resolved-definition, resolved-leaf}
-use Rattle.residual.specs.Residual.Resolved.{resolved-none, TwoSides, resolved-choice, resolved-par, Calls}
-use Rattle.residual.specs.Residual.Resolved.{resolved-call, nth-left, nth-right, nth-pairs, factor-positive}
-
--- ---- slots
-
-pub length-pushed : (s : List ℕ) (w : ℕ) → length (pushed s w) ≡ length s
-unfolding pushed
-length-pushed s w = simp length-set
-
-pub head-pushed : (s : List ℕ) (w : ℕ) → length s ≡ 16 → getD (pushed s w) 0 0 ≡ getD s 0 0 + 1
-unfolding pushed
-head-pushed s w h = getD-set-same (set s (getD s 0 0 + 1) w) 0 _ 0 (simp length-set (omega arith))
-
-pub length-pushAll : (s ws : List ℕ) → length (pushAll s ws) ≡ length s
-unfolding pushAll
-length-pushAll s [] = refl
-length-pushAll s (w ∷ ws) = length-pushAll (pushed s w) ws ∙ length-pushed s w
-
-pub head-pushAll : (s ws : List ℕ) → length s ≡ 16 → getD (pushAll s ws) 0 0 ≡ getD s 0 0 + length ws
-unfolding pushAll
-head-pushAll s [] h = omega arith
-head-pushAll s (w ∷ ws) h = omega (arith, head-pushAll (pushed s w) ws (length-pushed s w ∙ h), head-pushed s w h)
-
-pub pushAll-append : (s a b : List ℕ) → pushAll s (a ++ b) ≡ pushAll (pushAll s a) b
-unfolding pushAll
-pushAll-append s [] b = refl
-pushAll-append s (w ∷ a) b = pushAll-append (pushed s w) a b
-
--- ---- by kind
+use Rattle.residual.specs.Residual.Resolved.{length-pairs, length-resolved, resolved-definition}
+use Rattle.residual.specs.Residual.Kinds.{resolved-leaf, resolved-none, TwoSides, Calls}
+use Rattle.residual.specs.Residual.Nth.{nth-left, nth-right, nth-pairs, factor-positive}
+use Rattle.residual.specs.Residual.Pushed.{length-pushed, head-pushed, length-pushAll, head-pushAll}
+use Rattle.residual.specs.Residual.Pushed.{pushAll-append}
 
 module _ (t : Table) (b n m i : ℕ) (slot : List ℕ) (s : Resolves t b n m i slot) where
   pub into-leaf : (kindOf (termOf t n) ≡ 0) ⊎ (kindOf (termOf t n) ≡ 2) → (w : ℕ) → w ≡ nodeWord n m
@@ -241,64 +215,3 @@ into-definition t a d i slot s n en =
       },
       rw l,
     )
-
--- ---- as resolve_term needs it: k is the kind, r the right side's number, c the branches that the index has
-
-pub record Next (t : Table) (b n n' m i i' : ℕ) (slot slot' : List ℕ) : Type 0 where
-  pub lower : depthOf (termOf t n') < depthOf (termOf t n)
-  pub resolves : Resolves t b n' m i' slot'
-  pub same : resolvedInto t n' m i' slot' ≡ resolvedInto t n m i slot
-
-module _ (t : Table) (b n m i : ℕ) (slot : List ℕ) (s : Resolves t b n m i slot) (k : ℕ)
-    (ek : k ≡ kindOf (termOf t n)) where
-  pub choice-next-in : k ≡ 3 → n + 1 < termCount t
-  choice-next-in e = resolved-choice t n (s .within) (sym ek ∙ e) _ refl .left-in
-
-  module _ (r c : ℕ) (er : r ≡ n + 1 + leftSize (termOf t n)) where
-    pub go-left : k ≡ 3 → c ≡ capped (branches t (termOf t (n + 1))) → i < c → Next t b n (n + 1) m i i slot slot
-    go-left e ec h =
-        let x = resolved-choice t n (s .within) (sym ek ∙ e) r er in
-        let q = choice-left t b n m i slot s r c x ec h in
-        record { lower = x .left-lower; resolves = q .0; same = q .1 }
-
-    pub go-right : k ≡ 3 → c ≡ capped (branches t (termOf t (n + 1))) → c ≤ i → Next t b n r m i (i - c) slot slot
-    go-right e ec h =
-        let x = resolved-choice t n (s .within) (sym ek ∙ e) r er in
-        let q = choice-right t b n m i slot s r c x ec h in
-        record { lower = x .right-lower; resolves = q .0; same = q .1 }
-
-    pub par-next-in : k ≡ 4 → (n + 1 < termCount t) × (r < termCount t)
-    par-next-in e = let x = resolved-par t n (s .within) (sym ek ∙ e) r er in (x .left-in, x .right-in)
-
-    module _ (e : k ≡ 4) (ec : c ≡ capped (branches t (termOf t r))) where
-      pub par-room : (0 < c) × (getD slot 0 0 < 15)
-      par-room = par-divides t b n m i slot s r c _ (resolved-par t n (s .within) (sym ek ∙ e) r er) ec refl
-
-      module _ (w : ℕ) (ew : w ≡ nodeWord n m) (s0 : List ℕ) (es : s0 ≡ pushed slot w) where
-        pub par-first : (depthOf (termOf t (n + 1)) < depthOf (termOf t n)) × Resolves t b (n + 1) m (i / c) s0
-        par-first =
-            let x = resolved-par t n (s .within) (sym ek ∙ e) r er in
-            rw es (x .left-lower, par-left t b n m i slot s r c w x ec ew)
-
-        pub par-second : (s1 : List ℕ) → s1 ≡ resolvedInto t (n + 1) m (i / c) s0 → Next t b n r m i (i % c) slot s1
-        par-second s1 e1 =
-            let x = resolved-par t n (s .within) (sym ek ∙ e) r er in
-            let q = par-right t b n m i slot s r c w x ec ew s1 (rw es at e1) in
-            record { lower = x .right-lower; resolves = q .0; same = q .1 }
-
-  pub go-call : k ≡ 5 → (d : ℕ) → d ≡ calledOf (termOf t n) → (d < b) × ResolvesDefinition t d i slot
-      × (definitionInto t d i slot ≡ resolvedInto t n m i slot)
-  go-call e d ed = into-call t b n m i slot s d (resolved-call t n (sym ek ∙ e) d ed)
-
-  pub go-leaf : (k ≡ 0) ⊎ (k ≡ 2) → (w : ℕ) → w ≡ nodeWord n m → (getD slot 0 0 < 15)
-      × (pushed slot w ≡ resolvedInto t n m i slot)
-  go-leaf h = into-leaf t b n m i slot s (rw ek at h)
-
-  pub go-none : {A : Type 0} → (k ≡ 1) ⊎ (6 ≤ k) → A
-  go-none h = into-none t b n m i slot s (rw ek at h)
-
-pub beyond : (k : ℕ) → ((k ≡ 0) ⊎ (k ≡ 2) → ⊥) → (k ≡ 3 → ⊥) → (k ≡ 4 → ⊥) → (k ≡ 5 → ⊥) → (k ≡ 1 → ⊥) → 6 ≤ k
-beyond k f a b c d =
-    let f0 : k ≡ 0 → ⊥ = λ e. f (inl e) in
-    let f2 : k ≡ 2 → ⊥ = λ e. f (inr e) in
-    omega arith

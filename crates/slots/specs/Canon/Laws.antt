@@ -23,7 +23,7 @@ use Rattle.slots.specs.declared.slots.Held.the-variants.{Count, Exceeded
 use Rattle.slots.specs.Holding.{Outcome, said, putOne, chain, putAll}
 use Rattle.slots.specs.Canon.{byOrder, insertSlot, canonFrom, joined, areaOf, Slots}
 use Rattle.slots.specs.Canon.Sets.{Sorted, insert-slots, insert-sorted}
-use Rattle.slots.specs.Canon.Places.{placeAmong, place-in, Split, split-at, held-same}
+use Rattle.slots.specs.Canon.Places.{placeAmong, place-in, Split, split-place, held-same}
 
 -- ---- the words of an area
 
@@ -113,7 +113,7 @@ module _ (most : ℕ) (xs : List (List ℕ)) (s : List ℕ) (v : Slots xs) (u : 
 
   module _ (i : ℕ) (e : placeAmong xs s 0 ≡ place.At i) where
     d : Split xs s 0 i
-    d = split-at xs s 0 i e
+    d = split-place xs s 0 i e
 
     parts : Slots (d .a) × Slots (d .b)
     parts = slots-append (d .a) (d .b) (rw (d .whole) at v)

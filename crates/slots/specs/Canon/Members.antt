@@ -9,8 +9,7 @@ use mathlib.Core.Path.{_≡_, refl, ap}
 use mathlib.Core.Logic.{_⊎_, inl, inr, ⊎-elim}
 use mathlib.Core.List.{List, [], _∷_, _++_, map}
 use lib.ListN.{length}
-use Rattle.slots.specs.Canon.{Slots}
-use Rattle.slots.specs.Canon.Sets.{Mem, SameMembers}
+use Rattle.slots.specs.Canon.{Slots, Mem, SameMembers}
 
 abbrev pub Sub : List (List ℕ) → List (List ℕ) → Type 0
 Sub a b = (z : List ℕ) → Mem z a → Mem z b

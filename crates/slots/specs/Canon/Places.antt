@@ -1,6 +1,6 @@
 -- The place of a slot among those that an area holds is its place in the list of them.
 --     placeAmong                 the place by the list
---     Split, split-at            what a place says of the list
+--     Split, split-place         what a place says of the list
 --     held-same                  a slot that is held
 --     place-in                   among ascending slots the last may be looked at first and the search be narrowed
 -- Assumes nothing.
@@ -101,10 +101,10 @@ split-by above y ys s i j eo e ih =
       put = rw eo (ap (λ (l : List (List ℕ)). y ∷ l) (r .put));
     }
 
-pub split-at : (xs : List (List ℕ)) (s : List ℕ) (i j : ℕ) → placeAmong xs s i ≡ place.At j → Split xs s i j
+pub split-place : (xs : List (List ℕ)) (s : List ℕ) (i j : ℕ) → placeAmong xs s i ≡ place.At j → Split xs s i j
 unfolding placeAmong insertSlot
-split-at [] s i j e = record { a = []; b = []; whole = refl; count = omega (arith, at-inj e); put = refl }
-split-at (y ∷ ys) s i j e = split-by (order 16 y 0 s 0) y ys s i j refl e (split-at ys s (i + 1) j)
+split-place [] s i j e = record { a = []; b = []; whole = refl; count = omega (arith, at-inj e); put = refl }
+split-place (y ∷ ys) s i j e = split-by (order 16 y 0 s 0) y ys s i j refl e (split-place ys s (i + 1) j)
 
 held-by : (o : Order) (y : List ℕ) (ys : List (List ℕ)) (s : List ℕ) (i : ℕ) → order 16 y 0 s 0 ≡ o
     → placeBy o (place.At i) (placeAmong ys s (i + 1)) ≡ place.Held

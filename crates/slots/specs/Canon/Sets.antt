@@ -1,6 +1,7 @@
 -- Slots put in one after the other: what comes out depends on the members only.
---     Mem, SameMembers, AllAbove, Sorted        a member of a list; the same members; ascending slots
---     insert-slots, insert-sorted, canon-members     one slot more; equal members, equal slots
+--     AllAbove, Sorted                 slots after a slot; ascending slots
+--     insert-slots, insert-sorted      one slot more
+--     unique, canon-members            equal members, equal slots
 -- Assumes nothing.
 use Prim.Native.Nat.{ℕ}
 use mathlib.Core.Path.{_≡_, refl, ap, sym, _∙_}
@@ -8,18 +9,11 @@ use mathlib.Core.Logic.{_⊎_, inl, inr}
 use mathlib.Core.List.{List, [], _∷_}
 use lib.ListN.{length}
 use Rattle.slots.specs.Slots.{Order, below, same, above, order}
-use Rattle.slots.specs.Canon.{byOrder, insertSlot, canonFrom, Slots}
+use Rattle.slots.specs.Canon.{byOrder, insertSlot, canonFrom, Slots, Mem}
 use Rattle.slots.specs.Canon.Compare.{cmp, order-cmp, above-same, below-above, cmp-same, cmp-refl, cmp-trans}
 use Rattle.slots.specs.Canon.Compare.{cmp-above-below, cmp-below-above}
 
--- ---- members
-
-abbrev pub Mem : List ℕ → List (List ℕ) → Type 0
-Mem z [] = ⊥
-Mem z (x ∷ l) = (z ≡ x) ⊎ Mem z l
-
-abbrev pub SameMembers : List (List ℕ) → List (List ℕ) → Type 0
-SameMembers a b = ((z : List ℕ) → Mem z a → Mem z b) × ((z : List ℕ) → Mem z b → Mem z a)
+-- ---- ascending slots
 
 abbrev pub AllAbove : List ℕ → List (List ℕ) → Type 0
 AllAbove a [] = Unit

@@ -20,7 +20,7 @@ use Rattle.table.specs.declared.answer.Judged.{Judged}
 use Rattle.table.specs.declared.answer.Judged.the-variants.{Accepted, Declined}
 use Rattle.table.specs.declared.answer.Refusal.{Refusal}
 use Rattle.index.specs.Facts.{indexed-rules}
-use Rattle.meaning.specs.Figure1.{count, last}
+use Rattle.meaning.specs.Figure1.{bodyCount, last}
 use Rattle.slots.specs.declared.slots.Held.{Held}
 use Rattle.slots.specs.declared.slots.Held.the-variants.{Count, Exceeded}
 use Rattle.slots.specs.Holding.{Outcome, said, countOf, putAll, Gave}
@@ -96,11 +96,11 @@ full Exceeded = 1
 module _ {l w : List ℕ} (x : Indexed l w) (d n : ℕ) (en : n ≡ length (tableIn l .definitions)) (pos : 1 ≤ n)
     (ed : d ≡ n - 1) where
   is-last : d ≡ last (tableIn l)
-  unfolding count
+  unfolding bodyCount
   is-last = omega arith
 
   pub last-resolves : ResolvesAll (tableIn l) d
-  unfolding count
+  unfolding bodyCount
   last-resolves = rw is-last (record {
     known = omega arith;
     each = start-resolves (tableIn l) (indexed-rules x);
@@ -113,7 +113,7 @@ module _ {l w : List ℕ} (x : Indexed l w) (d n : ℕ) (en : n ≡ length (tabl
 
     -- how many slots there are decides
     start-room : (n : ℕ) → r ≡ Count n → length (slotsOf (residualsOf (tableIn l) [])) ≤ slotCount a
-    unfolding count
+    unfolding bodyCount
     start-room n e =
         elim (decLt (slotCount a) (length (slotsOf (residualsOf (tableIn l) [])))) [
           | yes h ↦
@@ -123,7 +123,7 @@ module _ {l w : List ℕ} (x : Indexed l w) (d n : ℕ) (en : n ≡ length (tabl
         ]
 
     start-full : r ≡ Exceeded → slotCount a < length (slotsOf (residualsOf (tableIn l) []))
-    unfolding count
+    unfolding bodyCount
     start-full e =
         elim (decLt (slotCount a) (length (slotsOf (residualsOf (tableIn l) [])))) [
           | yes h ↦ h
@@ -135,7 +135,7 @@ module _ {l w : List ℕ} (x : Indexed l w) (d n : ℕ) (en : n ≡ length (tabl
     module _ (b' : List ℕ) (eb : b' ≡ zeros (length b)) where
       pub started-given : (n : ℕ) → r ≡ Count n → (s : code.State) → StartRecord n (stateOf s)
           → Started (tableIn l) a b (Given s) a1 b'
-      unfolding startAccepted count
+      unfolding startAccepted bodyCount
       started-given n er s f =
           let room = start-room n er in
           let o = start-gave ∙ start-holds (tableIn l) (indexed-rules x) (slotCount a) room in

@@ -16,7 +16,7 @@ use Rattle.residual.specs.Distinct.{window, empty}
 use Rattle.walk.specs.Walk.{results, onto}
 use Rattle.slots.specs.Holding.{said, putAll}
 use Rattle.slots.specs.Holding.Laws.{put-none, put-then, put-stop}
-use Rattle.slots.specs.Canon.Sets.{SameMembers}
+use Rattle.slots.specs.Canon.{SameMembers}
 use Rattle.slots.specs.Canon.Members.{same-refl, same-trans, same-append}
 use Rattle.step.specs.Stepped.{slotNodes, gathered, Source, StepsOne, SteppedOne, SteppedSet}
 

@@ -35,7 +35,7 @@ use Rattle.step.specs.Prepared.{Sound, Fills}
 use Rattle.step.specs.Prepared.Below.{nodes-same, window-of-prefix}
 use Rattle.step.specs.Stepped.{slotNodes, StepsOne, steppedOne, SteppedOne}
 use Rattle.moves.specs.Moving.{StepsMoves, steppedMoves}
-use Rattle.slots.specs.Canon.Sets.{SameMembers}
+use Rattle.slots.specs.Canon.{SameMembers}
 use Rattle.slots.specs.Canon.Members.{same-refl, same-sym, same-map}
 use Rattle.moves.specs.Members.{short-of, same-after}
 use Rattle.step.specs.Successors.Laws.{results-of}

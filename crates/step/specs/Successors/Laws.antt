@@ -12,7 +12,7 @@ use lib.ListN.{length, replicate, length-replicate}
 use Rattle.table.specs.Table.{Table}
 use Rattle.slots.specs.declared.slots.Held.the-variants.{Count, Exceeded}
 use Rattle.residual.specs.Residual.{Residual, words, after, pushAll}
-use Rattle.residual.specs.Residual.Into.{length-pushAll}
+use Rattle.residual.specs.Residual.Pushed.{length-pushAll}
 use Rattle.residual.specs.Distinct.{empty}
 use Rattle.walk.specs.Walk.{results, joins, onto}
 use Rattle.slots.specs.Holding.{said, putAll}
@@ -20,9 +20,9 @@ use Rattle.walk.specs.Walk.Results.{onto-append}
 use Rattle.walk.specs.Forest.{Valid, afterKept}
 use Rattle.walk.specs.Forest.Results.{results-moved}
 use Rattle.step.specs.Stepped.{gathered, SoundSlot, Source}
-use Rattle.slots.specs.Canon.{canonFrom, joined, areaOf, Slots}
+use Rattle.slots.specs.Canon.{canonFrom, joined, areaOf, Slots, SameMembers}
 use Rattle.slots.specs.Canon.Laws.{put-canon, put-exceeded-canon}
-use Rattle.slots.specs.Canon.Sets.{SameMembers, canon-members}
+use Rattle.slots.specs.Canon.Sets.{canon-members}
 use Rattle.slots.specs.Canon.Members.{sub-map, slots-in}
 use Rattle.moves.specs.Members.{Short, short-of, same-after, append-both}
 use Rattle.step.specs.Successors.{Holds, allAfter, allKept, slotsOf, canon}

@@ -21,7 +21,7 @@ use Rattle.slots.specs.Canon.Compare.{stepOrder, order-step, order-tail}
 use Rattle.step.specs.Successors as words
 use Rattle.monitor_spec.specs.Regular.Laws.{regular}
 use Rattle.monitor_spec.specs.Residual.{Residual}
-use Rattle.monitor_spec.specs.Slots.{Order, below, same, above, slotOf, compareWords, insert, canon, slotsOf}
+use Rattle.monitor_spec.specs.Slots.{Order, below, same, above, slotOf, compareWords, insertSorted, canon, slotsOf}
 use Rattle.monitor_spec.specs.Slots.Canonical.{canon-snoc, in-insert, all-of, of-all}
 use Rattle.monitor_spec.specs.State.{fill}
 use Rattle.monitor_spec.specs.State.Areas.{Sixteen}
@@ -71,17 +71,17 @@ insert-by slots.below a b c = refl
 insert-by slots.same a b c = refl
 insert-by slots.above a b c = refl
 
-pub insert-low : (s : List ℕ) (xs : List (List ℕ)) → Sixteen s → All Sixteen xs → insertSlot s xs ≡ insert s xs
-unfolding insertSlot insert
+pub insert-low : (s : List ℕ) (xs : List (List ℕ)) → Sixteen s → All Sixteen xs → insertSlot s xs ≡ insertSorted s xs
+unfolding insertSlot insertSorted
 insert-low s [] es h = refl
 insert-low s (x ∷ xs) es h =
     insert-by (slots.order 16 x 0 s 0) (s ∷ x ∷ xs) (x ∷ xs) (x ∷ insertSlot s xs)
     ∙ ap₂ (λ (o : Order) (l : List (List ℕ)). elim o as (λ x. List (List ℕ))
     [ below ↦ s ∷ x ∷ xs | same ↦ x ∷ xs | above ↦ x ∷ l ]) (order-low 16 x s (h .0) es) (insert-low s xs es (h .1))
 
-insert-sixteen : (s : List ℕ) (xs : List (List ℕ)) → Sixteen s → All Sixteen xs → All Sixteen (insert s xs)
+insert-sixteen : (s : List ℕ) (xs : List (List ℕ)) → Sixteen s → All Sixteen xs → All Sixteen (insertSorted s xs)
 insert-sixteen s xs es h =
-    all-of Sixteen (insert s xs)
+    all-of Sixteen (insertSorted s xs)
     (λ a i. ⊎-elim (λ e. rw e es) (λ k. of-all Sixteen xs h a k) (in-insert a s xs .0 i))
 
 -- ---- all slots

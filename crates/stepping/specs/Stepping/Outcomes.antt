@@ -11,11 +11,11 @@ use lib.ListN.{length, replicate, length-map}
 use Rattle.numbers.specs.Every.{All}
 use Rattle.table.specs.Table.{Table}
 use Rattle.table.specs.Rules.{Rules}
-use Rattle.meaning.specs.Figure1.{count, last}
+use Rattle.meaning.specs.Figure1.{bodyCount, last}
 use Rattle.slots.specs.declared.slots.Held.the-variants.{Count, Exceeded}
 use Rattle.slots.specs.Holding.{said, putAll}
 use Rattle.residual.specs.Residual.{resolvedBelow}
-use Rattle.slots.specs.Canon.Sets.{SameMembers}
+use Rattle.slots.specs.Canon.{SameMembers}
 use Rattle.step.specs.Stepped.{gathered, Source}
 use Rattle.slots.specs.Canon.Laws.{put-canon, put-exceeded-canon}
 use Rattle.step.specs.Successors.{Holds, allAfter}
@@ -74,7 +74,7 @@ module _ (t : Table) (rules : Rules t) (rs : List Residual) (proper : All (Prope
 -- ---- the last definition
 
 module _ (t : Table) (rules : Rules t) where
-  first-is : resolvedBelow t (count t) (last t) ≡ map low (residualsOf t [])
+  first-is : resolvedBelow t (bodyCount t) (last t) ≡ map low (residualsOf t [])
   unfolding residualsOf fromDefinition run
   first-is = let l = regular t rules .some-definition in below-low t rules (last t) (omega arith)
 
@@ -83,22 +83,22 @@ module _ (t : Table) (rules : Rules t) where
   first-proper =
       let l = regular t rules .some-definition in definition-proper t (regular t rules) (last t) (omega arith)
 
-  first-slots : words.canon (resolvedBelow t (count t) (last t)) ≡ slotsOf (residualsOf t [])
+  first-slots : words.canon (resolvedBelow t (bodyCount t) (last t)) ≡ slotsOf (residualsOf t [])
   first-slots = ap words.canon first-is ∙ canon-low t rules (residualsOf t []) first-proper
 
   pub first-holds : (n : ℕ) → length (slotsOf (residualsOf t [])) ≤ n
-      → putAll (fill n []) 0 (words.slotsOf (resolvedBelow t (count t) (last t)))
+      → putAll (fill n []) 0 (words.slotsOf (resolvedBelow t (bodyCount t) (last t)))
       ≡ said (Count (length (slotsOf (residualsOf t [])))) (fill n (slotsOf (residualsOf t [])))
   unfolding words.canon
   first-holds n h =
-      rw (← area-low n [], ← first-slots, ← area-low n (words.canon (resolvedBelow t (count t) (last t))))
-      (put-canon n [] (words.slotsOf (resolvedBelow t (count t) (last t))) tt tt
-      (slots-of-slots (resolvedBelow t (count t) (last t))) (omega arith) (rw first-slots h))
+      rw (← area-low n [], ← first-slots, ← area-low n (words.canon (resolvedBelow t (bodyCount t) (last t))))
+      (put-canon n [] (words.slotsOf (resolvedBelow t (bodyCount t) (last t))) tt tt
+      (slots-of-slots (resolvedBelow t (bodyCount t) (last t))) (omega arith) (rw first-slots h))
 
   pub first-exceeds : (n : ℕ) → n < length (slotsOf (residualsOf t []))
-      → (putAll (fill n []) 0 (words.slotsOf (resolvedBelow t (count t) (last t)))) .held ≡ Exceeded
+      → (putAll (fill n []) 0 (words.slotsOf (resolvedBelow t (bodyCount t) (last t)))) .held ≡ Exceeded
   unfolding words.canon
   first-exceeds n h =
       rw (← area-low n [])
-      (put-exceeded-canon n [] (words.slotsOf (resolvedBelow t (count t) (last t))) tt tt
-      (slots-of-slots (resolvedBelow t (count t) (last t))) (omega arith) (rw first-slots h))
+      (put-exceeded-canon n [] (words.slotsOf (resolvedBelow t (bodyCount t) (last t))) tt tt
+      (slots-of-slots (resolvedBelow t (bodyCount t) (last t))) (omega arith) (rw first-slots h))

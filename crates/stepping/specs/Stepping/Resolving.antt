@@ -13,7 +13,7 @@ use Rattle.table.specs.Branches.{bodyIn}
 use Rattle.table.specs.Node.{termOf}
 use Rattle.table.specs.Node.Numbers.{term-at}
 use Rattle.table.specs.Rules.{Rules}
-use Rattle.meaning.specs.Figure1.{count}
+use Rattle.meaning.specs.Figure1.{bodyCount}
 use Rattle.residual.specs.Residual as step
 use Rattle.residual.specs.Residual.Resolved.{below-here, below-there}
 use Rattle.residual.specs.Lawful.{Below, lawful-rules}
@@ -53,17 +53,17 @@ resolve-low f g b h (par r p q) w n k m e =
 resolve-low f g b h (call d) w n k m e = h d w
 
 module _ (t : Table) (rules : Rules t) where
-  body-low : (f : ℕ → List step.Residual) (g : ℕ → List Residual) (d : ℕ) → d < count t
+  body-low : (f : ℕ → List step.Residual) (g : ℕ → List Residual) (d : ℕ) → d < bodyCount t
       → ((i : ℕ) → i < d → f i ≡ map low (g i))
       → step.resolve f (bodyNumber t d) 0 (bodyIn (t .definitions) d)
       ≡ map low (resolveIn g (bodyOf t d) (bodyNumber t d) noMemory)
-  unfolding count packed bodyIn bodyOf
+  unfolding bodyCount packed bodyIn bodyOf
   body-low f g d l h =
       resolve-low f g d h (bodyIn (t .definitions) d) (lawful-rules t rules .lower d l) (bodyNumber t d)
       (bodyNumber t d) noMemory refl
 
   -- any two bounds above d
-  bound-low : (b c d : ℕ) → d < b → d < c → d < count t → step.resolvedBelow t b d ≡ map low (resolveDef t c d)
+  bound-low : (b c d : ℕ) → d < b → d < c → d < bodyCount t → step.resolvedBelow t b d ≡ map low (resolveDef t c d)
   unfolding resolveDef
   bound-low zero c d h k l = absurd (omega arith)
   bound-low (suc b) zero d h k l = absurd (omega arith)
@@ -76,13 +76,14 @@ module _ (t : Table) (rules : Rules t) where
         | no e ↦ below-there t b d e ∙ bound-low b (suc c) d (omega arith) k l
       ]
 
-  pub below-low : (d : ℕ) → d < count t → step.resolvedBelow t (count t) d ≡ map low (resolveDef t (count t) d)
-  below-low d h = bound-low (count t) (count t) d h h h
+  pub below-low : (d : ℕ) → d < bodyCount t
+      → step.resolvedBelow t (bodyCount t) d ≡ map low (resolveDef t (bodyCount t) d)
+  below-low d h = bound-low (bodyCount t) (bodyCount t) d h h h
 
   pub resolved-low : (n : ℕ) (m : Memory) → n < termCount t
       → step.resolved t n (packed m) ≡ map low (resolve t n m)
-  unfolding step.resolved count
+  unfolding step.resolved bodyCount
   resolved-low n m h =
-      resolve-low (step.resolvedBelow t (count t)) (resolveDef t (count t)) (count t) below-low (termOf t n)
+      resolve-low (step.resolvedBelow t (bodyCount t)) (resolveDef t (bodyCount t)) (bodyCount t) below-low (termOf t n)
       (lawful-rules t rules .named n h) n n m refl
       ∙ ap (map low) (sym (resolve-at t n m (termOf t n) (term-at t n h)))

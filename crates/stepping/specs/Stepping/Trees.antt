@@ -14,7 +14,7 @@ use Rattle.numbers.specs.Every.{All, all-imp}
 use Rattle.table.specs.Table.{Table}
 use Rattle.table.specs.Memory.{noMemory}
 use Rattle.table.specs.Rules.{Rules}
-use Rattle.meaning.specs.Figure1.{count, last}
+use Rattle.meaning.specs.Figure1.{bodyCount, last}
 use Rattle.meaning.specs.Formed.{all-at}
 use Rattle.meaning.specs.Some.{all-map}
 use Rattle.walk.specs.declared.nodes.Tree.{Tree}
@@ -91,18 +91,19 @@ module _ (t : Table) (rules : Rules t) where
   -- ---- the last definition
 
   -- each of its residuals fits a slot
-  definition-short : (d : ℕ) → d < count t → All (λ r. length (words r) ≤ 15) (resolvedBelow t (count t) d)
+  definition-short : (d : ℕ) → d < bodyCount t → All (λ r. length (words r) ≤ 15) (resolvedBelow t (bodyCount t) d)
   definition-short d h =
       rw (below-low t rules d h)
-      (all-map (λ r. length (words r) ≤ 15) low (resolveDef t (count t) d)
+      (all-map (λ r. length (words r) ≤ 15) low (resolveDef t (bodyCount t) d)
       (all-imp (Proper t) (λ r. length (words (low r)) ≤ 15)
-      (λ r p. omega (arith, nodes-most t (regular t rules) r p, ap length (words-low r))) (resolveDef t (count t) d)
+      (λ r p. omega (arith, nodes-most t (regular t rules) r p, ap length (words-low r))) (resolveDef t (bodyCount t) d)
       (definition-proper t (regular t rules) d h)))
 
-  pub resolves-low : (i : ℕ) → i < length (resolvedBelow t (count t) (last t)) → ResolvesDefinition t (last t) i empty
-  unfolding count nth
+  pub resolves-low : (i : ℕ) → i < length (resolvedBelow t (bodyCount t) (last t))
+      → ResolvesDefinition t (last t) i empty
+  unfolding bodyCount nth
   resolves-low i h =
       let l = rules .fields .definitions-least in
-      let s = all-at (λ r. length (words r) ≤ 15) (step.leaf 0 0) (resolvedBelow t (count t) (last t)) i
+      let s = all-at (λ r. length (words r) ≤ 15) (step.leaf 0 0) (resolvedBelow t (bodyCount t) (last t)) i
       (definition-short (last t) (omega arith)) h in
       record { known = omega arith; index = h; room = omega arith; whole = refl }

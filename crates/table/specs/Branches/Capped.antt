@@ -14,7 +14,7 @@ use mathlib.Core.List.{List, [], _∷_, _++_, map, map-append}
 use lib.ListN.{length, getD, length-map, List·getD-map}
 use Rattle.table.specs.Grow.{grow}
 use Rattle.table.specs.Table.{Term, stop, fail, prefix, choice, par, call, Definition, Table}
-use Rattle.table.specs.Branches.{branchesWith, lookup, bodyIn, nextBranches, allBranches, branches}
+use Rattle.table.specs.Branches.{branchesWith, branchesAt, bodyIn, nextBranches, allBranches, branches}
 
 unfoldable pub capped : ℕ → ℕ
 capped n = min 257 n
@@ -28,7 +28,7 @@ cappedWith calls (par r p q) = capped (cappedWith calls p * cappedWith calls q)
 cappedWith calls (call d) = calls d
 
 unfoldable pub nextCapped : List Definition → List ℕ → ℕ
-nextCapped ds lower = cappedWith (lookup lower) (bodyIn ds (length lower))
+nextCapped ds lower = cappedWith (branchesAt lower) (bodyIn ds (length lower))
 
 unfoldable pub allCapped : List Definition → List ℕ
 allCapped ds = grow (nextCapped ds) (length ds)
@@ -86,17 +86,17 @@ capped-branches calls cut f (par r p q) =
     ∙ sym (capped-mul (branchesWith calls p) (branchesWith calls q))
 capped-branches calls cut f (call d) = f d
 
-capped-lookup : (l : List ℕ) (d : ℕ) → lookup (map capped l) d ≡ capped (lookup l d)
-unfolding lookup
-capped-lookup [] d = unfold capped in omega arith
-capped-lookup (x ∷ l) zero = refl
-capped-lookup (x ∷ l) (suc d) = unfold lookup in capped-lookup l d
+capped-at : (l : List ℕ) (d : ℕ) → branchesAt (map capped l) d ≡ capped (branchesAt l d)
+unfolding branchesAt
+capped-at [] d = unfold capped in omega arith
+capped-at (x ∷ l) zero = refl
+capped-at (x ∷ l) (suc d) = unfold branchesAt in capped-at l d
 
 capped-next : (ds : List Definition) (l : List ℕ) → nextCapped ds (map capped l) ≡ capped (nextBranches ds l)
 unfolding nextCapped nextBranches
 capped-next ds l =
     rw (length-map l capped)
-    (capped-branches (lookup l) (lookup (map capped l)) (capped-lookup l) (bodyIn ds (length l)))
+    (capped-branches (branchesAt l) (branchesAt (map capped l)) (capped-at l) (bodyIn ds (length l)))
 
 pub capped-grow : (ds : List Definition) (n : ℕ) → grow (nextCapped ds) n ≡ map capped (grow (nextBranches ds) n)
 unfolding grow
@@ -111,9 +111,10 @@ pub capped-all : (ds : List Definition) → allCapped ds ≡ map capped (allBran
 unfolding allCapped allBranches
 capped-all ds = capped-grow ds (length ds)
 
-pub capped-term : (t : Table) (p : Term) → cappedWith (lookup (allCapped (t .definitions))) p ≡ capped (branches t p)
+pub capped-term : (t : Table) (p : Term)
+    → cappedWith (branchesAt (allCapped (t .definitions))) p ≡ capped (branches t p)
 unfolding branches
 capped-term t p =
     let all = allBranches (t .definitions) in
-    capped-branches (lookup all) (lookup (allCapped (t .definitions)))
-    (λ d. ap (λ (l : List ℕ). lookup l d) (capped-all (t .definitions)) ∙ capped-lookup all d) p
+    capped-branches (branchesAt all) (branchesAt (allCapped (t .definitions)))
+    (λ d. ap (λ (l : List ℕ). branchesAt l d) (capped-all (t .definitions)) ∙ capped-at all d) p

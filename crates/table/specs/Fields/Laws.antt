@@ -1,6 +1,7 @@
 -- The field rules are the bounds that the parser has: `Fields` against `TableOk`.
 --     ofRef-imp, ofRef-and, ofCall-imp    of a term's own reference
---     run-out, run-in, set-out, set-in    rows and sets
+--     run-out, run-in                     rows
+--     setOk-out, setOk-in                 sets
 --     fields-out, fields-in               tables
 -- Assumes nothing.
 use Prim.Native.Nat.{ℕ, zero, suc, _+_, _≤_, _<_}
@@ -86,10 +87,10 @@ pub record SetIs (A : ℕ) (s : SetDef) : Type 0 where
   pub events : EachRow (All (λ e. e < A)) s
   pub order : EachRow Ascending s
 
-pub set-out : (A : ℕ) (s : SetDef) → SetOk A s → SetIs A s
-set-out A (one r) h =
+pub setOk-out : (A : ℕ) (s : SetDef) → SetOk A s → SetIs A s
+setOk-out A (one r) h =
     let i = run-out A 0 r (h .1) in record { family-rows = tt; counts = h .0; events = i .below; order = i .order }
-set-out A (each rs) h =
+setOk-out A (each rs) h =
     record {
       family-rows = h .0;
       counts = all-imp (RowOk A) (λ r. length r ≤ A) (λ r k. k .0) rs (h .1);
@@ -100,9 +101,9 @@ set-out A (each rs) h =
 row-in : (A : ℕ) (r : List ℕ) → length r ≤ A → All (λ e. e < A) r → Ascending r → RowOk A r
 row-in A r c b o = (c, run-in A 0 r (record { above = all-least r; below = b; order = o }))
 
-pub set-in : (A : ℕ) (s : SetDef) → SetIs A s → SetOk A s
-set-in A (one r) i = row-in A r (i .counts) (i .events) (i .order)
-set-in A (each rs) i = (
+pub setOk-in : (A : ℕ) (s : SetDef) → SetIs A s → SetOk A s
+setOk-in A (one r) i = row-in A r (i .counts) (i .events) (i .order)
+setOk-in A (each rs) i = (
   i .family-rows,
   all-imp (λ r. (length r ≤ A) × (All (λ e. e < A) r × Ascending r)) (RowOk A)
       (λ r k. row-in A r (k .0) (k .1 .0) (k .1 .1)) rs
@@ -113,7 +114,7 @@ set-in A (each rs) i = (
 -- ---- tables
 of-sets : (t : Table) (w : TableOk t) (X : SetDef → Type 0) → ((s : SetDef) → SetIs (t .alphabet) s → X s)
     → All X (t .sets)
-of-sets t w X f = all-imp (SetOk (t .alphabet)) X (λ s h. f s (set-out (t .alphabet) s h)) (t .sets) (w .sets)
+of-sets t w X f = all-imp (SetOk (t .alphabet)) X (λ s h. f s (setOk-out (t .alphabet) s h)) (t .sets) (w .sets)
 
 of-bodies : (t : Table) (w : TableOk t) (X : Definition → Type 0) → ((d : Definition) → DefinitionOk (t .sets) d → X d)
     → All X (t .definitions)
@@ -157,7 +158,7 @@ sets-in : (A : ℕ) (ss : List SetDef) → All (FamilyRows A) ss → All (EachRo
     → All (EachRow Ascending) ss → All (SetOk A) ss
 sets-in A [] f c e o = tt
 sets-in A (s ∷ ss) f c e o = (
-  set-in A s (record {
+  setOk-in A s (record {
     family-rows = f .0;
     counts = c .0;
     events = e .0;

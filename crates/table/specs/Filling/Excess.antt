@@ -20,7 +20,7 @@ use Rattle.table.specs.First.Laws.{orElse-assoc, firstFalse-append, firs
 use Rattle.table.specs.Table.{Term, stop, fail, prefix, choice, par, call, Definition, Table, size, termCount}
 use Rattle.table.specs.Fields.{Fields}
 use Rattle.table.specs.Writing.{refNumbers, termNumbers, definitionNumbers}
-use Rattle.table.specs.Branches.{branchesWith, lookup, allBranches, branches}
+use Rattle.table.specs.Branches.{branchesWith, branchesAt, allBranches, branches}
 use Rattle.table.specs.Branches.{followerAbove, bodyAbove, tooManyBranches}
 use Rattle.table.specs.Branches.Capped.{capped}
 use Rattle.table.specs.Node.{Node, node, nodes, nodesFrom, nodesOf, definitionsAt, nodeAt, noNode, termOf}
@@ -62,7 +62,7 @@ module _ (t : Table) (w : List ℕ) (n : ℕ) (a : ExcessAsked t w n) where
 
 module _ (t : Table) where
   abbrev Calls : ℕ → ℕ
-  Calls = lookup (allBranches (t .definitions))
+  Calls = branchesAt (allBranches (t .definitions))
 
   abbrev Tests : List Node → List Bool
   Tests l = map (few t) l

@@ -25,7 +25,7 @@ use Rattle.table.specs.Filling.{Kept, storedCall, CallCounted, WidthsAsk
 use Rattle.table.specs.Filling.{LevelAsked, bodyWidth, BodyDone, LevelDone}
 use Rattle.table.specs.Filling.Kinds.{size-some}
 use Rattle.table.specs.Filling.Spans.{end-stored, body-whole}
-use Rattle.table.specs.Filling.Widths.{calls-kept}
+use Rattle.table.specs.Filling.OneWidth.{calls-kept}
 
 -- ---- a body
 

@@ -1,4 +1,4 @@
--- The grammar of sets: what `set` reads is what would be written, within its bounds, and the other way.
+-- The grammar of sets: what `eventSet` reads is what would be written, within its bounds, and the other way.
 --     Run, RowOk, SetOk           events, a row, a set within the bounds
 --     row-sound, row-complete     a row
 --     set-sound, set-complete     a set
@@ -18,7 +18,7 @@ use Rattle.table.specs.Tokens.Laws.{Follows, Between, follows-split, fol
 use Rattle.table.specs.Parser.{Result, got, refused, Parser, number, pure, andThen, times}
 use Rattle.table.specs.Parser.Laws.{pure-out, Split, then-out, then-in, number-out, number-in, Sound, Complete}
 use Rattle.table.specs.Parser.Laws.{Read, times-sound, times-complete}
-use Rattle.table.specs.Grammar.{events, row, setOfKind, set}
+use Rattle.table.specs.Grammar.{events, row, setOfKind, eventSet}
 use Rattle.table.specs.Writing.{rowNumbers, setNumbers}
 
 -- ---- rows
@@ -109,16 +109,16 @@ kind-sound A (suc k) b ts mid rest s f h =
           (subst (λ (n : ℕ). Follows (n ∷ []) ts mid) e f) (r .follows),
     )
 
-pub set-sound : (A : ℕ) → Sound (set A) (SetOk A) setNumbers
-unfolding set
+pub set-sound : (A : ℕ) → Sound (eventSet A) (SetOk A) setNumbers
+unfolding eventSet
 set-sound A ts rest s h =
     let a = then-out _ _ ts s rest h in
     let k = a .first in
     let one = number-out _ ts (a .middle) k (a .before) in
     kind-sound A k (leb→le k 1 (one .0)) ts (a .middle) rest s (one .1) (a .after)
 
-pub set-complete : (A : ℕ) → Complete (set A) (SetOk A) setNumbers
-unfolding set setOfKind setNumbers pure
+pub set-complete : (A : ℕ) → Complete (eventSet A) (SetOk A) setNumbers
+unfolding eventSet setOfKind setNumbers pure
 set-complete A ts rest (one r) h k =
     let s = follows-split (0 ∷ []) (rowNumbers r) ts rest k in
     then-in _ _ ts (s .middle) 0 _ (number-in _ ts (s .middle) 0 tt (s .front))

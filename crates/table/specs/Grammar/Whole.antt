@@ -20,7 +20,7 @@ use Rattle.table.specs.Tokens.Laws.{Follows, Between, follows-split, fol
 use Rattle.table.specs.Parser.{Result, got, refused, Parser, number, pure, andThen, times}
 use Rattle.table.specs.Parser.Laws.{pure-out, Split, then-out, then-in, number-out, number-in, Sound, Complete}
 use Rattle.table.specs.Parser.Laws.{Read, times-sound, times-complete}
-use Rattle.table.specs.Grammar.{set, termWith, definition, definitionsOf, table}
+use Rattle.table.specs.Grammar.{eventSet, termWith, definition, definitionsOf, table}
 use Rattle.table.specs.Grammar.Sets.{Run, RowOk, SetOk, set-sound, set-complete}
 use Rattle.table.specs.Grammar.Terms.{RefOk, ReadTerm, term-sound, term-complete}
 use Rattle.table.specs.Writing.{setNumbers, termNumbers, definitionNumbers, numbersOf}
@@ -139,7 +139,8 @@ table-ok-sound ts rest t h =
     let D = flatMap definitionNumbers ds in
     let na = number-out _ ts (a .middle) A (a .before) in
     let nb = number-out _ (a .middle) (b .middle) (b .first) (b .before) in
-    let rs = times-sound (set A) (SetOk A) setNumbers (set-sound A) (b .first) (b .middle) (s .middle) ss (s .before) in
+    let rs =
+    times-sound (eventSet A) (SetOk A) setNumbers (set-sound A) (b .first) (b .middle) (s .middle) ss (s .before) in
     let nc = number-out _ (s .middle) (c .middle) (c .first) (c .before) in
     let rd = definitions-sound ss (c .first) 0 (c .middle) (d .middle) ds (d .before) in
     let oka = both (leb 1 A) (leb A 64) (na .0) in
@@ -177,7 +178,7 @@ table-ok-complete ts rest t w f =
     (then-in _ _ (a .middle) (b .middle) (length (t .sets)) _
     (number-in _ (a .middle) (b .middle) (length (t .sets)) (le→leb (length (t .sets)) 64 (w .sets-most)) (b .front))
     (then-in _ _ (b .middle) (s .middle) (t .sets) _
-    (times-complete (set A) (SetOk A) setNumbers (set-complete A) (b .middle) (s .middle) (t .sets) (w .sets)
+    (times-complete (eventSet A) (SetOk A) setNumbers (set-complete A) (b .middle) (s .middle) (t .sets) (w .sets)
     (s .front))
     (then-in _ _ (s .middle) (c .middle) n _
     (number-in _ (s .middle) (c .middle) n

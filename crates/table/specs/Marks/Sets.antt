@@ -17,7 +17,7 @@ use Rattle.table.specs.Parser.{pure}
 use Rattle.table.specs.Parser.Mark.{Mark, mark}
 use Rattle.table.specs.Parser.Sees.{Sees, sees-iff, NumberR, sees-number, PureR, sees-pure}
 use Rattle.table.specs.Parser.SeesThen.{ThenR, sees-then}
-use Rattle.table.specs.Grammar.{events, row, setOfKind, set}
+use Rattle.table.specs.Grammar.{events, row, setOfKind, eventSet}
 use Rattle.table.specs.Marks.{eventMarks, rowMarks, setMarks}
 use Rattle.table.specs.Marks.Sequence.{join, last, Any, any-number, then-pure, ItemR, SeqR, sees-times}
 
@@ -182,8 +182,8 @@ sees-set-kind A (suc k) =
     sees-then (SeqR (Row' A) (rowMarks A) A) (λ rs. PureR (each rs)) _ _
     (sees-times (Row' A) (rowMarks A) (row A) (sees-row A) A) (λ rs M q. sees-pure (each rs))
 
-pub sees-set : (A : ℕ) → Sees (SetR A) (set A)
-unfolding set
+pub sees-set : (A : ℕ) → Sees (SetR A) (eventSet A)
+unfolding eventSet
 sees-set A =
     sees-iff (SetT A) (SetR A) _ (set-to A) (set-from A)
     (sees-then (NumberR (λ k. leb k 1) (λ k. k ≤ 1)) (SetKindR A) _ _

@@ -13,7 +13,7 @@ use Rattle.table.specs.Fields.{FamilyRows}
 use Rattle.table.specs.Parser.Mark.{Mark, mark}
 use Rattle.table.specs.Parser.Sees.{Sees, sees-iff, NumberR, PureR, sees-pure}
 use Rattle.table.specs.Parser.SeesThen.{ThenR, sees-then}
-use Rattle.table.specs.Grammar.{set, table}
+use Rattle.table.specs.Grammar.{eventSet, table}
 use Rattle.table.specs.Marks.{setMarks, definitionsMarks, tableMarks, Shape}
 use Rattle.table.specs.Marks.Sequence.{join, last, Any, any-number, then-pure, SeqR, sees-times}
 use Rattle.table.specs.Marks.Sets.{sees-set}
@@ -127,7 +127,7 @@ sees-table =
     (sees-then (NumberR alphabetOk Any) (λ a. T2 a) _ _ (any-number alphabetOk) (λ a M r.
     sees-then (NumberR setsOk Any) (λ c. T3 a c) _ _ (any-number setsOk) (λ c M r.
     sees-then (SeqR (FamilyRows a) (setMarks a) c) (λ ss. T4 a ss) _ _
-    (sees-times (FamilyRows a) (setMarks a) (set a) (sees-set a) c) (λ ss M r.
+    (sees-times (FamilyRows a) (setMarks a) (eventSet a) (sees-set a) c) (λ ss M r.
     sees-then (NumberR definitionsOk Any) (λ c. T5 a ss c) _ _ (any-number definitionsOk) (λ c M r.
     sees-then (DefinitionsR ss c 0) (λ ds. PureR (made a ss ds)) _ _ (sees-definitions ss c 0) (λ ds M r.
     sees-pure (made a ss ds)))))))

@@ -1,6 +1,6 @@
 -- A table's parts, one after another, at their places in a number list: what each says of the whole (01, "Numbers and
 -- table", "When the monitor declines": 3, 5, 6).
---     alphabetOk, setCountOk, definitionCountOk   the bounds of the three counts
+--     alphabetOk, setCountOk, bodyCountOk   the bounds of the three counts
 --     Header                                      the alphabet and the sets were read, and stand in the work area
 --     stop-1 .. stop-5, more-left, whole          the judgement where a part is refused, where input is left over, and
 --                                                 the table where all were read
@@ -19,7 +19,7 @@ use Rattle.table.specs.Tokens.{Tokens, token, listTokens, tokensAt, trai
 use Rattle.table.specs.Parser.{Result, got, refused, number, pure, andThen, times}
 use borrow.Author.Tests.{le-leb, lt-leb}
 use Rattle.table.specs.Parser.Steps.{tokens-in, number-got, number-off, number-short, then-got, then-stop}
-use Rattle.table.specs.Grammar.{set, definitionsOf, table}
+use Rattle.table.specs.Grammar.{eventSet, definitionsOf, table}
 use Rattle.table.specs.Judge.{declined, unlessMet, judgeRead, judge}
 use Rattle.table.specs.Index.{setsIn, setsGot, tableIn, tableGot}
 use Rattle.table.specs.Parse.{SetsReady, SetsFound}
@@ -31,8 +31,8 @@ alphabetOk a = leb 1 a && leb a 64
 abbrev pub setCountOk : ℕ → Bool
 setCountOk c = leb c 64
 
-abbrev pub definitionCountOk : ℕ → Bool
-definitionCountOk c = leb 1 c && leb c 32
+abbrev pub bodyCountOk : ℕ → Bool
+bodyCountOk c = leb 1 c && leb c 32
 
 -- a parser's refusal is the judgement
 pub stopped : (l : List ℕ) (n at : ℕ) → table (listTokens 0 l) ≡ refused n at → judge (listTokens 0 l) ≡ declined n at
@@ -57,23 +57,24 @@ module _ (l : List ℕ) where
     stop-2 n at e = stopped l n at (then-got _ _ _ first (then-stop _ _ _ e))
 
     module _ (c : ℕ) (e₂ : number setCountOk (tokensAt l 1) ≡ got c (tokensAt l 2)) where
-      pub stop-3 : (n at : ℕ) → times c (set a) (tokensAt l 2) ≡ refused n at → judge (listTokens 0 l) ≡ declined n at
+      pub stop-3 : (n at : ℕ) → times c (eventSet a) (tokensAt l 2) ≡ refused n at
+          → judge (listTokens 0 l) ≡ declined n at
       unfolding table
       stop-3 n at e = stopped l n at (then-got _ _ _ first (then-got _ _ _ e₂ (then-stop _ _ _ e)))
 
       -- the sets that were read are those of the list
-      pub sets-in : (ss : List SetDef) (ts : Tokens) → times c (set a) (tokensAt l 2) ≡ got ss ts → setsIn l ≡ ss
+      pub sets-in : (ss : List SetDef) (ts : Tokens) → times c (eventSet a) (tokensAt l 2) ≡ got ss ts → setsIn l ≡ ss
       unfolding setsIn
       sets-in ss ts e = ap setsGot (then-got _ _ _ first (then-got _ _ _ e₂ e))
 
-      module _ (ss : List SetDef) (j : ℕ) (e₃ : times c (set a) (tokensAt l 2) ≡ got ss (tokensAt l j)) where
-        pub stop-4 : (n at : ℕ) → number definitionCountOk (tokensAt l j) ≡ refused n at
+      module _ (ss : List SetDef) (j : ℕ) (e₃ : times c (eventSet a) (tokensAt l 2) ≡ got ss (tokensAt l j)) where
+        pub stop-4 : (n at : ℕ) → number bodyCountOk (tokensAt l j) ≡ refused n at
             → judge (listTokens 0 l) ≡ declined n at
         unfolding table
         stop-4 n at e =
             stopped l n at (then-got _ _ _ first (then-got _ _ _ e₂ (then-got _ _ _ e₃ (then-stop _ _ _ e))))
 
-        module _ (d k : ℕ) (e₄ : number definitionCountOk (tokensAt l j) ≡ got d (tokensAt l k)) where
+        module _ (d k : ℕ) (e₄ : number bodyCountOk (tokensAt l j) ≡ got d (tokensAt l k)) where
           pub stop-5 : (n at : ℕ) → definitionsOf ss d 0 (tokensAt l k) ≡ refused n at
               → judge (listTokens 0 l) ≡ declined n at
           unfolding table
@@ -109,7 +110,7 @@ pub record Header (l w : List ℕ) (count at : ℕ) : Type 0 where
   pub some : 1 ≤ length l
   pub alphabet : number alphabetOk (tokensAt l 0) ≡ got (getD l 0 0) (tokensAt l 1)
   pub counts : number setCountOk (tokensAt l 1) ≡ got (getD l 1 0) (tokensAt l 2)
-  pub parsed : times (getD l 1 0) (set (getD l 0 0)) (tokensAt l 2) ≡ got (setsIn l) (tokensAt l at)
+  pub parsed : times (getD l 1 0) (eventSet (getD l 0 0)) (tokensAt l 2) ≡ got (setsIn l) (tokensAt l at)
   pub ready : SetsReady l w count
   pub within : at ≤ length l
 

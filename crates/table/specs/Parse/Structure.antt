@@ -21,7 +21,7 @@ use Rattle.table.specs.Writing.{setNumbers}
 use Rattle.table.specs.Node.{nodesFrom, definitionsAt, nodesOf, nodeAt, noNode}
 use Rattle.table.specs.Index.{SetsIndexed, Structured, Placed, setsIn, tableIn}
 use Rattle.table.specs.Parse.{SetsReady, DefinitionsFound, Whole}
-use Rattle.table.specs.Parse.Header.{Header, definitionCountOk, whole, table-in, ended-tokens}
+use Rattle.table.specs.Parse.Header.{Header, bodyCountOk, whole, table-in, ended-tokens}
 
 abbrev rooted : List ℕ → ℕ → ℕ → List ℕ
 rooted w d n = lib.ListN.set w (7232 + d) n
@@ -84,16 +84,16 @@ place-of i j (x ∷ l) (y ∷ m) e = cc
 
 -- the sets end where their numbers do
 sets-end : (l : List ℕ) (A c at : ℕ) (ss : List SetDef)
-    → times c (grammar.set A) (tokensAt l 2) ≡ got ss (tokensAt l at)
+    → times c (grammar.eventSet A) (tokensAt l 2) ≡ got ss (tokensAt l at)
     → at ≡ 2 + length (flatMap setNumbers ss)
 unfolding tokensAt
 sets-end l A c at ss e =
-    let r = times-sound (grammar.set A) (SetOk A) setNumbers (set-sound A) c (tokensAt l 2) (tokensAt l at) ss e in
+    let r = times-sound (grammar.eventSet A) (SetOk A) setNumbers (set-sound A) c (tokensAt l 2) (tokensAt l at) ss e in
     let k = follows-list (flatMap setNumbers ss) 2 (drop 2 l) (tokensAt l at) (r .follows) in
     place-of at (2 + length (flatMap setNumbers ss)) (drop at l) (k .more) (k .stream)
 
 module _ (l w w' : List ℕ) (sets at count m end : ℕ) (h : Header l w sets at) (b : count ≤ 32)
-    (e : number definitionCountOk (tokensAt l at) ≡ got count (tokensAt l (at + 1)))
+    (e : number bodyCountOk (tokensAt l at) ≡ got count (tokensAt l (at + 1)))
     (f : DefinitionsFound (setsIn l) l count (at + 1) w w' end m) (long : length l ≤ end) where
   abbrev read : Table
   read = record { alphabet = getD l 0 0; sets = setsIn l; definitions = f .definitions }

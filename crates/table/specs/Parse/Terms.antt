@@ -5,7 +5,7 @@
 --     followerOf, sidesOf        the parsers of the terms in a joint's term
 --     LeafRead, DefinitionRead   a term without terms in it; a definition
 -- The laws: `Terms/Stored.antt` of what is stored, `Terms/Reference.antt`, `Kind.antt` and `Sides.antt` of reading a
--- term, `OneDefinition.antt` and `Definitions.antt` of reading definitions. Assumes nothing.
+-- term, `OneDefinition.antt`, `Appended.antt` and `Definitions.antt` of reading definitions. Assumes nothing.
 use Prim.Native.Nat.{ℕ, suc, _+_, _≤_, _<_}
 use mathlib.Core.Path.{_≡_}
 use mathlib.Core.Bool.{true}
@@ -28,6 +28,7 @@ pub mod Reference
 pub mod Kind
 pub mod Sides
 pub mod OneDefinition
+pub mod Appended
 pub mod Definitions
 
 -- ---- a term, or the rest of one

@@ -18,7 +18,7 @@ use Rattle.table.specs.Context.{Context, outermost, underPrefix, underPa
 use Rattle.table.specs.Writing.{setNumbers, refNumbers, termNumbers, definitionNumbers, numbersOf}
 use Rattle.table.specs.References.{paramFits, callFits, wrongRef, wrongIn, wrongFrom, firstWrong}
 use Rattle.table.specs.Width.{allWidths, firstAbove, tooWide}
-use Rattle.table.specs.Branches.{branchesWith, lookup, allBranches, followerAbove, bodyAbove, tooManyBranches}
+use Rattle.table.specs.Branches.{branchesWith, branchesAt, allBranches, followerAbove, bodyAbove, tooManyBranches}
 use Rattle.table.specs.Refusals.{refLinks, termLinks, linksFrom, links, fewIn, fewFrom, fewTerms, narrowLevels}
 
 -- ---- the length of links
@@ -193,4 +193,4 @@ module _ (calls : ℕ → ℕ) where
 
 pub branches-first : (t : Table) → firstFalse 0 (fewTerms t) ≡ tooManyBranches t
 unfolding fewTerms tooManyBranches
-branches-first t = bodies-first (lookup (allBranches (t .definitions))) 0 (t .definitions)
+branches-first t = bodies-first (branchesAt (allBranches (t .definitions))) 0 (t .definitions)

@@ -17,7 +17,7 @@ use lib.Dec.{leb, ltb, eqb, eqb·suc-zero}
 use borrow.Author.Tests.{lt-ltb, le-ltb, ltb-true, leb-false, ne-eqb}
 use Rattle.table.specs.Table.{SetRef, Term, stop, fail, prefix, choice, par, call, Definition, Table, size, sizes}
 use Rattle.table.specs.Table.{termIn, termOfDefs, termAt}
-use Rattle.table.specs.Branches.{branchesWith, lookup, allBranches, branches}
+use Rattle.table.specs.Branches.{branchesWith, branchesAt, allBranches, branches}
 use Rattle.table.specs.Refusals.{fewIn, fewFrom, fewTerms}
 use Rattle.table.specs.Refusals.Laws.{length-few}
 
@@ -245,6 +245,6 @@ module _ (calls : ℕ → ℕ) where
 
 -- a term number at which `fewTerms` fails
 pub many-at : (t : Table) (n : ℕ) → getD (fewTerms t) n true ≡ false
-    → ManyAt (lookup (allBranches (t .definitions))) (t .definitions) n
+    → ManyAt (branchesAt (allBranches (t .definitions))) (t .definitions) n
 unfolding fewTerms
-many-at t n h = from-at (lookup (allBranches (t .definitions))) (t .definitions) n h
+many-at t n h = from-at (branchesAt (allBranches (t .definitions))) (t .definitions) n h

@@ -21,7 +21,7 @@ use Rattle.table.specs.References.{levelIn, wrongFrom, firstWrong}
 use Rattle.table.specs.References.Laws.{CallOk, Linked, BodyLinked, from-out, from-in}
 use Rattle.table.specs.Width.{allWidths, levelWidth, firstAbove, tooWide}
 use Rattle.table.specs.Width.Laws.{above-out, above-in}
-use Rattle.table.specs.Branches.{lookup, allBranches, branches, branchesWith, tooManyBranches}
+use Rattle.table.specs.Branches.{branchesAt, allBranches, branches, branchesWith, tooManyBranches}
 use Rattle.table.specs.Branches.Laws.{Few, bodies-out, bodies-in}
 use Rattle.table.specs.Rules.{InBodies, Rules}
 
@@ -95,7 +95,7 @@ module _ (t : Table) where
   unfolding tooWide tooManyBranches levelWidth branches
   rules-in f w h o =
       let l = links-out w in
-      let calls = lookup (allBranches (t .definitions)) in
+      let calls = branchesAt (allBranches (t .definitions)) in
       let b = bodies-out calls 0 (t .definitions) o in
       record {
         fields = f;
@@ -143,7 +143,7 @@ module _ (t : Table) where
   pub no-many-branches : Rules t → tooManyBranches t ≡ none
   unfolding tooManyBranches branches
   no-many-branches r =
-      let calls = lookup (allBranches (t .definitions)) in
+      let calls = branchesAt (allBranches (t .definitions)) in
       bodies-in calls 0 (t .definitions)
       (all-and (λ d. Few calls (d .body)) (λ d. Followers (Few calls) (d .body)) (t .definitions) (r .branches-bodies)
       (r .branches-followers))

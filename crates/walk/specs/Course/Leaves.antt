@@ -18,7 +18,7 @@ use Rattle.residual.specs.Words.{remember, termOfWord, memoryOfWord, kindAt, ho
 use Rattle.slots.specs.declared.slots.Held.{Held}
 use Rattle.slots.specs.declared.slots.Held.the-variants.{Count, Exceeded}
 use Rattle.residual.specs.Residual.{pushAll, Resolves, resolvedInto}
-use Rattle.residual.specs.Residual.Into.{length-pushAll, head-pushAll}
+use Rattle.residual.specs.Residual.Pushed.{length-pushAll, head-pushAll}
 use Rattle.residual.specs.Residual.Resolved.{length-resolved}
 use Rattle.residual.specs.Distinct.{Resolvable}
 use Rattle.residual.specs.Distinct.Laws.{at-window}

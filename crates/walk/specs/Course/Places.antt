@@ -15,7 +15,7 @@ use Rattle.table.specs.Table.{Table}
 use Rattle.residual.specs.Words.{kindAt, KnownWord}
 use Rattle.slots.specs.declared.slots.Held.{Held}
 use Rattle.residual.specs.Residual.{words, pushed, pushAll}
-use Rattle.residual.specs.Residual.Into.{length-pushed, head-pushed}
+use Rattle.residual.specs.Residual.Pushed.{length-pushed, head-pushed}
 use Rattle.walk.specs.Walk.{before, results, leafResults, longest, room, onto}
 use Rattle.slots.specs.Holding.{putOne, Gave}
 use Rattle.slots.specs.Holding.Laws.{put-single}

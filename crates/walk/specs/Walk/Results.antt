@@ -11,7 +11,7 @@ use borrow.Author.Tests.{eq-eqb, ne-eqb}
 use Rattle.table.specs.Table.{Table}
 use Rattle.residual.specs.Words.{kindAt, holdsAt}
 use Rattle.residual.specs.Residual.{pushed, pushAll}
-use Rattle.residual.specs.Residual.Into.{pushAll-append}
+use Rattle.residual.specs.Residual.Pushed.{pushAll-append}
 use Rattle.walk.specs.Walk.{options, joins, before, results, onto}
 
 -- ---- onto

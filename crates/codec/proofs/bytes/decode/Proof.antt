@@ -1,5 +1,5 @@
--- `bytes::decode` meets its contract. The invariant is `Front`, with the output's length kept; the measure is what is
--- left of the bytes. Assumes nothing.
+-- `codec::bytes::decode` meets its contract. The invariant is `Front`, with the output's length kept; the measure is
+-- what is left of the bytes. Assumes nothing.
 use Prim.Native.Nat.{_-_}
 use native.Mathlib.Omega.{arith}
 use mathlib.Core.Path.{_≡_, refl, sym, _∙_}

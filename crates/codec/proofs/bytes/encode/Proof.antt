@@ -1,5 +1,5 @@
--- `bytes::encode` meets its contract. The invariant is `Filled`, with the output's length kept; the measure is what is
--- left of the list. There is room for every number. Assumes nothing.
+-- `codec::bytes::encode` meets its contract. The invariant is `Filled`, with the output's length kept; the measure is
+-- what is left of the list. There is room for every number. Assumes nothing.
 use Prim.Native.Nat.{_-_}
 use native.Mathlib.Omega.{arith}
 use mathlib.Core.Path.{_≡_, refl, sym, _∙_}

@@ -1,5 +1,5 @@
--- `clear::clear_numbers` meets its contract. The invariant: the numbers before `from` and those from i on are as they
--- were, and those between are zero. The measure is what is left of the length. Assumes nothing.
+-- `codec::clear::clear_numbers` meets its contract. The invariant: the numbers before `from` and those from i on are as
+-- they were, and those between are zero. The measure is what is left of the length. Assumes nothing.
 use Prim.Native.Nat.{_-_, _≤_}
 use native.Mathlib.Omega.{arith}
 use mathlib.Core.Path.{_≡_, refl}

@@ -1,4 +1,5 @@
--- `reader::judge_decoded` meets its contract: `onBytes` of what `judge` and `refused_bytes` say. Assumes nothing.
+-- `codec::reader::judge_decoded` meets its contract: `onBytes` of what `judge` and `refused_bytes` say. Assumes
+-- nothing.
 use Rattle.codec.proofs.reader.Outcomes.{done-within, as-after, as-accepted, as-declined}
 use borrow.Author.Needs.{needs}
 use Rattle.codec.proofs.reader.judge_decoded.Statement.{statement}

@@ -1,4 +1,4 @@
--- `reader::read` meets its contract: both lent lengths are tried first, and the work area is cleared last.
+-- `codec::reader::read` meets its contract: both lent lengths are tried first, and the work area is cleared last.
 -- Assumes nothing.
 use native.Mathlib.Omega.{arith}
 use Rattle.codec.proofs.reader.Outcomes.{read-wrong-output, read-wrong-work, read-said}

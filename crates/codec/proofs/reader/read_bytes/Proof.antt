@@ -1,4 +1,4 @@
--- `reader::read_bytes` meets its contract: the judgement of the decoded numbers gives that of the bytes, and the
+-- `codec::reader::read_bytes` meets its contract: the judgement of the decoded numbers gives that of the bytes, and the
 -- numbers stand at the front of a cleared output. Assumes nothing.
 use native.Mathlib.Omega.{arith}
 use mathlib.Core.Path.{sym, _∙_}

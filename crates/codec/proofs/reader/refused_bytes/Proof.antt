@@ -1,4 +1,5 @@
--- `reader::refused_bytes` meets its contract: each return's tests say which case of `onBytes` holds. Assumes nothing.
+-- `codec::reader::refused_bytes` meets its contract: each return's tests say which case of `onBytes` holds. Assumes
+-- nothing.
 use Prim.Native.Nat.{_≤_}
 use native.Mathlib.Omega.{arith}
 use mathlib.Core.Path.{_≡_, ap, _∙_}

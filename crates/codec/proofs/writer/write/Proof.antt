@@ -1,4 +1,4 @@
--- `writer::write` meets its contract: the work area's length is tried first, and the work area is cleared last.
+-- `codec::writer::write` meets its contract: the work area's length is tried first, and the work area is cleared last.
 -- Assumes nothing.
 use native.Mathlib.Omega.{arith}
 use Rattle.codec.proofs.writer.Outcomes.{write-wrong-work, write-said}

@@ -1,5 +1,5 @@
--- `writer::write_list` meets its contract: the judgement of the list, and its bytes where there is room for them.
--- Assumes nothing.
+-- `codec::writer::write_list` meets its contract: the judgement of the list, and its bytes where there is room for
+-- them. Assumes nothing.
 use native.Mathlib.Omega.{arith}
 use Rattle.codec.proofs.writer.Outcomes.{room, said-short, said-written, said-declined}
 use borrow.Author.Needs.{needs}

@@ -1,5 +1,5 @@
--- `event::advance` meets its contract: the present area is what the step asks for; its answer says whether the next
--- residuals have room, and the words that are not cleared were zero. Assumes nothing.
+-- `feeding::event::advance` meets its contract: the present area is what the step asks for; its answer says whether the
+-- next residuals have room, and the words that are not cleared were zero. Assumes nothing.
 use native.Mathlib.Omega.{arith}
 use Rattle.index.specs.Facts.{indexed-rules}
 use Rattle.feeding.proofs.event.Areas.{holding-source, advanced-count, advanced-exceeded}

@@ -1,4 +1,4 @@
--- `event::advance_present` meets its contract: by the parity of the events taken, area 0 or area 1 is present.
+-- `feeding::event::advance_present` meets its contract: by the parity of the events taken, area 0 or area 1 is present.
 -- Assumes nothing.
 use Rattle.index.specs.Facts.{indexed-rules}
 use Rattle.monitor_spec.specs.Regular.Laws.{regular}

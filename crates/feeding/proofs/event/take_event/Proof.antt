@@ -1,4 +1,4 @@
--- `event::take_event` meets its contract: the tests are those of `takeEvent`, in its order. Assumes nothing.
+-- `feeding::event::take_event` meets its contract: the tests are those of `takeEvent`, in its order. Assumes nothing.
 use native.Mathlib.Omega.{arith}
 use Rattle.feeding.proofs.event.Tests.{taken-unknown, taken-full, taken-exceeded, taken-went}
 use borrow.Author.Needs.{needs}

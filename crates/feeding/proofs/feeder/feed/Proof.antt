@@ -1,5 +1,5 @@
--- `feeder::feed` meets its contract: the lent lengths are tried first, then the list; the work area is cleared last.
--- Assumes nothing.
+-- `feeding::feeder::feed` meets its contract: the lent lengths are tried first, then the list; the work area is cleared
+-- last. Assumes nothing.
 use native.Mathlib.Omega.{arith}
 use mathlib.Core.Path.{sym, _∙_}
 use borrow.Author.Tests.{not-true, not-false}

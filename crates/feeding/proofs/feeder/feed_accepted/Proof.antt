@@ -1,4 +1,4 @@
--- `feeder::feed_accepted` meets its contract: whether state and areas agree decides. Assumes nothing.
+-- `feeding::feeder::feed_accepted` meets its contract: whether state and areas agree decides. Assumes nothing.
 use mathlib.Core.Path.{sym, _∙_}
 use borrow.Author.Tests.{not-true, not-false}
 use Rattle.index.specs.Facts.{indexed-rules}

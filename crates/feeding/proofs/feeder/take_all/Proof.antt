@@ -1,5 +1,6 @@
--- `feeder::take_all` meets its contract. The invariant: lengths are kept, and `Head`: what the call comes to is what
--- the events left come to, from the monitor reached. The measure is what is left of the events. Assumes nothing.
+-- `feeding::feeder::take_all` meets its contract. The invariant: lengths are kept, and `Head`: what the call comes to
+-- is what the events left come to, from the monitor reached. The measure is what is left of the events. Assumes
+-- nothing.
 use Prim.Native.Nat.{_-_, _^_, _<_, _≤_}
 use native.Mathlib.Omega.{arith}
 use mathlib.Core.Path.{_≡_, refl, sym, _∙_}

@@ -1,5 +1,5 @@
--- `checker::check` meets its contract: another length is refused before anything is stored; else `check_list` answers,
--- and what it leaves is the index, or is cleared. Assumes nothing.
+-- `judge::checker::check` meets its contract: another length is refused before anything is stored; else `check_list`
+-- answers, and what it leaves is the index, or is cleared. Assumes nothing.
 use native.Mathlib.Omega.{arith}
 use Rattle.table.specs.Judging.Laws.{checked-wrong, checked-taken, checked-refused}
 use borrow.Author.Needs.{needs}

@@ -1,5 +1,5 @@
--- `checker::check_list` meets its contract: `judge` says all but 2, and the bytes of an accepted list are counted.
--- Assumes nothing.
+-- `judge::checker::check_list` meets its contract: `judge` says all but 2, and the bytes of an accepted list are
+-- counted. Assumes nothing.
 use native.Mathlib.Omega.{arith}
 use Rattle.table.specs.Judging.Laws.{listed-long, listed-short, listed-stop}
 use borrow.Author.Needs.{needs}

@@ -1,4 +1,4 @@
--- `checker::judge` meets its contract: what `parse` refuses is refused so, and the rest is `judge_parsed`'s.
+-- `judge::checker::judge` meets its contract: what `parse` refuses is refused so, and the rest is `judge_parsed`'s.
 -- Assumes nothing.
 use borrow.Author.Needs.{needs}
 use Rattle.judge.proofs.checker.judge.Statement.{statement}

@@ -1,5 +1,5 @@
--- `clear::clear_words` meets its contract. The invariant: the words before i are zero, and the others are as they were.
--- The measure is what is left of the length. Assumes nothing.
+-- `judge::clear::clear_words` meets its contract. The invariant: the words before i are zero, and the others are as
+-- they were. The measure is what is left of the length. Assumes nothing.
 use Prim.Native.Nat.{_-_, _≤_}
 use native.Mathlib.Omega.{arith}
 use mathlib.Core.Path.{_≡_, refl, _∙_}

@@ -1,5 +1,5 @@
--- `places::byte_place` meets its contract. The invariant: n is the place of the j-th number, and at most 3 * j, so that
--- no sum wraps. The measure is what is left of i. Assumes nothing.
+-- `judge::places::byte_place` meets its contract. The invariant: n is the place of the j-th number, and at most 3 * j,
+-- so that no sum wraps. The measure is what is left of i. Assumes nothing.
 use Prim.Native.Nat.{_*_, _-_, _≤_}
 use native.Mathlib.Omega.{arith}
 use mathlib.Core.Path.{_≡_, _∙_, ap}

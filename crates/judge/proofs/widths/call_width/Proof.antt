@@ -3,7 +3,7 @@
 use borrow.Author.Needs.{needs}
 use native.Mathlib.Omega.{arith}
 use Rattle.table.specs.Filling.Spans.{level-stored}
-use Rattle.table.specs.Filling.Widths.{call-own, call-other}
+use Rattle.table.specs.Filling.OneWidth.{call-own, call-other}
 use Rattle.judge.proofs.widths.call_width.Statement.{statement}
 use Rattle.judge.proofs.widths.call_width.Tie as tie
 

@@ -1,10 +1,10 @@
--- `judge::widths::width_at` meets its contract: the kind in the term's word says which law of `Filling/Widths.antt`
+-- `judge::widths::width_at` meets its contract: the kind in the term's word says which law of `Filling/OneWidth.antt`
 -- gives the width. Assumes nothing.
 use borrow.Author.Needs.{needs}
 use native.Mathlib.Omega.{arith}
 use mathlib.Core.Path.{refl}
-use Rattle.table.specs.Filling.Widths.{width-leaf, width-prefix, width-choice, width-par, par-small}
-use Rattle.table.specs.Filling.Widths.{width-call, call-named, width-none}
+use Rattle.table.specs.Filling.OneWidth.{width-leaf, width-prefix, width-choice, width-par, par-small}
+use Rattle.table.specs.Filling.OneWidth.{width-call, call-named, width-none}
 use Rattle.judge.proofs.widths.width_at.Statement.{statement}
 use Rattle.judge.proofs.widths.width_at.Tie as tie
 

@@ -1,4 +1,4 @@
--- `answers::tell` meets its contract, by the cases of an answer. Assumes nothing.
+-- `monitor_c::answers::tell` meets its contract, by the cases of an answer. Assumes nothing.
 use borrow.Author.Needs.{needs}
 use Rattle.monitor_c.specs.Calls.Laws.{tell-given, tell-refused, tell-stopped}
 use Rattle.monitor_c.proofs.answers.tell.Statement.{statement}

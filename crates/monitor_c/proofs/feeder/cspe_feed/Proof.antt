@@ -1,5 +1,5 @@
--- `feeder::cspe_feed` meets its contract: the record's length is tried first; then the outcome is Feed's on the record
--- that the words hold, told by `tell`. Assumes nothing.
+-- `monitor_c::feeder::cspe_feed` meets its contract: the record's length is tried first; then the outcome is Feed's on
+-- the record that the words hold, told by `tell`. Assumes nothing.
 use borrow.Author.Needs.{needs}
 use Rattle.monitor_c.specs.Calls.Laws.{feed-unmeasured, feed-told}
 use Rattle.monitor_c.proofs.feeder.cspe_feed.Statement.{statement}

@@ -1,4 +1,4 @@
--- `offerer::tell_offer` meets its contract, by the cases of an answer. Assumes nothing.
+-- `monitor_c::offerer::tell_offer` meets its contract, by the cases of an answer. Assumes nothing.
 use borrow.Author.Needs.{needs}
 use Rattle.monitor_c.specs.Calls.Laws.{tell-offers, tell-declined}
 use Rattle.monitor_c.proofs.offerer.tell_offer.Statement.{statement}

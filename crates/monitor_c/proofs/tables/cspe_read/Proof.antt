@@ -1,4 +1,4 @@
--- `tables::cspe_read` meets its contract: the outcome is Read's, told by `tell`. Assumes nothing.
+-- `monitor_c::tables::cspe_read` meets its contract: the outcome is Read's, told by `tell`. Assumes nothing.
 use borrow.Author.Needs.{needs}
 use Rattle.monitor_c.specs.Tables.Laws.{read-told}
 use Rattle.monitor_c.proofs.tables.cspe_read.Statement.{statement}

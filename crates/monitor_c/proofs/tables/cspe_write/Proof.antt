@@ -1,4 +1,4 @@
--- `tables::cspe_write` meets its contract: the outcome is Write's, told by `tell`. Assumes nothing.
+-- `monitor_c::tables::cspe_write` meets its contract: the outcome is Write's, told by `tell`. Assumes nothing.
 use borrow.Author.Needs.{needs}
 use Rattle.monitor_c.specs.Tables.Laws.{write-told}
 use Rattle.monitor_c.proofs.tables.cspe_write.Statement.{statement}

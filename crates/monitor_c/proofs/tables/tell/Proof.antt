@@ -1,4 +1,4 @@
--- `tables::tell` meets its contract, by the cases of an answer. Assumes nothing.
+-- `monitor_c::tables::tell` meets its contract, by the cases of an answer. Assumes nothing.
 use borrow.Author.Needs.{needs}
 use Rattle.monitor_c.specs.Tables.Laws.{tell-count, tell-refused}
 use Rattle.monitor_c.proofs.tables.tell.Statement.{statement}

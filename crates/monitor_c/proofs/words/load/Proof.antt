@@ -1,4 +1,4 @@
--- `words::load` meets its contract: `stateIn` reads the same four words. Assumes nothing.
+-- `monitor_c::words::load` meets its contract: `stateIn` reads the same four words. Assumes nothing.
 use borrow.Author.Needs.{needs}
 use Rattle.monitor_c.specs.Words.Laws.{loaded}
 use Rattle.monitor_c.proofs.words.load.Statement.{statement}

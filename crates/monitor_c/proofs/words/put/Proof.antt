@@ -1,4 +1,4 @@
--- `words::put` meets its contract: four stores fill a list of four. Assumes nothing.
+-- `monitor_c::words::put` meets its contract: four stores fill a list of four. Assumes nothing.
 use borrow.Author.Needs.{needs}
 use Rattle.monitor_c.specs.Words.Laws.{four-stores}
 use Rattle.monitor_c.proofs.words.put.Statement.{statement}

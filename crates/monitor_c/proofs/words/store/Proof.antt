@@ -1,4 +1,4 @@
--- `words::store` meets its contract: the verdict says which words `wordsOf` has. Assumes nothing.
+-- `monitor_c::words::store` meets its contract: the verdict says which words `wordsOf` has. Assumes nothing.
 use borrow.Author.Needs.{needs}
 use Rattle.monitor_c.specs.Words.Laws.{words-running, words-failed}
 use Rattle.monitor_c.proofs.words.store.Statement.{statement}

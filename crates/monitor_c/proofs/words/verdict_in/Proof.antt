@@ -1,4 +1,4 @@
--- `words::verdict_in` meets its contract: the test says which case of `verdictIn` holds. Assumes nothing.
+-- `monitor_c::words::verdict_in` meets its contract: the test says which case of `verdictIn` holds. Assumes nothing.
 use Rattle.monitor_c.specs.Words.Laws.{verdict-running, verdict-failed}
 use Rattle.monitor_c.proofs.words.verdict_in.Statement.{statement}
 use Rattle.monitor_c.proofs.words.verdict_in.Tie as tie

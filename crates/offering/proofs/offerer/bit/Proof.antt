@@ -1,5 +1,5 @@
--- `offerer::bit` meets its contract. The invariant: the residuals from the i-th on have the bit that all have. The
--- measure is what is left of the count. Assumes nothing.
+-- `offering::offerer::bit` meets its contract. The invariant: the residuals from the i-th on have the bit that all
+-- have. The measure is what is left of the count. Assumes nothing.
 use native.Mathlib.Omega.{arith}
 use Prim.Native.Nat.{_-_}
 use mathlib.Core.Path.{_≡_, refl, _∙_}

@@ -1,5 +1,5 @@
--- `offerer::bits` meets its contract. The invariant: the bits found so far, of the events from e on, and the bits
--- below e are all bits. The measure is e. Assumes nothing.
+-- `offering::offerer::bits` meets its contract. The invariant: the bits found so far, of the events from e on, and the
+-- bits below e are all bits. The measure is e. Assumes nothing.
 use native.Mathlib.Omega.{arith}
 use Prim.Native.Nat.{_≤_}
 use mathlib.Core.Path.{refl}

@@ -1,5 +1,5 @@
--- `offerer::offer` meets its contract: lengths are tried first, then the list; the work area is cleared last. Assumes
--- nothing.
+-- `offering::offerer::offer` meets its contract: lengths are tried first, then the list; the work area is cleared last.
+-- Assumes nothing.
 use Rattle.offering.proofs.offerer.Outcomes.{offer-unmeasured, areas-measured}
 use Rattle.offering.proofs.offerer.Outcomes.{offer-declined, offer-indexed, offer-judged}
 use borrow.Author.Needs.{needs}

@@ -1,5 +1,5 @@
--- `offerer::offer_accepted` meets its contract: consistency, verdict and parity say which case of Offer holds. Assumes
--- nothing.
+-- `offering::offerer::offer_accepted` meets its contract: consistency, verdict and parity say which case of Offer
+-- holds. Assumes nothing.
 use Rattle.table.specs.Index.{tableIn}
 use Rattle.index.specs.Facts.{indexed-rules}
 use Rattle.offering.proofs.offerer.Cases.{equal-lengths, even-holds, odd-holds}

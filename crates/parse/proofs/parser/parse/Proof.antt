@@ -1,5 +1,5 @@
--- `parser::parse` meets its contract: each way out is where the grammar stops at the alphabet, at the number of sets or
--- in a set, or what `parse_definitions` says. Assumes nothing.
+-- `parse::parser::parse` meets its contract: each way out is where the grammar stops at the alphabet, at the number of
+-- sets or in a set, or what `parse_definitions` says. Assumes nothing.
 use native.Mathlib.Omega.{arith}
 use mathlib.Core.Path.{_∙_}
 use Rattle.table.specs.Parse.Header.{stop-1, stop-2, stop-3, header-read}

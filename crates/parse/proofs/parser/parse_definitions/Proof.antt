@@ -1,5 +1,5 @@
--- `parser::parse_definitions` meets its contract: each way out is where the grammar stops at the number of definitions,
--- in a definition or after the table, or the stored index of a whole one. Assumes nothing.
+-- `parse::parser::parse_definitions` meets its contract: each way out is where the grammar stops at the number of
+-- definitions, in a definition or after the table, or the stored index of a whole one. Assumes nothing.
 use native.Mathlib.Omega.{arith}
 use mathlib.Core.Path.{_∙_}
 use Rattle.table.specs.Parse.Header.{stop-4, stop-5, more-left}

@@ -1,4 +1,5 @@
--- `parser::store_counts` meets its contract: the four stores are those of `counted`, in its order. Assumes nothing.
+-- `parse::parser::store_counts` meets its contract: the four stores are those of `counted`, in its order. Assumes
+-- nothing.
 use mathlib.Core.Path.{refl}
 use Rattle.table.specs.Parse.Structure.{counted}
 use borrow.Author.Needs.{needs}

@@ -24,13 +24,13 @@ use Rattle.parse.proofs.terms.+read_follower+read_sides+read_term.Lts-r
 use Rattle.parse.proofs.terms.read_term.Reads as read-term
 use Rattle.parse.proofs.terms.read_term.Kinds as read-term-kinds
 use Rattle.parse.proofs.terms.+read_follower+read_sides+read_term.Lts-read_term as read-term-lts
-use Rattle.parse.proofs.terms.beside.Reads as beside-reads
-use Rattle.parse.proofs.terms.follower.Reads as follower-reads
-use Rattle.parse.proofs.terms.side.Reads as side-reads
-use Rattle.parse.proofs.terms.read_call.Reads as read-call-reads
-use Rattle.parse.proofs.terms.read_leaf.Reads as read-leaf-reads
-use Rattle.parse.proofs.terms.read_reference.Reads as read-reference-reads
-use Rattle.parse.proofs.terms.store_term.Reads as store-term-reads
+use Rattle.parse.proofs.spots.beside.Reads as beside-reads
+use Rattle.parse.proofs.spots.follower.Reads as follower-reads
+use Rattle.parse.proofs.spots.side.Reads as side-reads
+use Rattle.parse.proofs.leaves.read_call.Reads as read-call-reads
+use Rattle.parse.proofs.leaves.read_leaf.Reads as read-leaf-reads
+use Rattle.parse.proofs.references.read_reference.Reads as read-reference-reads
+use Rattle.parse.proofs.leaves.store_term.Reads as store-term-reads
 use Rattle.parse.proofs.terms.+read_follower+read_sides+read_term.{statement}
 use Rattle.parse.proofs.terms.+read_follower+read_sides+read_term.Tie.{close}
 

@@ -1,5 +1,5 @@
--- `step::leaves::distinct` meets its contract: no residual and an only one are known, the others are looked at one by
--- one. Assumes nothing.
+-- `residual::leaves::distinct` meets its contract: no residual and an only one are known, the others are looked at one
+-- by one. Assumes nothing.
 use native.Mathlib.Omega.{arith}
 use Rattle.residual.specs.Distinct.Laws.{branches-exact}
 use Rattle.residual.specs.Distinct.Keeping.{kept-none, kept-one}

@@ -1,5 +1,5 @@
--- `step::leaves::distinct_in` meets its contract: of the first i residuals k are kept, their indices, their keys and
--- the slots of the first of them. Assumes nothing.
+-- `residual::leaves::distinct_in` meets its contract: of the first i residuals k are kept, their indices, their keys
+-- and the slots of the first of them. Assumes nothing.
 use Prim.Native.Nat.{_+_, _*_, _^_, _<_, _≤_, _-_}
 use native.Mathlib.Omega.{arith}
 use mathlib.Core.Path.{_≡_, refl, _∙_}

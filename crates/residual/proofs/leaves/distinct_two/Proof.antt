@@ -1,4 +1,4 @@
--- `step::leaves::distinct_two` meets its contract: the second is kept where it is not the first. Assumes nothing.
+-- `residual::leaves::distinct_two` meets its contract: the second is kept where it is not the first. Assumes nothing.
 use native.Mathlib.Omega.{arith}
 use lib.ListN.{length-set}
 use Rattle.residual.specs.Distinct.{slotAt}

@@ -1,5 +1,5 @@
--- `step::leaves::found` meets its contract: the slot is held among the indices from j on where it is held among all.
--- Assumes nothing.
+-- `residual::leaves::found` meets its contract: the slot is held among the indices from j on where it is held among
+-- all. Assumes nothing.
 use Prim.Native.Nat.{_≤_, _<_, _+_, _-_}
 use native.Mathlib.Omega.{arith}
 use mathlib.Core.Path.{_≡_, sym, _∙_}

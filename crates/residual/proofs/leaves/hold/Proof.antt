@@ -1,4 +1,4 @@
--- `step::leaves::hold` meets its contract, by cases. Assumes nothing.
+-- `residual::leaves::hold` meets its contract, by cases. Assumes nothing.
 use native.Mathlib.Omega.{arith}
 use Rattle.residual.specs.Distinct.Words.{hold-first, hold-none}
 use borrow.Author.Needs.{needs}

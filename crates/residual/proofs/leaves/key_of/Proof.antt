@@ -1,4 +1,4 @@
--- `step::leaves::key_of` meets its contract: the key so far, and the words from j on. Assumes nothing.
+-- `residual::leaves::key_of` meets its contract: the key so far, and the words from j on. Assumes nothing.
 use Prim.Native.Nat.{_≤_, _-_}
 use native.Mathlib.Omega.{arith}
 use mathlib.Core.Path.{_≡_, refl}

@@ -1,4 +1,4 @@
--- `step::leaves::same_at` meets its contract: the words from j on are equal where the slots are. Assumes nothing.
+-- `residual::leaves::same_at` meets its contract: the words from j on are equal where the slots are. Assumes nothing.
 use Prim.Native.Nat.{_+_, _≤_, _-_}
 use native.Mathlib.Omega.{arith}
 use mathlib.Core.Path.{_≡_, refl}

@@ -1,4 +1,4 @@
--- `step::leaves::same_kept` meets its contract: the slot is held, or resolved again. Assumes nothing.
+-- `residual::leaves::same_kept` meets its contract: the slot is held, or resolved again. Assumes nothing.
 use mathlib.Core.Path.{_∙_, ap}
 use denote.Ref.{now}
 use Rattle.residual.specs.Distinct.{sameWords, slotAt}

@@ -1,5 +1,5 @@
--- `step::resolve::resolve_definition` and `step::resolve::resolve_term` meet their contracts: one law of
--- `Residual/Into.antt` per way out. The measure is the number that bounds the calls, then the depth of the term; a
+-- `residual::resolve::resolve_definition` and `residual::resolve::resolve_term` meet their contracts: one law of
+-- `Residual/Ways.antt` per way out. The measure is the number that bounds the calls, then the depth of the term; a
 -- definition stands above the terms of its body. Assumes nothing.
 use Prim.Native.Nat.{ℕ, _+_, _*_, _<_}
 use native.Mathlib.Omega.{arith}
@@ -18,8 +18,9 @@ use Rattle.index.proofs.branches.Reads as branches-reads
 use Rattle.index.proofs.right.Reads as right-reads
 use Rattle.index.proofs.body.Reads as body-reads
 use Rattle.residual.specs.Lawful.{lawful}
-use Rattle.residual.specs.Residual.Into.{into-definition, choice-next-in, go-left, go-right, par-next-in, par-room}
-use Rattle.residual.specs.Residual.Into.{par-first, par-second, go-call, go-leaf, go-none, beyond}
+use Rattle.residual.specs.Residual.Into.{into-definition}
+use Rattle.residual.specs.Residual.Ways.{choice-next-in, go-left, go-right, par-next-in, par-room}
+use Rattle.residual.specs.Residual.Ways.{par-first, par-second, go-call, go-leaf, go-none, beyond}
 use Rattle.residual.proofs.resolve.resolve_definition.Reads as resolve-definition
 use Rattle.residual.proofs.resolve.resolve_definition.Kinds as resolve-definition-kinds
 use Rattle.residual.proofs.resolve.+resolve_definition+resolve_term.Lts-resolve_definition as resolve-definition-lts

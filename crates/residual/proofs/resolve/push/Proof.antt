@@ -1,4 +1,4 @@
--- `step::resolve::push` meets its contract: two stores, as in the definition. Assumes nothing.
+-- `residual::resolve::push` meets its contract: two stores, as in the definition. Assumes nothing.
 use mathlib.Core.Path.{refl}
 use borrow.Author.Needs.{needs}
 use Rattle.residual.specs.Residual.{pushed}

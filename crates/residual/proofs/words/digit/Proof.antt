@@ -1,4 +1,4 @@
--- `step::words::digit` meets its contract: one law per parameter. Assumes nothing.
+-- `residual::words::digit` meets its contract: one law per parameter. Assumes nothing.
 use native.Mathlib.Omega.{arith}
 use Rattle.residual.specs.Words.Laws.{digit-fixed, digit-first, digit-second, digit-third, digit-last}
 use Rattle.residual.proofs.words.digit.Statement.{statement}

@@ -1,4 +1,5 @@
--- `step::words::holds_at` meets its contract: the event that the set recalls is one of the alphabet. Assumes nothing.
+-- `residual::words::holds_at` meets its contract: the event that the set recalls is one of the alphabet. Assumes
+-- nothing.
 use mathlib.Core.Path.{_∙_}
 use borrow.Author.Needs.{needs}
 use Rattle.index.proofs.holds.Reads as holds-reads

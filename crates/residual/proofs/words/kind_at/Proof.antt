@@ -1,4 +1,4 @@
--- `step::words::kind_at` meets its contract: the kind of the term of the word. Assumes nothing.
+-- `residual::words::kind_at` meets its contract: the kind of the term of the word. Assumes nothing.
 use mathlib.Core.Path.{_∙_}
 use borrow.Author.Needs.{needs}
 use Rattle.index.proofs.kind.Reads as kind-reads

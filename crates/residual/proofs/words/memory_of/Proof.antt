@@ -1,4 +1,4 @@
--- `step::words::memory_of` meets its contract: it is the definition. Assumes nothing.
+-- `residual::words::memory_of` meets its contract: it is the definition. Assumes nothing.
 use mathlib.Core.Path.{refl}
 use Rattle.residual.specs.Words.{memoryOfWord}
 use Rattle.residual.proofs.words.memory_of.Statement.{statement}

@@ -1,4 +1,4 @@
--- `step::words::node` meets its contract: it is the definition. Assumes nothing.
+-- `residual::words::node` meets its contract: it is the definition. Assumes nothing.
 use mathlib.Core.Path.{refl}
 use borrow.Author.Needs.{needs}
 use Rattle.residual.specs.Words.{nodeWord}

@@ -1,4 +1,4 @@
--- `step::words::term_of` meets its contract: it is the definition. Assumes nothing.
+-- `residual::words::term_of` meets its contract: it is the definition. Assumes nothing.
 use mathlib.Core.Path.{refl}
 use Rattle.residual.specs.Words.{termOfWord}
 use Rattle.residual.proofs.words.term_of.Statement.{statement}

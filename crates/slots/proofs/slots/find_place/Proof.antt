@@ -1,6 +1,6 @@
--- `step::slots::find_place` meets its contract. Outer loop: the place among the slots not yet passed is the place among
--- those from the given one on; inner loop: the order of the words from j on is that of the slots. The measures are what
--- is left of both. Assumes nothing.
+-- `slots::slots::find_place` meets its contract. Outer loop: the place among the slots not yet passed is the place
+-- among those from the given one on; inner loop: the order of the words from j on is that of the slots. The measures
+-- are what is left of both. Assumes nothing.
 use Prim.Native.Nat.{_+_, _-_, _*_, _≤_}
 use native.Mathlib.Omega.{arith}
 use mathlib.Core.Path.{_≡_, refl, sym, _∙_}

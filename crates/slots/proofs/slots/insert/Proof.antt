@@ -1,4 +1,4 @@
--- `step::slots::insert` meets its contract: the place found and the room left say which case holds. Assumes nothing.
+-- `slots::slots::insert` meets its contract: the place found and the room left say which case holds. Assumes nothing.
 use native.Mathlib.Omega.{arith}
 use mathlib.Core.Path.{_≡_, sym, _∙_}
 use borrow.Author.Needs.{needs}

@@ -1,4 +1,4 @@
--- `step::slots::is_above` meets its contract: the order of the words from k on is that of the slots. The measure is
+-- `slots::slots::is_above` meets its contract: the order of the words from k on is that of the slots. The measure is
 -- what is left of the words. Assumes nothing.
 use Prim.Native.Nat.{_+_, _-_, _≤_}
 use native.Mathlib.Omega.{arith}

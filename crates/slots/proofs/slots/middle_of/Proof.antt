@@ -1,4 +1,4 @@
--- `step::slots::middle_of` meets its contract: by how many slots are left. Assumes nothing.
+-- `slots::slots::middle_of` meets its contract: by how many slots are left. Assumes nothing.
 use native.Mathlib.Omega.{arith}
 use borrow.Author.Needs.{needs}
 use Rattle.slots.specs.Slots.Narrow.{middle-half, middle-none}

@@ -1,4 +1,4 @@
--- `step::slots::narrow` meets its contract: halving what is left gives what halving all gives. The measure is what is
+-- `slots::slots::narrow` meets its contract: halving what is left gives what halving all gives. The measure is what is
 -- left. Assumes nothing.
 use Prim.Native.Nat.{_-_, _≤_}
 use native.Mathlib.Omega.{arith}

@@ -1,4 +1,4 @@
--- `step::slots::open_gap` meets its contract: the words from k on are moved, and k falls to p. Assumes nothing.
+-- `slots::slots::open_gap` meets its contract: the words from k on are moved, and k falls to p. Assumes nothing.
 use Prim.Native.Nat.{_≤_}
 use native.Mathlib.Omega.{arith}
 use mathlib.Core.Path.{_≡_, refl}

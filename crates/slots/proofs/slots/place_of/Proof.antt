@@ -1,4 +1,4 @@
--- `step::slots::place_of` meets its contract: it is the search from where it is narrowed to. Assumes nothing.
+-- `slots::slots::place_of` meets its contract: it is the search from where it is narrowed to. Assumes nothing.
 use mathlib.Core.Path.{_≡_, _∙_}
 use Rattle.slots.specs.Slots.{placeIn}
 use borrow.Author.Needs.{needs}

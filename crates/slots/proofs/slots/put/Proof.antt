@@ -1,4 +1,4 @@
--- `step::slots::put` meets its contract: by the answer of insertion. Assumes nothing.
+-- `slots::slots::put` meets its contract: by the answer of insertion. Assumes nothing.
 use borrow.Author.Needs.{needs}
 use Rattle.slots.specs.Holding.Laws.{put-held, put-new, put-full}
 use Rattle.slots.proofs.slots.put.Statement.{statement}

@@ -1,4 +1,4 @@
--- `step::slots::store` meets its contract: the first j words are stored. Assumes nothing.
+-- `slots::slots::store` meets its contract: the first j words are stored. Assumes nothing.
 use Prim.Native.Nat.{_-_, _≤_}
 use native.Mathlib.Omega.{arith}
 use mathlib.Core.Path.{_≡_, refl}

@@ -1,5 +1,5 @@
--- `starter::start` meets its contract: lent lengths are tried first, then the list; the work area is cleared last.
--- Assumes nothing.
+-- `starting::starter::start` meets its contract: lent lengths are tried first, then the list; the work area is cleared
+-- last. Assumes nothing.
 use mathlib.Core.Path.{sym, _∙_}
 use borrow.Author.Tests.{not-true, not-false}
 use borrow.Author.Needs.{needs}

@@ -1,5 +1,5 @@
--- `starter::start_accepted` meets its contract: what `resolve_set` holds are the slots of the start, or there is no
--- room for them. Assumes nothing.
+-- `starting::starter::start_accepted` meets its contract: what `resolve_set` holds are the slots of the start, or there
+-- is no room for them. Assumes nothing.
 use mathlib.Core.Path.{refl, _∙_}
 use borrow.Author.Needs.{needs}
 use Rattle.starting.specs.Starting.Laws.{last-resolves, started-given, started-exceeded}

@@ -1,4 +1,4 @@
--- `starter::start_record` meets its contract: with no residual it fails at 0. Assumes nothing.
+-- `starting::starter::start_record` meets its contract: with no residual it fails at 0. Assumes nothing.
 use borrow.Author.Needs.{needs}
 use Rattle.starting.specs.Starting.Laws.{record-none, record-some}
 use Rattle.starting.proofs.starter.start_record.Statement.{statement}

@@ -1,4 +1,4 @@
--- `clear::clear_all` meets its contract. Assumes nothing.
+-- `state::clear::clear_all` meets its contract. Assumes nothing.
 use native.Mathlib.Omega.{arith}
 use mathlib.Core.Path.{_∙_, ap}
 use mathlib.Core.List.{List, _++_, append-nil}

@@ -1,5 +1,5 @@
--- `clear::clear_first` meets its contract. The invariant: the words before i are zero, and the others are as they
--- were. The measure is what is left of n. Assumes nothing.
+-- `state::clear::clear_first` meets its contract. The invariant: the words before i are zero, and the others are as
+-- they were. The measure is what is left of n. Assumes nothing.
 use Prim.Native.Nat.{_-_, _≤_}
 use native.Mathlib.Omega.{arith}
 use mathlib.Core.Path.{_≡_, refl, _∙_, ap}

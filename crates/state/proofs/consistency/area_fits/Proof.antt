@@ -1,4 +1,5 @@
--- `consistent::area_fits` meets its contract: valid slots, their order, and then the rest decide. Assumes nothing.
+-- `state::consistency::area_fits` meets its contract: valid slots, their order, and then the rest decide. Assumes
+-- nothing.
 use mathlib.Core.Path.{sym, _∙_}
 use borrow.Author.Tests.{not-true, not-false}
 use Rattle.state.proofs.consistency.Cases.{slots-unfit, slots-mixed, rest-zero}

@@ -1,4 +1,4 @@
--- `consistent::areas_fit` meets its contract: the present area and then the other decide. Assumes nothing.
+-- `state::consistency::areas_fit` meets its contract: the present area and then the other decide. Assumes nothing.
 use mathlib.Core.Path.{sym, _∙_}
 use borrow.Author.Tests.{not-true, not-false}
 use Rattle.table.specs.Index.{tableIn}

@@ -1,5 +1,5 @@
--- `consistent::consistent` meets its contract: the record, and then the areas by the parity of the events taken,
--- decide. Assumes nothing.
+-- `state::consistency::consistent` meets its contract: the record, and then the areas by the parity of the events
+-- taken, decide. Assumes nothing.
 use native.Mathlib.Omega.{arith}
 use mathlib.Core.Path.{sym, _∙_}
 use borrow.Author.Tests.{not-true, not-false}

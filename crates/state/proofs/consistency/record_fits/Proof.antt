@@ -1,4 +1,5 @@
--- `consistent::record_fits` meets its contract: the verdict and the first test say which case holds. Assumes nothing.
+-- `state::consistency::record_fits` meets its contract: the verdict and the first test say which case holds. Assumes
+-- nothing.
 use Rattle.state.proofs.consistency.Cases.{running-none, running-some, failed-later, failed-here}
 use borrow.Author.Needs.{needs}
 use Rattle.state.proofs.consistency.record_fits.Statement.{statement}

@@ -1,5 +1,5 @@
--- `consistent::slots_ascend` meets its contract. The invariant: the slots from the i-th on ascend exactly where all
--- do. The measure is what is left of the count. Assumes nothing.
+-- `state::consistency::slots_ascend` meets its contract. The invariant: the slots from the i-th on ascend exactly where
+-- all do. The measure is what is left of the count. Assumes nothing.
 use native.Mathlib.Omega.{arith}
 use Prim.Native.Nat.{_+_, _-_, _*_, _≤_}
 use mathlib.Core.Path.{_≡_, refl, ap, sym, _∙_}

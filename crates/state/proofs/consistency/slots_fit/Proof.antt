@@ -1,5 +1,5 @@
--- `consistent::slots_fit` meets its contract. The invariant: the slots from the i-th on are valid exactly where all
--- are. The measure is what is left of the count. Assumes nothing.
+-- `state::consistency::slots_fit` meets its contract. The invariant: the slots from the i-th on are valid exactly where
+-- all are. The measure is what is left of the count. Assumes nothing.
 use native.Mathlib.Omega.{arith}
 use Prim.Native.Nat.{_+_, _-_, _*_, _≤_}
 use mathlib.Core.Path.{_≡_, refl, ap, sym, _∙_}

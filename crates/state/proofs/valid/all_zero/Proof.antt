@@ -1,5 +1,5 @@
--- `valid::all_zero` meets its contract. The invariant: the words from i on are zero exactly where those from `from`
--- on are. The measure is what is left of the length. Assumes nothing.
+-- `state::valid::all_zero` meets its contract. The invariant: the words from i on are zero exactly where those from
+-- `from` on are. The measure is what is left of the length. Assumes nothing.
 use Prim.Native.Nat.{_-_}
 use mathlib.Core.Path.{_≡_, refl, _∙_}
 use lib.ListN.{length, drop}

@@ -1,5 +1,5 @@
--- `valid::below` meets its contract. The invariant: the words from j on compare as all do. The measure is what is
--- left of sixteen. Assumes nothing.
+-- `state::valid::below` meets its contract. The invariant: the words from j on compare as all do. The measure is what
+-- is left of sixteen. Assumes nothing.
 use native.Mathlib.Omega.{arith}
 use Prim.Native.Nat.{_-_, _≤_}
 use mathlib.Core.Path.{_≡_, refl, ap, sym, _∙_}

@@ -1,5 +1,5 @@
--- `valid::digit_fits` meets its contract: the tests of each return say which part of `digitFits` decides. Assumes
--- nothing.
+-- `state::valid::digit_fits` meets its contract: the tests of each return say which part of `digitFits` decides.
+-- Assumes nothing.
 use borrow.Author.Tests.{lt-ltb, le-ltb}
 use Rattle.monitor_spec.specs.Valid.{digitFits}
 use Rattle.state.proofs.valid.digit_fits.Statement.{statement}

@@ -1,4 +1,5 @@
--- `valid::memory_fits` meets its contract: the first event that does not fit decides, or the last. Assumes nothing.
+-- `state::valid::memory_fits` meets its contract: the first event that does not fit decides, or the last. Assumes
+-- nothing.
 use mathlib.Core.Path.{_∙_}
 use borrow.Author.Tests.{not-true, not-false}
 use Rattle.state.proofs.valid.Digits.{fits-at, first-unfit, second-unfit, third-unfit, last-fits}

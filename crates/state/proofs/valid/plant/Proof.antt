@@ -1,4 +1,5 @@
--- `valid::plant` meets its contract: the kind of the word's term says which law gives the forest. Assumes nothing.
+-- `state::valid::plant` meets its contract: the kind of the word's term says which law gives the forest. Assumes
+-- nothing.
 use mathlib.Core.Path.{sym, _∙_}
 use borrow.Author.Tests.{not-true, not-false}
 use Rattle.state.specs.declared.valid.Forest.the-variants.{Broken}

@@ -1,4 +1,4 @@
--- `valid::slot_fits` meets its contract: the count, the words after the nodes, and then the walk decide. Assumes
+-- `state::valid::slot_fits` meets its contract: the count, the words after the nodes, and then the walk decide. Assumes
 -- nothing.
 use mathlib.Core.Path.{sym, _∙_}
 use borrow.Author.Tests.{not-true, not-false}

@@ -1,4 +1,4 @@
--- `valid::word_fits` meets its contract: the term is known, and then its memory decides. Assumes nothing.
+-- `state::valid::word_fits` meets its contract: the term is known, and then its memory decides. Assumes nothing.
 use native.Mathlib.Omega.{arith}
 use Prim.Native.Nat.{ℕ}
 use mathlib.Core.Path.{ap₂, _∙_}

@@ -1,4 +1,5 @@
--- `viewer::view` meets its contract: verdict, parity and count say which case of `viewOf` holds. Assumes nothing.
+-- `state::viewer::view` meets its contract: verdict, parity and count say which case of `viewOf` holds. Assumes
+-- nothing.
 use Rattle.state.specs.Record.View.{view-failed, view-even, view-even-over, view-odd, view-odd-over}
 use borrow.Author.Needs.{needs}
 use Rattle.state.proofs.viewer.view.Statement.{statement}

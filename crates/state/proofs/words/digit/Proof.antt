@@ -1,4 +1,4 @@
--- `words::digit` meets its contract: the match says which event it is. Assumes nothing.
+-- `state::words::digit` meets its contract: the match says which event it is. Assumes nothing.
 use native.Mathlib.Omega.{arith}
 use Rattle.state.proofs.valid.Digits.{digit-0, digit-1, digit-2, digit-3}
 use Rattle.state.proofs.words.digit.Statement.{statement}

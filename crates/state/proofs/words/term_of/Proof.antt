@@ -1,4 +1,4 @@
--- `words::term_of` meets its contract, which is its code. Assumes nothing.
+-- `state::words::term_of` meets its contract, which is its code. Assumes nothing.
 use mathlib.Core.Path.{refl}
 use Rattle.monitor_spec.specs.Slots.{termOf}
 use Rattle.state.proofs.words.term_of.Statement.{statement}

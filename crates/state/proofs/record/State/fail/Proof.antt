@@ -1,4 +1,4 @@
--- `State::fail` meets its contract, by the verdict. Assumes nothing.
+-- `state::record::State::fail` meets its contract, by the verdict. Assumes nothing.
 use Rattle.state.specs.Record.{failing, failedBy}
 use borrow.Author.Needs.{needs}
 use Rattle.state.proofs.record.State.fail.Statement.{statement}

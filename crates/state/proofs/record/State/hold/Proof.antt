@@ -1,4 +1,4 @@
--- `State::hold` meets its contract, which is its code. Assumes nothing.
+-- `state::record::State::hold` meets its contract, which is its code. Assumes nothing.
 use mathlib.Core.Path.{refl}
 use Rattle.state.specs.Record.{holding}
 use Rattle.state.proofs.record.State.hold.Statement.{statement}

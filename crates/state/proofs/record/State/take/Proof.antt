@@ -1,4 +1,4 @@
--- `State::take` meets its contract: one event more. Assumes nothing.
+-- `state::record::State::take` meets its contract: one event more. Assumes nothing.
 use native.Mathlib.Numerals.{add-one}
 use Rattle.state.specs.Record.{counted}
 use borrow.Author.Needs.{needs}

@@ -1,4 +1,4 @@
--- `Forest::join` meets its contract: two trees or more are joined. Assumes nothing.
+-- `state::valid::Forest::join` meets its contract: two trees or more are joined. Assumes nothing.
 use mathlib.Core.Path.{ap, sym, _∙_}
 use Rattle.state.specs.Walk.{joined}
 use Rattle.state.specs.Walk.Laws.{joined-few, joined-two}

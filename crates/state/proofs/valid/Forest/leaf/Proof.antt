@@ -1,4 +1,4 @@
--- `Forest::leaf` meets its contract: the sums are small. Assumes nothing.
+-- `state::valid::Forest::leaf` meets its contract: the sums are small. Assumes nothing.
 use native.Mathlib.Omega.{arith}
 use mathlib.Core.Path.{subst}
 use Rattle.state.specs.declared.valid.Forest.{Forest}

@@ -1,4 +1,4 @@
--- `Forest::whole` meets its contract: one tree, and its reach decides. Assumes nothing.
+-- `state::valid::Forest::whole` meets its contract: one tree, and its reach decides. Assumes nothing.
 use borrow.Author.Tests.{eq-eqb, ne-eqb}
 use Rattle.state.specs.Walk.{isWhole}
 use borrow.Author.Needs.{needs}

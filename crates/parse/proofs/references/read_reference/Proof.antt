@@ -1,12 +1,12 @@
--- `parse::terms::read_reference` meets its contract: each way out is a law of `Parse/Terms/Reference.antt`, with what
--- the tests say. Assumes nothing.
+-- `parse::references::read_reference` meets its contract: each way out is a law of `Parse/Terms/Reference.antt`, with
+-- what the tests say. Assumes nothing.
 use native.Mathlib.Omega.{arith}
 use mathlib.Core.Path.{refl}
 use borrow.Author.Needs.{needs}
 use Rattle.table.specs.Parse.Terms.Reference.{ref-short, ref-high, ref-fixed}
 use Rattle.table.specs.Parse.Terms.Reference.{ref-param-short, ref-param-high, ref-family}
-use Rattle.parse.proofs.terms.read_reference.Statement.{statement}
-use Rattle.parse.proofs.terms.read_reference.Tie as tie
+use Rattle.parse.proofs.references.read_reference.Statement.{statement}
+use Rattle.parse.proofs.references.read_reference.Tie as tie
 
 returns : tie.Need-returns
 returns c = ref-short _ _ _ _ (omega arith) (omega arith) refl refl

@@ -1,12 +1,12 @@
--- `parse::terms::store_term` meets its contract: the bounds of a head keep the sums in range, and the word is `packed`.
--- Assumes nothing.
+-- `parse::leaves::store_term` meets its contract: the bounds of a head keep the sums in range, and the word is
+-- `packed`. Assumes nothing.
 use native.Mathlib.Omega.{arith}
 use mathlib.Core.Path.{refl}
 use lib.ListN.{length-set}
 use borrow.Author.Needs.{needs}
 use Rattle.table.specs.Index.{packed}
-use Rattle.parse.proofs.terms.store_term.Statement.{statement}
-use Rattle.parse.proofs.terms.store_term.Tie as tie
+use Rattle.parse.proofs.leaves.store_term.Statement.{statement}
+use Rattle.parse.proofs.leaves.store_term.Tie as tie
 
 mul-low : tie.Need-mul-low
 mul-low c = search needs

@@ -1,11 +1,11 @@
--- `table_test::case::take_input` meets its contract. The list keeps its length, and no more are counted than it
+-- `table_test::fields::take_input` meets its contract. The list keeps its length, and no more are counted than it
 -- holds; the measure is what is left of it. Assumes nothing.
 use Prim.Native.Nat.{_-_, _≤_}
 use mathlib.Core.Path.{_≡_}
 use borrow.Author.Needs.{needs}
 use lib.ListN.{length}
-use Rattle.table_test.proofs.case.take_input.Statement.{statement}
-use Rattle.table_test.proofs.case.take_input.Tie as tie
+use Rattle.table_test.proofs.fields.take_input.Statement.{statement}
+use Rattle.table_test.proofs.fields.take_input.Tie as tie
 
 abbrev Inv-loop : tie.InvT-loop
 Inv-loop line list₀ right at₀ count₀ list at count = (length list ≡ length list₀) × (count ≤ length list₀)

@@ -1,12 +1,12 @@
--- `parse::terms::read_call` meets its contract: without a number there is none, and else `read_leaf` stored the call.
+-- `parse::leaves::read_call` meets its contract: without a number there is none, and else `read_leaf` stored the call.
 -- Assumes nothing.
 use Prim.Native.Nat.{_+_}
 use native.Mathlib.Omega.{arith}
 use mathlib.Core.Path.{refl}
 use borrow.Author.Needs.{needs}
 use Rattle.table.specs.Parse.Terms.Kind.{call-short, call-read, head-fits}
-use Rattle.parse.proofs.terms.read_call.Statement.{statement}
-use Rattle.parse.proofs.terms.read_call.Tie as tie
+use Rattle.parse.proofs.leaves.read_call.Statement.{statement}
+use Rattle.parse.proofs.leaves.read_call.Tie as tie
 
 add-p : tie.Need-add-p
 add-p c = search needs

@@ -1,5 +1,5 @@
--- `parse::terms::read_definitions` meets its contract. The loop's invariant is `Defined`: d definitions were read, and
--- what they stored stands in the work area. The measure is how many are left. Assumes nothing.
+-- `parse::definitions::read_definitions` meets its contract. The loop's invariant is `Defined`: d definitions were
+-- read, and what they stored stands in the work area. The measure is how many are left. Assumes nothing.
 use Prim.Native.Nat.{_-_, _≤_}
 use native.Mathlib.Omega.{arith}
 use mathlib.Core.Path.{refl, _∙_}
@@ -7,8 +7,8 @@ use borrow.Author.Needs.{needs}
 use Rattle.table.specs.Index.{setsIn}
 use Rattle.table.specs.Parse.Terms.Definitions.{Defined, defined-first, defined-ready, defined-next}
 use Rattle.table.specs.Parse.Terms.Definitions.{defined-done, defined-stop}
-use Rattle.parse.proofs.terms.read_definitions.Statement.{statement}
-use Rattle.parse.proofs.terms.read_definitions.Tie as tie
+use Rattle.parse.proofs.definitions.read_definitions.Statement.{statement}
+use Rattle.parse.proofs.definitions.read_definitions.Tie as tie
 
 abbrev Inv-loop : tie.InvT-loop
 Inv-loop list work₀ sets count at d₀ p₀ n₀ work d p n =

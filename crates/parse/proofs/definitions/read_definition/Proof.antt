@@ -1,13 +1,13 @@
--- `parse::terms::read_definition` meets its contract: the body's number and the level are stored, then the body is
--- read. Assumes nothing.
+-- `parse::definitions::read_definition` meets its contract: the body's number and the level are stored, then the body
+-- is read. Assumes nothing.
 use native.Mathlib.Omega.{arith}
 use mathlib.Core.Path.{refl, _∙_}
 use lib.ListN.{getD, length-set}
 use borrow.Author.Needs.{needs}
 use Rattle.table.specs.Parse.Terms.OneDefinition.{definition-short, definition-high, definition-read}
 use Rattle.table.specs.Parse.Terms.OneDefinition.{body-fits, marked, marks-ready, marks-same}
-use Rattle.parse.proofs.terms.read_definition.Statement.{statement}
-use Rattle.parse.proofs.terms.read_definition.Tie as tie
+use Rattle.parse.proofs.definitions.read_definition.Statement.{statement}
+use Rattle.parse.proofs.definitions.read_definition.Tie as tie
 
 returns : tie.Need-returns
 returns c =
