@@ -9,6 +9,9 @@
  * write (its pointer is not const) overlaps no other buffer of that call. The library allocates nothing and keeps
  * nothing between calls, so calls on different buffers may run at the same time.
  *
+ * Stack. A call takes up to 60 KiB where a table's ways through choices and calls are short, and more where they are
+ * long: 425 KiB is the most that was measured (tools/stack). No proof bounds it; a thread with 512 KiB has room.
+ *
  * What is returned. Each function but cspe_view returns the refusal's number, 0 where there is none (enum
  * cspe_refusal). One more word is written through the last pointer on every call: the result, the
  * refusal's place, or 0.

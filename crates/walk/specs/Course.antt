@@ -53,7 +53,8 @@ abbrev pub Prepared : Table → ℕ → List ℕ → ℕ → Residual → Type 0
 Prepared t e store k (leaf n m) = Node t e store k (nodeWord n m)
 Prepared t e store k (pair n m l r) =
     ((mayMove t e (pair n m l r) ≡ false) × Blank store k (length (words (pair n m l r))))
-    ⊎ (Prepared t e store (k + 1) l × Prepared t e store (k + 1 + length (words l)) r)
+    ⊎ ((mayMove t e (pair n m l r) ≡ true) × Prepared t e store (k + 1) l
+    × Prepared t e store (k + 1 + length (words l)) r)
 
 -- the trees from k on that are to take the event: the lowest bit of the modes says it of the first
 abbrev pub Served : Table → ℕ → List ℕ → ℕ → ℕ → List Residual → Type 0

@@ -1,14 +1,14 @@
 -- How many residuals stand after an event, and whether there are any.
 --     leaf-not-kind, leaf-not-held, leaf-held, pair-both, pair-either     how many, of a leaf and of a pair
 --     any-product, no-product, any-capped, none-of                        whether a number is above 0
---     none-after                                                          none: the residual may not take the event
+--     may-after                                                           any: the residual may take the event
 -- Assumes nothing.
-use Prim.Native.Nat.{ℕ, zero, suc, _+_, _*_, _<_, _≤_}
+use Prim.Native.Nat.{ℕ, zero, suc, _+_, _*_, _<_}
 use native.Mathlib.Omega.{arith}
 use native.Mathlib.Nat.{mul-zero, zero-mul, suc-mul}
 use mathlib.Core.Path.{_≡_, refl, sym, _∙_}
 use mathlib.Core.Bool.{Bool, true, false}
-use mathlib.Core.List.{[], _∷_}
+use mathlib.Core.List.{List, [], _∷_}
 use lib.ListN.{length, length-append}
 use lib.Dec.{eqb, ltb}
 use borrow.Author.Tests.{lt-ltb, ltb-true, ltb-false, eq-eqb, ne-eqb}
@@ -20,10 +20,12 @@ use Rattle.residual.specs.Words.{nodeWord, kindAt, holdsAt, inSet, remember}
 use Rattle.residual.specs.Residual.{Residual, leaf, pair, pairs, leafAfter, after}
 use Rattle.residual.specs.Residual.Resolved.{length-pairs, length-resolved}
 use Rattle.walk.specs.Walk.{leafKept, leafResults}
-use Rattle.walk.specs.Walk.Leaves.{results-yes, kept-not-kind, kept-not-held, leaf-length}
+use Rattle.residual.specs.Distinct.{kept}
+use Rattle.residual.specs.Distinct.Laws.{kept-some}
+use Rattle.walk.specs.Walk.Leaves.{results-yes, kept-yes, kept-not-kind, kept-not-held}
 use Rattle.walk.specs.Forest.{Valid, mayMove}
-use Rattle.walk.specs.Forest.Words.{term-of-node, memory-of-node}
-use Rattle.walk.specs.Forest.Still.{may-both, may-either, never}
+use Rattle.walk.specs.Forest.Still.{may-both, may-either}
+use Rattle.moves.specs.Members.{node-results, results-not-kind, results-not-held}
 
 -- ---- how many residuals stand after an event
 
@@ -73,49 +75,44 @@ any-capped (suc x) c e = lt-ltb 0 c (omega arith) ∙ sym (lt-ltb 0 (suc x) (ome
 pub none-of : (x : ℕ) → ltb 0 x ≡ false → x ≡ 0
 none-of x e = omega (arith, ltb-false 0 x e)
 
--- ---- a residual that may take the event has a residual after it
+-- ---- a residual may take the event exactly where there is a residual after it
 
-by-tests : (t : Table) (e w : ℕ) (a b : Bool) → eqb (kindAt t w) 2 ≡ a → holdsAt t e w ≡ b
-    → length (leafKept t e w) ≤ length (leafResults t e w)
-by-tests t e w true true ea eb = rw (results-yes t e w ea eb) (leaf-length t e w)
-by-tests t e w true false ea eb = rw (kept-not-held t e w ea eb) (omega arith)
-by-tests t e w false b ea eb = rw (kept-not-kind t e w ea) (omega arith)
+any-kept : (f : ℕ → List ℕ) (n : ℕ) → ltb 0 (length (kept f n)) ≡ ltb 0 n
+unfolding kept
+any-kept f zero = refl
+any-kept f (suc n) = lt-ltb 0 _ (kept-some f n) ∙ sym (lt-ltb 0 (suc n) (omega arith))
 
-kept-within : (t : Table) (e w : ℕ) → length (leafKept t e w) ≤ length (leafResults t e w)
-kept-within t e w = by-tests t e w _ _ refl refl
+leaf-by : (t : Table) (e w : ℕ) (a b : Bool) → eqb (kindAt t w) 2 ≡ a → holdsAt t e w ≡ b
+    → ltb 0 (length (leafKept t e w)) ≡ ltb 0 (length (leafResults t e w))
+leaf-by t e w true true ea eb = rw (results-yes t e w ea eb, kept-yes t e w ea eb) (any-kept _ _)
+leaf-by t e w true false ea eb = rw (results-not-held t e w ea eb, kept-not-held t e w ea eb)
+leaf-by t e w false b ea eb = rw (results-not-kind t e w ea, kept-not-kind t e w ea)
 
-leaf-some : (t : Table) (e n m : ℕ) → m < 16777216 → mayMove t e (leaf n m) ≡ true → 0 < length (after t e (leaf n m))
-unfolding mayMove after leafResults
-leaf-some t e n m h z =
-    let p = ltb-true 0 (length (leafKept t e (nodeWord n m))) z in
-    let q : length (leafKept t e (nodeWord n m)) ≤ length (leafAfter t e n m)
-    = rw (term-of-node n m h, memory-of-node n m h) at (kept-within t e (nodeWord n m)) in
-    omega arith
+leaf-may : (t : Table) (e n m : ℕ) → m < 16777216 → mayMove t e (leaf n m) ≡ ltb 0 (length (after t e (leaf n m)))
+unfolding mayMove after
+leaf-may t e n m h = rw (← (node-results t e n m h)) (leaf-by t e (nodeWord n m) _ _ refl refl)
 
-positive-product : (x y : ℕ) → 0 < x → 0 < y → 0 < x * y
-positive-product x y h k = ltb-true 0 (x * y) (any-product x y h ∙ lt-ltb 0 y k)
+pair-may : (t : Table) (e n m : ℕ) (l r : Residual) (b x : Bool) → inSet t (termOf t n) m e ≡ b → mayMove t e l ≡ x
+    → mayMove t e l ≡ ltb 0 (length (after t e l)) → mayMove t e r ≡ ltb 0 (length (after t e r))
+    → mayMove t e (pair n m l r) ≡ ltb 0 (length (after t e (pair n m l r)))
+pair-may t e n m l r true true h p el er =
+    rw (pair-both t e n m l r h)
+    (may-both t e n m l r h p ∙ er
+    ∙ sym (any-product (length (after t e l)) (length (after t e r)) (ltb-true 0 _ (sym el ∙ p))))
+pair-may t e n m l r true false h p el er =
+    rw (pair-both t e n m l r h)
+    (may-both t e n m l r h p
+    ∙ sym (no-product (length (after t e l)) (length (after t e r)) (none-of _ (sym el ∙ p))))
+pair-may t e n m l r false true h p el er =
+    let z : 0 < length (after t e l) = ltb-true 0 (length (after t e l)) (sym el ∙ p) in
+    rw (pair-either t e n m l r h)
+    (may-either t e n m l r h p ∙ sym (lt-ltb 0 (length (after t e l) + length (after t e r)) (omega arith)))
+pair-may t e n m l r false false h p el er =
+    let z : length (after t e l) + length (after t e r) ≡ length (after t e r) =
+    omega (arith, none-of (length (after t e l)) (sym el ∙ p)) in
+    rw (pair-either t e n m l r h, z) (may-either t e n m l r h p ∙ er)
 
-pair-some : (t : Table) (e n m : ℕ) (l r : Residual) (b x y : Bool) → inSet t (termOf t n) m e ≡ b
-    → mayMove t e l ≡ x → mayMove t e r ≡ y → (mayMove t e l ≡ true → 0 < length (after t e l))
-    → (mayMove t e r ≡ true → 0 < length (after t e r)) → mayMove t e (pair n m l r) ≡ true
-    → 0 < length (after t e (pair n m l r))
-pair-some t e n m l r true true true h p q fl fr z =
-    rw (pair-both t e n m l r h) (positive-product _ _ (fl p) (fr q))
-pair-some t e n m l r true true false h p q fl fr z = never (sym z ∙ may-both t e n m l r h p ∙ q)
-pair-some t e n m l r true false y h p q fl fr z = never (sym z ∙ may-both t e n m l r h p)
-pair-some t e n m l r false true y h p q fl fr z = rw (pair-either t e n m l r h) (omega (arith, fl p))
-pair-some t e n m l r false false true h p q fl fr z = rw (pair-either t e n m l r h) (omega (arith, fr q))
-pair-some t e n m l r false false false h p q fl fr z = never (sym z ∙ may-either t e n m l r h p ∙ q)
-
-some-after : (t : Table) (e : ℕ) (r : Residual) → Valid t r → mayMove t e r ≡ true → 0 < length (after t e r)
-some-after t e (leaf n m) v z = leaf-some t e n m (v .0 .0) z
-some-after t e (pair n m l r) v z =
-    pair-some t e n m l r _ _ _ refl refl refl (some-after t e l (v .2)) (some-after t e r (v .3)) z
-
-pub none-after : (t : Table) (e : ℕ) (r : Residual) → Valid t r → ltb 0 (length (after t e r)) ≡ false
-    → mayMove t e r ≡ false
-none-after t e r v z = by-flag (mayMove t e r) refl
-  where
-    by-flag : (x : Bool) → mayMove t e r ≡ x → mayMove t e r ≡ false
-    by-flag true p = absurd (omega (arith, some-after t e r v p, ltb-false 0 (length (after t e r)) z))
-    by-flag false p = p
+pub may-after : (t : Table) (e : ℕ) (r : Residual) → Valid t r → mayMove t e r ≡ ltb 0 (length (after t e r))
+may-after t e (leaf n m) v = leaf-may t e n m (v .0 .0)
+may-after t e (pair n m l r) v =
+    pair-may t e n m l r _ _ refl refl (may-after t e l (v .2)) (may-after t e r (v .3))

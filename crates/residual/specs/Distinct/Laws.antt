@@ -1,7 +1,7 @@
 -- The laws of a leaf's distinct results.
 --     same-true, same-cons, differ-cons                      equal lists of words
 --     length-window, at-window, window-none, window-cons     some words of a list
---     kept-held, kept-new, kept-below, kept-few              the indices kept
+--     kept-held, kept-new, kept-below, kept-few, kept-some   the indices kept
 --     snoc-window                                            one index more in a list
 --     resolves-empty, branches-exact                         what resolving asks; how many residuals there are
 -- Not here: the loops of `leaves.rt`, in `Words.antt` and `Keeping.antt`. Assumes nothing.
@@ -112,6 +112,14 @@ kept-few f zero = omega arith
 kept-few f (suc i) =
     by-held f i (heldIn f (kept f i) (f i)) refl (λ l. length l ≤ suc i) (omega (arith, kept-few f i))
     (omega (arith, kept-few f i, length-append (kept f i) (i ∷ [])))
+
+-- the first one is
+pub kept-some : (f : ℕ → List ℕ) (i : ℕ) → 0 < length (kept f (suc i))
+unfolding kept heldIn
+kept-some f zero = rw (kept-new f 0 1 refl refl) (omega arith)
+kept-some f (suc i) =
+    by-held f (suc i) (heldIn f (kept f (suc i)) (f (suc i))) refl (λ l. 0 < length l) (kept-some f i)
+    (omega (arith, length-append (kept f (suc i)) (suc i ∷ [])))
 
 -- ---- the store
 

@@ -6,7 +6,7 @@
 use Prim.Native.Nat.{ℕ, suc, _+_, _*_, _<_, _≤_}
 use native.Mathlib.Omega.{arith}
 use mathlib.Core.Path.{_≡_, refl, ap, sym, _∙_}
-use mathlib.Core.Bool.{false}
+use mathlib.Core.Bool.{true, false}
 use mathlib.Core.Logic.{inr}
 use mathlib.Core.List.{List, [], _∷_, _++_, append-assoc, append-nil}
 use lib.ListN.{length, getD, take, length-append}
@@ -15,13 +15,13 @@ use Rattle.residual.specs.Residual.{Residual, leaf, pair, words}
 use Rattle.residual.specs.Words.{nodeWord}
 use Rattle.residual.specs.Lawful.{Lawful}
 use Rattle.walk.specs.Walk.{leafKept}
-use Rattle.walk.specs.Forest.{Valid, AllValid, wordsAll}
+use Rattle.walk.specs.Forest.{Valid, AllValid, mayMove, wordsAll}
 use Rattle.walk.specs.Forest.Words.{words-positive}
 use Rattle.walk.specs.Course.{nodeCount, nodesFrom, Prepared}
 use Rattle.walk.specs.Course.Nodes.{nodes-none, nodes-cons, nodes-skip}
 use Rattle.walk.specs.declared.nodes.Tree.{Tree}
 use Rattle.moves.specs.Takes.{TreeAt, Takes}
-use Rattle.moves.specs.Takes.Counts.{none-after}
+use Rattle.moves.specs.Takes.Counts.{may-after}
 use Rattle.step.specs.Prepared.{Sound, Filled, Blanked, PreparedAll, Left, UpTo, Fills}
 use Rattle.step.specs.Prepared.Below.{getD-below, take-below, nodes-same, node-kept, nodes-drop}
 use Rattle.step.specs.Prepared.Below.{nodes-length}
@@ -95,6 +95,12 @@ module _ (t : Table) (bound e : ℕ) (old : List ℕ) (s : Sound t bound e old) 
             let n = ta .of r _ (nodes-drop now k (words r) (wordsAll rs) g) v .1 in
             (n, rw n (nodes-skip now k (words r) (wordsAll rs) big g))
 
+        takes-may : (r : Residual) (rs : List Residual) → nodesFrom now k ≡ wordsAll (r ∷ rs) → Valid t r
+            → mayMove t e r ≡ c .moves
+        unfolding wordsAll
+        takes-may r rs g v =
+            may-after t e r v ∙ sym (ta .of r _ (nodes-drop now k (words r) (wordsAll rs) g) v .0)
+
         within : (r : Residual) (rs : List Residual) → nodesFrom now k ≡ wordsAll (r ∷ rs)
             → k + length (words r) ≤ nodeCount old + 1
         unfolding wordsAll
@@ -133,8 +139,7 @@ module _ (t : Table) (bound e : ℕ) (old : List ℕ) (s : Sound t bound e old) 
           pass-by tree [] g v rest = no-trees (sym here ∙ g)
           pass-by tree (r ∷ rs) g v rest =
               let n = next-of r rs g (v .0) in
-              let still = none-after t e r (v .0)
-              (sym (ta .of r _ (nodes-drop now k (words r) (wordsAll rs) g) (v .0) .0) ∙ no) in
+              let still = takes-may r rs g (v .0) ∙ no in
               record {
                 trees = rs;
                 spelt =
@@ -158,57 +163,57 @@ module _ (t : Table) (bound e : ℕ) (old : List ℕ) (s : Sound t bound e old) 
             left = λ r v g. let d = u .left r v g in pass-by r (d .trees) (d .spelt) (d .valid) (d .rest);
           }
 
-      -- ---- a node of a tree that takes it
+        -- ---- a node of a tree that takes it
 
-      module _ (law : Lawful t) (new : List ℕ) (f : Filled t e now new k) where
-        move-slot : take 257 new ≡ take 257 now
-        move-slot = take-below (k * 257) 257 new now (f .before) (omega arith)
+        module _ (yes : c .moves ≡ true) (law : Lawful t) (new : List ℕ) (f : Filled t e now new k) where
+          move-slot : take 257 new ≡ take 257 now
+          move-slot = take-below (k * 257) 257 new now (f .before) (omega arith)
 
-        same-word : getD new k 0 ≡ getD now k 0
-        same-word = getD-below (k * 257) new now k (f .before) (omega arith)
+          same-word : getD new k 0 ≡ getD now k 0
+          same-word = getD-below (k * 257) new now k (f .before) (omega arith)
 
-        rest-nodes : nodesFrom new (k + 1) ≡ nodesFrom now (k + 1)
-        rest-nodes = nodes-same now new (k + 1) move-slot (rw up-count (s .few)) (omega (arith, s .few))
+          rest-nodes : nodesFrom new (k + 1) ≡ nodesFrom now (k + 1)
+          rest-nodes = nodes-same now new (k + 1) move-slot (rw up-count (s .few)) (omega (arith, s .few))
 
-        word-few : length (leafKept t e (getD now k 0)) ≤ 256
-        word-few = node-few t bound e now (up-sound size) k a (omega (arith, up-count)) law
+          word-few : length (leafKept t e (getD now k 0)) ≤ 256
+          word-few = node-few t bound e now (up-sound size) k a (omega (arith, up-count)) law
 
-        move-by : (tree : Residual) (rs : List Residual) → nodesFrom now k ≡ wordsAll rs → AllValid t rs
-            → ((x : List ℕ) → take (k * 257) x ≡ take (k * 257) now → PreparedAll t e x k rs → Prepared t e x 1 tree)
-            → Left t e new (k + 1) tree
-        unfolding wordsAll words
-        move-by tree [] g v rest = no-trees (sym here ∙ g)
-        move-by tree (leaf n m ∷ rs) g v rest =
-            let w = head-of (sym here ∙ g) in
-            record {
-              trees = rs;
-              spelt = rest-nodes ∙ w .1;
-              valid = v .1;
-              rest = λ x q d.
-                  rest x (take-below ((k + 1) * 257) (k * 257) x new q (omega arith) ∙ f .before) (
-                    node-kept t e ((k + 1) * 257) new x k (nodeWord n m) q (rw (← (w .0)) word-few) (omega arith)
-                        (rw (same-word ∙ w .0) at (f .node)),
-                    d,
-                  );
-            }
-        move-by tree (pair n m l r ∷ rs) g v rest =
-            let w = head-of (sym here ∙ g) in
-            let z : k + suc (length (words l ++ words r)) ≡ k + 1 + length (words l) + length (words r)
-            = omega (arith, length-append (words l) (words r)) in
-            record {
-              trees = l ∷ r ∷ rs;
-              spelt = rest-nodes ∙ w .1 ∙ append-assoc (words l) (words r) (wordsAll rs);
-              valid = (v .0 .2, (v .0 .3, v .1));
-              rest = λ x q d.
-                  rest x (take-below ((k + 1) * 257) (k * 257) x new q (omega arith) ∙ f .before)
-                  (inr (d .0, d .1 .0), rw z (d .1 .1));
-            }
+          move-by : (tree : Residual) (rs : List Residual) → nodesFrom now k ≡ wordsAll rs → AllValid t rs
+              → ((x : List ℕ) → take (k * 257) x ≡ take (k * 257) now → PreparedAll t e x k rs → Prepared t e x 1 tree)
+              → Left t e new (k + 1) tree
+          unfolding wordsAll words
+          move-by tree [] g v rest = no-trees (sym here ∙ g)
+          move-by tree (leaf n m ∷ rs) g v rest =
+              let w = head-of (sym here ∙ g) in
+              record {
+                trees = rs;
+                spelt = rest-nodes ∙ w .1;
+                valid = v .1;
+                rest = λ x q d.
+                    rest x (take-below ((k + 1) * 257) (k * 257) x new q (omega arith) ∙ f .before) (
+                      node-kept t e ((k + 1) * 257) new x k (nodeWord n m) q (rw (← (w .0)) word-few) (omega arith)
+                          (rw (same-word ∙ w .0) at (f .node)),
+                      d,
+                    );
+              }
+          move-by tree (pair n m l r ∷ rs) g v rest =
+              let w = head-of (sym here ∙ g) in
+              let z : k + suc (length (words l ++ words r)) ≡ k + 1 + length (words l) + length (words r)
+              = omega (arith, length-append (words l) (words r)) in
+              record {
+                trees = l ∷ r ∷ rs;
+                spelt = rest-nodes ∙ w .1 ∙ append-assoc (words l) (words r) (wordsAll rs);
+                valid = (v .0 .2, (v .0 .3, v .1));
+                rest = λ x q d.
+                    rest x (take-below ((k + 1) * 257) (k * 257) x new q (omega arith) ∙ f .before)
+                    (inr (takes-may (pair n m l r) rs g (v .0) ∙ yes, d .0, d .1 .0), rw z (d .1 .1));
+              }
 
-        pub up-moves : UpTo t e old new (k + 1)
-        up-moves = record {
-          slot = move-slot ∙ u .slot;
-          left = λ r v g. let d = u .left r v g in move-by r (d .trees) (d .spelt) (d .valid) (d .rest);
-        }
+          pub up-moves : UpTo t e old new (k + 1)
+          up-moves = record {
+            slot = move-slot ∙ u .slot;
+            left = λ r v g. let d = u .left r v g in move-by r (d .trees) (d .spelt) (d .valid) (d .rest);
+          }
 
     -- ---- all nodes are done
 

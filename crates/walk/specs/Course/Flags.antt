@@ -68,8 +68,8 @@ module _ (t : Table) (e : ℕ) (store : List ℕ) where
   prepared-flag k (leaf n m) d = ap (ltb 0) (d .number)
   prepared-flag k (pair n m l r) (inl d) = blank-flag k (pair n m l r) (d .1) ∙ sym (d .0)
   prepared-flag k (pair n m l r) (inr d) =
-      same-flag k n m l r _ _ refl refl (prepared-flag (k + 1) l (d .0))
-      (prepared-flag (k + 1 + length (words l)) r (d .1))
+      same-flag k n m l r _ _ refl refl (prepared-flag (k + 1) l (d .1))
+      (prepared-flag (k + 1 + length (words l)) r (d .2))
 
   -- ---- a prepared pair
 
@@ -80,7 +80,7 @@ module _ (t : Table) (e : ℕ) (store : List ℕ) where
     sides-prepared (inl d) (inl z) = never (sym z ∙ blank-flag (k + 1) l (blank-left k n m l r (d .1)))
     sides-prepared (inl d) (inr z) =
         never (sym z ∙ blank-flag (k + 1 + length (words l)) r (blank-right k n m l r (d .1)))
-    sides-prepared (inr d) z = d
+    sides-prepared (inr d) z = (d .1, d .2)
 
     pub pair-still : Prepared t e store k (pair n m l r) → flagged t e store k (pair n m l r) ≡ false
         → mayMove t e (pair n m l r) ≡ false
@@ -94,12 +94,12 @@ module _ (t : Table) (e : ℕ) (store : List ℕ) where
       pub left-still : Prepared t e store k (pair n m l r) → flagged t e store (k + 1) l ≡ false
           → mayMove t e l ≡ false
       left-still (inl d) z = left-of _ refl (d .0)
-      left-still (inr d) z = sym (prepared-flag (k + 1) l (d .0)) ∙ z
+      left-still (inr d) z = sym (prepared-flag (k + 1) l (d .1)) ∙ z
 
       pub right-still : Prepared t e store k (pair n m l r)
           → flagged t e store (k + 1 + length (words l)) r ≡ false → mayMove t e r ≡ false
       right-still (inl d) z = sym (may-either t e n m l r no (left-of _ refl (d .0))) ∙ d .0
-      right-still (inr d) z = sym (prepared-flag (k + 1 + length (words l)) r (d .1)) ∙ z
+      right-still (inr d) z = sym (prepared-flag (k + 1 + length (words l)) r (d .2)) ∙ z
 
 -- ---- the first tree at a place
 

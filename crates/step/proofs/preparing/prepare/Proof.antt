@@ -81,7 +81,9 @@ loop-again c =
           ∙ at-loop .loop .inv .2,
       at-loop .loop .inv .3,
       up-moves _ _ _ _ (at-start .pre .1) _ _ (at-loop .loop .inv .4) (at-loop .loop .inv .2) (at-loop .loop .inv .0)
-          (omega (arith, at-loop .loop .inv .3, tested)) (lawful (at-start .pre .0)) _ (c .before .before .prepare-node .ensures),
+          (omega (arith, at-loop .loop .inv .3, tested)) _ (c .before .before .before .before .before .takes-at .ensures)
+          (c .before .before .before .before .if1 .taken) (lawful (at-start .pre .0)) _
+          (c .before .before .prepare-node .ensures),
     )
 
 -- a tree that does not
