@@ -55,7 +55,8 @@ fn step_leaf(
     Held::Count(c)
 }
 
-// Holds a slot followed by each result that moves say of the n nodes from p on.
+// Holds a slot followed by each result that moves say of the n nodes from p on: leaf after leaf, the
+// nodes before it pushed on the slot; a leaf that has been stepped is a node like the others.
 pub fn step_moves(
     list: &[u16],
     work: &[u64],
@@ -68,51 +69,49 @@ pub fn step_moves(
     also: u64,
     slot: [u64; 16],
     dst: &mut [u64],
-    c: usize,
+    count: usize,
 ) -> Held
     requires { ⌜ Indexed (now list) (now work) ⌝ }
-    requires { ⌜ StepsMoves (tableIn (now list)) bound e (now src) p n each also slot (now dst) c ⌝ }
+    requires { ⌜ StepsMoves (tableIn (now list)) bound e (now src) p n each also slot (now dst) count ⌝ }
     ensures { λ r.
         ⌜ Gave (steppedMoves (tableIn (now (list .entry))) e (now (src .entry)) p n each also slot
-        (now (dst .entry)) c) r (now (dst .exit)) ⌝ }
+        (now (dst .entry)) count) r (now (dst .exit)) ⌝ }
 {
-    if each == 1 {
-        return step_leaf(list, work, bound, e, src, p, n, also, slot, dst, c);
-    }
-    let s = carry(list, work, bound, e, src[p], also, slot);
-    if each % 2 == 0 {
-        return step_moves(
-            list,
-            work,
-            bound,
-            e,
-            src,
-            p + 1,
-            n - 1,
-            each / 2,
-            also / 2,
-            s,
-            dst,
-            c,
-        );
-    }
-    match step_leaf(list, work, bound, e, src, p, n, also, slot, dst, c) {
-        Held::Count(d) => {
-            step_moves(
-                list,
-                work,
-                bound,
-                e,
-                src,
-                p + 1,
-                n - 1,
-                each / 2,
-                also / 2,
-                s,
-                dst,
-                d,
-            )
+    let mut at = p;
+    let mut left = n;
+    let mut x = each;
+    let mut u = also;
+    let mut s = slot;
+    let mut c = count;
+    while 0 < x {
+        if x % 2 == 1 {
+            match step_leaf(list, work, bound, e, src, at, left, u, s, dst, c) {
+                Held::Count(d) => {
+                    c = d;
+                    x -= 1;
+                    continue;
+                }
+                Held::Exceeded => {
+                    return Held::Exceeded;
+                }
+            }
         }
-        Held::Exceeded => Held::Exceeded,
+        let w = src[at];
+        if u % 2 == 0 {
+            let k = s[0] + 1;
+            s[k as usize] = w;
+            s[0] = k;
+            at += 1;
+            left -= 1;
+            x /= 2;
+            u /= 2;
+            continue;
+        }
+        s = carry(list, work, bound, e, w, u, s);
+        at += 1;
+        left -= 1;
+        x /= 2;
+        u /= 2;
     }
+    Held::Count(c)
 }

@@ -1,135 +1,165 @@
--- The leaves that move, one after the other: one law per way out of `step_moves`.
---     moves-head, moves-leaf, moves-carries, moves-last     at a leaf
---     moves-asks, moves-kept, moves-next, moves-exceeded     after it
+-- The leaves that move, one after the other: one law per way out of `step_moves`, and per turn of its loop.
+--     MovesLeft, moves-first               what holds at a node; the first
+--     left-leaf, left-cleared, left-exceeded     a leaf that moves: its step, and what is left when it has been stepped
+--     left-room, left-pushed, left-carries, left-carried     a node that does not: pushed, or carried where it is marked
+--     left-end                             no leaf is left
 -- Assumes nothing.
 use Prim.Native.Nat.{ℕ, suc, _+_, _-_, _*_, _/_, _%_, _<_, _≤_}
 use native.Mathlib.Omega.{arith}
 use native.Mathlib.Decide.{decLt}
-use mathlib.Core.Path.{_≡_, ap, sym, _∙_}
-use mathlib.Core.List.{List, _∷_, _++_, append-nil}
+use mathlib.Core.Path.{_≡_, refl, ap, sym, _∙_}
+use mathlib.Core.List.{List, _∷_, _++_}
 use lib.ListN.{length, getD}
 use Rattle.table.specs.Table.{Table}
 use Rattle.slots.specs.declared.slots.Held.{Held}
 use Rattle.slots.specs.declared.slots.Held.the-variants.{Count, Exceeded}
-use Rattle.residual.specs.Residual.{pushAll}
+use Rattle.residual.specs.Residual.{pushed, pushAll}
 use Rattle.residual.specs.Distinct.{window}
 use Rattle.residual.specs.Distinct.Laws.{window-cons, window-none}
 use Rattle.walk.specs.Walk.{onto}
 use Rattle.walk.specs.Walk.Results.{onto-append, onto-head}
-use Rattle.slots.specs.Holding.{said, putAll, Gave}
-use Rattle.slots.specs.Holding.Laws.{put-then, put-stop}
-use Rattle.moves.specs.Only.{grown, rebuilt, starting, tried, triedBy, moved, Movable, Rest}
+use Rattle.slots.specs.Holding.{Outcome, said, putAll, Gave}
+use Rattle.slots.specs.Holding.Laws.{put-none, put-then, put-stop}
+use Rattle.moves.specs.Only.{grown, rebuilt, starting, triedBy, moved, Movable, Rest}
 use Rattle.moves.specs.Only.{Carries}
-use Rattle.moves.specs.Only.Rebuilding.{rest-carries, rest-grown}
+use Rattle.moves.specs.Only.Marks.{grown-kept}
+use Rattle.moves.specs.Only.Rebuilding.{rest-carries, rest-grown, rest-room}
 use Rattle.moves.specs.Only.Moved.{tried-none, tried-some, moved-none}
 use Rattle.moves.specs.Moving.{StepsLeaf, steppedLeaf, StepsMoves, steppedMoves}
 
-module _ {t : Table} {bound e : ℕ} {src : List ℕ} {p n each also : ℕ} {slot dst : List ℕ} {c : ℕ}
-    (s : StepsMoves t bound e src p n each also slot dst c) where
-  abbrev first : ℕ
-  first = getD src p 0
+-- n nodes from p on are left; with what is held by now they come to the outcome o
+pub record MovesLeft (t : Table) (bound e : ℕ) (src : List ℕ) (p n each also : ℕ) (slot dst : List ℕ) (c : ℕ)
+    (o : Outcome) : Type 0 where
+  pub inside : p + n ≤ length src
+  pub can : Movable t e (window p n src) each
+  pub rest : Rest t e (window p n src) also slot
+  pub held : c * 16 ≤ length dst
+  pub same : steppedMoves t e src p n each also slot dst c ≡ o
 
-  abbrev others : List ℕ
-  others = window (p + 1) (n - 1) src
+pub moves-first : {t : Table} {bound e : ℕ} {src : List ℕ} {p n each also : ℕ} {slot dst : List ℕ} {c : ℕ}
+    → StepsMoves t bound e src p n each also slot dst c
+    → MovesLeft t bound e src p n each also slot dst c (steppedMoves t e src p n each also slot dst c)
+moves-first s =
+    record { inside = s .inside; can = s .can; rest = s .rest; held = s .held; same = refl }
 
-  pub moves-head : 0 < n
-  moves-head =
-      elim (decLt 0 n) [
-        | yes h ↦ h
-        | no h ↦
-            let z : n ≡ 0 = omega arith in
-            absurd (omega (arith, s .some, rw (z, window-none p src) at (s .can)))
-      ]
+module _ {t : Table} {bound e : ℕ} {src : List ℕ} {p n each also : ℕ} {slot dst : List ℕ} {c : ℕ} {o : Outcome}
+    (event : e < 64) (whole : bound ≡ length (t .definitions))
+    (s : MovesLeft t bound e src p n each also slot dst c o) where
+  pub left-end : each ≡ 0 → Gave o (Count c) dst
+  unfolding steppedMoves onto
+  left-end z = record { same = put-none dst c ∙ rw (z, moved-none t e (window p n src) also) at (s .same); fits = s .held }
 
-  split : window p n src ≡ first ∷ others
-  split =
-      let z : n ≡ suc (n - 1) = omega (arith, moves-head) in
-      ap (λ (k : ℕ). window p k src) z ∙ window-cons p (n - 1) src (omega (arith, s .inside, moves-head))
+  module _ (some : 0 < each) where
+    abbrev first : ℕ
+    first = getD src p 0
 
-  rest-here : Rest t e (first ∷ others) also slot
-  rest-here = rw split at (s .rest)
+    abbrev others : List ℕ
+    others = window (p + 1) (n - 1) src
 
-  can-here : Movable t e (first ∷ others) each
-  can-here = rw split at (s .can)
+    pub left-head : 0 < n
+    left-head =
+        elim (decLt 0 n) [
+          | yes h ↦ h
+          | no h ↦
+              let z : n ≡ 0 = omega arith in
+              absurd (omega (arith, rw (z, window-none p src) at (s .can)))
+        ]
 
-  pub moves-leaf : (each % 2 ≡ 0 → ⊥) → StepsLeaf t bound e src p n also slot dst c
-  moves-leaf z = record {
-    event = s .event;
-    whole = s .whole;
-    inside = s .inside;
-    some = moves-head;
-    active = can-here .0 z;
-    rest = s .rest;
-    held = s .held;
-  }
+    split : window p n src ≡ first ∷ others
+    split =
+        let z : n ≡ suc (n - 1) = omega (arith, left-head) in
+        ap (λ (k : ℕ). window p k src) z ∙ window-cons p (n - 1) src (omega (arith, s .inside, left-head))
 
-  pub moves-carries : Carries t bound e first also slot
-  moves-carries = rest-carries t bound e first others also slot rest-here (s .event) (s .whole)
+    rest-here : Rest t e (first ∷ others) also slot
+    rest-here = rw split at (s .rest)
 
-  by-parts : steppedMoves t e src p n each also slot dst c
-      ≡ putAll dst c (onto slot (triedBy t e (each % 2) first (rebuilt t e others (also / 2)))
-      ++ onto (pushAll slot (grown t e first (also % 2))) (moved t e others (each / 2) (also / 2)))
-  unfolding steppedMoves moved
-  by-parts =
-      rw (
-        split,
-        onto-append slot (triedBy t e (each % 2) first (rebuilt t e others (also / 2)))
-            (starting (grown t e first (also % 2)) (moved t e others (each / 2) (also / 2))),
-        onto-head slot (grown t e first (also % 2)) (moved t e others (each / 2) (also / 2)),
-      )
+    can-here : Movable t e (first ∷ others) each
+    can-here = rw split at (s .can)
 
-  pub moves-last : each ≡ 1 → (r : Held) (l : List ℕ) → Gave (steppedLeaf t e src p n also slot dst c) r l
-      → Gave (steppedMoves t e src p n each also slot dst c) r l
-  unfolding steppedLeaf onto
-  moves-last z r l g = record {
-    same = g .same ∙ sym (by-parts ∙ rw (
-      z,
-      tried-some t e first 1 (rebuilt t e others (also / 2)) (λ y. absurd (omega arith)),
-      moved-none t e others (also / 2),
-      append-nil (onto slot (tried t e first (rebuilt t e others (also / 2)))),
-    ));
-    fits = g .fits;
-  }
+    by-parts : (x : ℕ) (y : List ℕ) (d : ℕ) → steppedMoves t e src p n x also slot y d
+        ≡ putAll y d (onto slot (triedBy t e (x % 2) first (rebuilt t e others (also / 2)))
+        ++ onto (pushAll slot (grown t e first (also % 2))) (moved t e others (x / 2) (also / 2)))
+    unfolding steppedMoves moved
+    by-parts x y d =
+        rw (
+          split,
+          onto-append slot (triedBy t e (x % 2) first (rebuilt t e others (also / 2)))
+              (starting (grown t e first (also % 2)) (moved t e others (x / 2) (also / 2))),
+          onto-head slot (grown t e first (also % 2)) (moved t e others (x / 2) (also / 2)),
+        )
 
-  module _ (x : List ℕ) (carried : x ≡ pushAll slot (grown t e first (also % 2))) where
-    module _ (one : each ≡ 1 → ⊥) where
-      pub moves-asks : (y : List ℕ) (q : ℕ) → q * 16 ≤ length y
-          → StepsMoves t bound e src (p + 1) (n - 1) (each / 2) (also / 2) x y q
-      moves-asks y q f = record {
-        event = s .event;
-        whole = s .whole;
-        inside = omega (arith, s .inside, moves-head);
-        some = omega (arith, s .some);
-        can = can-here .1;
-        rest = rw carried (rest-grown t bound e first others also slot rest-here);
-        held = f;
+    -- where the leaf does not move
+    no-part : (x : ℕ) (y : List ℕ) (d : ℕ) → x % 2 ≡ 0 → steppedMoves t e src p n x also slot y d
+        ≡ putAll y d (onto (pushAll slot (grown t e first (also % 2))) (moved t e others (x / 2) (also / 2)))
+    unfolding onto
+    no-part x y d z =
+        by-parts x y d ∙ rw (tried-none t e first (x % 2) (rebuilt t e others (also / 2)) z)
+
+    -- ---- a leaf that moves
+
+    module _ (odd : each % 2 ≡ 1) where
+      moves : each % 2 ≡ 0 → ⊥
+      moves z = omega arith
+
+      pub left-leaf : StepsLeaf t bound e src p n also slot dst c
+      left-leaf = record {
+        event = event;
+        whole = whole;
+        inside = s .inside;
+        some = left-head;
+        active = can-here .0 moves;
+        rest = s .rest;
+        held = s .held;
       }
 
-      pub moves-kept : each % 2 ≡ 0 → (r : Held) (l : List ℕ)
-          → Gave (steppedMoves t e src (p + 1) (n - 1) (each / 2) (also / 2) x dst c) r l
-          → Gave (steppedMoves t e src p n each also slot dst c) r l
-      unfolding steppedMoves onto
-      moves-kept z r l g = record {
-        same = g .same ∙ sym (by-parts
-            ∙ rw (tried-none t e first (each % 2) (rebuilt t e others (also / 2)) z, ← carried));
-        fits = g .fits;
-      }
-
-      module _ (z : each % 2 ≡ 0 → ⊥) (r1 : Held) (l1 : List ℕ)
-          (g1 : Gave (steppedLeaf t e src p n also slot dst c) r1 l1) where
-        leaf-part : said r1 l1 ≡ putAll dst c (onto slot (triedBy t e (each % 2) first (rebuilt t e others (also / 2))))
+      module _ (r1 : Held) (l1 : List ℕ) (g1 : Gave (steppedLeaf t e src p n also slot dst c) r1 l1) where
+        leaf-part : said r1 l1
+            ≡ putAll dst c (onto slot (triedBy t e (each % 2) first (rebuilt t e others (also / 2))))
         unfolding steppedLeaf
-        leaf-part = g1 .same ∙ rw (tried-some t e first (each % 2) (rebuilt t e others (also / 2)) z)
+        leaf-part = g1 .same ∙ rw (tried-some t e first (each % 2) (rebuilt t e others (also / 2)) moves)
 
-        pub moves-next : (d : ℕ) → r1 ≡ Count d → (r : Held) (l : List ℕ)
-            → Gave (steppedMoves t e src (p + 1) (n - 1) (each / 2) (also / 2) x l1 d) r l
-            → Gave (steppedMoves t e src p n each also slot dst c) r l
-        unfolding steppedMoves
-        moves-next d ed r l g = record {
-          same = g .same ∙ rw carried (put-then dst c _ _ ed leaf-part) ∙ sym by-parts;
-          fits = g .fits;
-        }
+        pub left-cleared : (d : ℕ) → r1 ≡ Count d → MovesLeft t bound e src p n (each - 1) also slot l1 d o
+        left-cleared d ed =
+            let h : (each - 1) / 2 ≡ each / 2 = omega arith in
+            let z : (each - 1) % 2 ≡ 0 = omega arith in
+            record {
+              inside = s .inside;
+              can = rw split (λ y. absurd (y z), rw h (can-here .1));
+              rest = s .rest;
+              held = rw ed at (g1 .fits);
+              same =
+                  no-part (each - 1) l1 d z ∙ rw h (put-then dst c _ _ ed leaf-part) ∙ sym (by-parts each dst c)
+                  ∙ s .same;
+            }
 
-        pub moves-exceeded : r1 ≡ Exceeded → Gave (steppedMoves t e src p n each also slot dst c) Exceeded l1
-        moves-exceeded ed =
-            record { same = put-stop dst c _ _ ed leaf-part ∙ sym by-parts; fits = omega arith }
+        pub left-exceeded : r1 ≡ Exceeded → Gave o Exceeded l1
+        left-exceeded ed =
+            record {
+              same = put-stop dst c _ _ ed leaf-part ∙ sym (by-parts each dst c) ∙ s .same;
+              fits = omega arith;
+            }
+
+    -- ---- a node that does not
+
+    module _ (even : each % 2 ≡ 0) where
+      pub left-room : getD slot 0 0 < 15
+      left-room = rest-room t bound e first others also slot rest-here
+
+      pub left-carries : Carries t bound e first also slot
+      left-carries = rest-carries t bound e first others also slot rest-here event whole
+
+      pub left-carried : (x : List ℕ) → x ≡ pushAll slot (grown t e first (also % 2))
+          → MovesLeft t bound e src (p + 1) (n - 1) (each / 2) (also / 2) x dst c o
+      unfolding steppedMoves
+      left-carried x ex = record {
+        inside = omega (arith, s .inside, left-head);
+        can = can-here .1;
+        rest = rw ex (rest-grown t bound e first others also slot rest-here);
+        held = s .held;
+        same = rw ex (sym (no-part each dst c even)) ∙ s .same;
+      }
+
+      pub left-pushed : also % 2 ≡ 0
+          → MovesLeft t bound e src (p + 1) (n - 1) (each / 2) (also / 2) (pushed slot first) dst c o
+      unfolding pushAll
+      left-pushed z = left-carried (pushed slot first) (rw (grown-kept t e first (also % 2) z))

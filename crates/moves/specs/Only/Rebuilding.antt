@@ -29,7 +29,7 @@ option-fits t e w s =
     (rw (length-resolved t (termOfWord w + 1) (remember e (memoryOfWord w)), s .alone) (omega arith)))
 
 module _ (t : Table) (bound e w : ℕ) (ws : List ℕ) (m : ℕ) (slot : List ℕ) (r : Rest t e (w ∷ ws) m slot) where
-  rest-room : getD slot 0 0 < 15
+  pub rest-room : getD slot 0 0 < 15
   unfolding room
   rest-room = omega (arith, r .room)
 
