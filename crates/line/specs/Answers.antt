@@ -51,11 +51,13 @@ resumeSaid l r a b w = record { course = courseSaid l r a b; area0 = a; area1 = 
 abbrev pub wholeSaid : code.Line → List ℕ → List ℕ → List ℕ → List ℕ → LineOutcome
 wholeSaid x l a b w = record { line = lineSaid x; list = l; area0 = a; area1 = b; work = w }
 
--- ---- an input's head
+-- ---- a piece's end
 
 -- the promise of `after_piece`
 abbrev pub AfterPiece : way.Course → Bool → way.Course → Type 0
 AfterPiece c last r = (l a b : List ℕ) → courseSaid l r a b ≡ afterPiece last (courseSaid l c a b)
+
+-- ---- an input's head
 
 -- the table bytes of s stand from a up to b, its events from there on
 pub record PartsAt (h : Head) (s : List ℕ) (a b : ℕ) : Type 0 where

@@ -6,7 +6,7 @@
 --     OpenIsFront       it is the front of the input
 --     OpenStarts        its record stands on the list and before the events, with a work area of zeros
 --     PiecesAreWhole    an input in pieces gives the line of the whole
---     PieceAnyWork      a piece leaves the same, whatever the work area held
+--     PieceAnyWork      a piece comes to the same course, whatever the work area held
 --     Rows              the worked examples
 -- Assumes nothing.
 use Prim.Native.Nat.{ℕ, _≤_}

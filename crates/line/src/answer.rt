@@ -3,7 +3,7 @@ use state::State;
 use table::Refusal;
 
 // Where an input's table bytes begin and end, which is where its events begin; or what is wrong
-// with its length number.
+// with its length number, or that the input ends within the table.
 pub enum Head {
     Parts(usize, usize),
     Wrong(Refusal),

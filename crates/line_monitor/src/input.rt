@@ -2,7 +2,6 @@
 //     fill      a lent buffer, filled with what comes next
 //     fail      the message that it could not be read
 use libc::STDIN_FILENO;
-ghost use lib.ListN.{length};
 ghost use Rattle.io.specs.Counts.{Counts};
 
 // How many bytes stand at the buffer's start, which is fewer than it holds only where the input

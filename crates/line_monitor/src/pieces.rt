@@ -7,8 +7,6 @@ use line::Course;
 use line::Line;
 use line::Opened;
 use monitor::State;
-ghost use Prim.Native.Nat.{_≤_};
-ghost use lib.ListN.{length};
 
 // What came of a piece: the monitor goes on, its line is known, or the piece could not be read.
 enum Progress {
@@ -43,7 +41,8 @@ fn turn(
     after(course, n < piece.len())
 }
 
-// Prints the line; whether the monitor goes on is for the caller.
+// Prints the line. No run leaves a monitor that goes on: the events taken are counted in 64 bits, and
+// refusal 12 comes before the turns are used up.
 fn finish(turn: Progress) {
     match turn {
         Progress::Going(state) => say(line::conclude(state)),

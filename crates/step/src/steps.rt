@@ -28,7 +28,7 @@ fn load(src: &[u64], p: usize, store: &mut [u64])
     }
 }
 
-// Holds all results of the i-th residual of an area in another: those of each leaf are prepared in
+// Holds all results of the i-th residual of an area in another: those of its leaves are prepared in
 // the store.
 fn step_many(
     list: &[u16],
