@@ -7,7 +7,8 @@
 --     Movable, Marked               the marked leaves are such
 --     ShortTree, Only               what `only_at` asks and says
 --     Rooted, WayIn                 what `way_of` asks and says
---     Follows, Carries, Rest, Rebuilds     what `follow`, `carry`, `rebuild` and `extend` ask
+--     Follows, Landing, Lands       what `land` asks and says
+--     Carries, Rest, Rebuilds       what `carry`, `rebuild` and `extend` ask
 -- The laws are in `Only/Marks.antt` (marks and the words rebuilt), `Only/Moved.antt` (the words of several results),
 -- `Only/Laws.antt` and `Only/Pair.antt` (the residuals after the event), `Only/Joined.antt` and `Only/Turns.antt` (the
 -- functions of `only.rt`), `Only/Following.antt` and `Only/Rebuilding.antt` (those of `rebuilding.rt`). Assumes nothing.
@@ -19,13 +20,14 @@ use lib.ListN.{length, getD, drop}
 use lib.Dec.{eqb}
 use Rattle.table.specs.Table.{Table, termCount}
 use Rattle.table.specs.Branches.{branches}
-use Rattle.table.specs.Node.{termOf}
+use Rattle.table.specs.Node.{termOf, kindOf}
 use Rattle.moves.specs.declared.only.Moves.{Moves}
 use Rattle.moves.specs.declared.only.Way.{Way}
 use Rattle.moves.specs.declared.only.Way.the-variants.{Still, Moving, Many}
 use Rattle.moves.specs.declared.only.WayAt.{WayAt}
+use Rattle.moves.specs.declared.rebuilding.Landed.{Landed}
 use Rattle.residual.specs.Words.{nodeWord, termOfWord, kindAt, holdsAt}
-use Rattle.residual.specs.Residual.{Residual, leaf, pair, words}
+use Rattle.residual.specs.Residual.{Residual, leaf, pair, words, pushAll, Resolves, resolvedInto}
 use Rattle.residual.specs.Distinct.{window}
 use Rattle.walk.specs.Walk.{option, room, leafResults}
 use Rattle.walk.specs.Forest.{Valid}
@@ -190,6 +192,15 @@ pub record Follows (t : Table) (bound e w : ℕ) (slot : List ℕ) : Type 0 wher
   pub whole : bound ≡ length (t .definitions)
   pub room : getD slot 0 0 + length (option t e w 0) ≤ 15
   pub size : length slot ≡ 16
+
+-- where the calls of the follower have come to: the residual is that of term n with memory m
+pub record Landing (t : Table) (e w : ℕ) (slot : List ℕ) (b n m k : ℕ) : Type 0 where
+  pub resolves : Resolves t b n m 0 slot
+  pub same : resolvedInto t n m 0 slot ≡ pushAll slot (option t e w 0)
+  pub kind : k ≡ kindOf (termOf t n)
+
+abbrev pub Lands : Table → ℕ → ℕ → List ℕ → Landed → Type 0
+Lands t e w slot l = Landing t e w slot (l .bound) (l .term) (l .memory) (l .kind)
 
 pub record Carries (t : Table) (bound e w m : ℕ) (slot : List ℕ) : Type 0 where
   pub event : e < 64

@@ -11,15 +11,22 @@ ghost use Prim.Native.Nat.{_%_};
 ghost use Rattle.table.specs.Index.{tableIn, Indexed};
 ghost use Rattle.residual.specs.Residual.{pushAll};
 ghost use Rattle.residual.specs.Distinct.{window, empty};
-ghost use Rattle.walk.specs.Walk.{option};
-ghost use Rattle.moves.specs.Only.{grown, rebuilt, Follows, Carries, Rebuilds};
+ghost use Rattle.moves.specs.Only.{grown, rebuilt, Follows, Carries, Rebuilds, Lands};
 
-// A slot followed by the only residual of a prefix's follower. Calls are followed to the body that
-// they come to; `b` serves the proof that this ends.
-fn follow(list: &[u16], work: &[u64], bound: usize, e: u64, w: u64, slot: [u64; 16]) -> [u64; 16]
+// A term with a memory, whose only residual is looked for: its calls name definitions below `bound`.
+pub struct Landed {
+    pub term: usize,
+    pub memory: u64,
+    pub bound: usize,
+    pub kind: u64,
+}
+
+// Where the calls of a prefix's follower come to. The slot, which is not read, names in the contract
+// what the residual there is to follow.
+fn land(list: &[u16], work: &[u64], bound: usize, e: u64, w: u64, slot: &[u64]) -> Landed
     requires { ⌜ Indexed (now list) (now work) ⌝ }
-    requires { ⌜ Follows (tableIn (now list)) bound e w slot ⌝ }
-    ensures { λ r. ⌜ r ≡ pushAll slot (option (tableIn (now (list .entry))) e w 0) ⌝ }
+    requires { ⌜ Follows (tableIn (now list)) bound e w (now slot) ⌝ }
+    ensures { λ r. ⌜ Lands (tableIn (now (list .entry))) e w (now (slot .entry)) r ⌝ }
 {
     let mut n = term_of(w) + 1;
     let mut m = remember(e, memory_of(w));
@@ -31,9 +38,11 @@ fn follow(list: &[u16], work: &[u64], bound: usize, e: u64, w: u64, slot: [u64; 
         m = 0;
         k = index::kind(list, work, n);
     }
-    match k {
-        0 | 2 => push(slot, node(n, m)),
-        1 | 3..=18446744073709551615 => resolve_term(list, work, b, n, m, 0, slot),
+    Landed {
+        term: n,
+        memory: m,
+        bound: b,
+        kind: k,
     }
 }
 
@@ -67,9 +76,23 @@ pub fn rebuild(
             j += 1;
             continue;
         }
-        s = follow(list, work, bound, e, w, s);
-        m /= 2;
-        j += 1;
+        let l = land(list, work, bound, e, w, &s);
+        let k = l.kind;
+        match k {
+            0 | 2 => {
+                let c = s[0] + 1;
+                s[c as usize] = node(l.term, l.memory);
+                s[0] = c;
+                m /= 2;
+                j += 1;
+                continue;
+            }
+            1 | 3..=18446744073709551615 => {
+                s = resolve_term(list, work, l.bound, l.term, l.memory, 0, s);
+                m /= 2;
+                j += 1;
+            }
+        }
     }
     s
 }

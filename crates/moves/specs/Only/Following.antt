@@ -1,5 +1,5 @@
 -- What a leaf comes to, written into a slot: one law per way out of its functions.
---     Landing, landing-..        the loop of `follow`
+--     landing-..                 the loop of `land`
 --     carry-..                   `carry`
 -- Assumes nothing.
 use Prim.Native.Nat.{ℕ, _+_, _-_, _%_, _<_}
@@ -18,16 +18,10 @@ use Rattle.residual.specs.Residual.Resolved.{length-resolved}
 use Rattle.residual.specs.Residual.Into.{into-definition}
 use Rattle.residual.specs.Residual.Ways.{go-call, go-leaf}
 use Rattle.walk.specs.Walk.{option, room}
-use Rattle.moves.specs.Only.{grown, Follows, Carries}
+use Rattle.moves.specs.Only.{grown, Follows, Landing, Carries}
 use Rattle.moves.specs.Only.Marks.{grown-kept, grown-moved}
 
--- ---- follow
-
--- where the calls of the follower have come to: the residual is that of term n with memory m
-pub record Landing (t : Table) (e w : ℕ) (slot : List ℕ) (b n m k : ℕ) : Type 0 where
-  pub resolves : Resolves t b n m 0 slot
-  pub same : resolvedInto t n m 0 slot ≡ pushAll slot (option t e w 0)
-  pub kind : k ≡ kindOf (termOf t n)
+-- ---- land
 
 module _ {t : Table} {bound e w : ℕ} {slot : List ℕ} (law : Lawful t) (f : Follows t bound e w slot) (n mm m : ℕ)
     (en : n ≡ termOfWord w) (emm : mm ≡ memoryOfWord w) (em : m ≡ remember e mm) where

@@ -1,10 +1,12 @@
 -- `moves::rebuilding::rebuild` meets its contract: the slot has what the first j nodes became, and the marks from there on are
 -- left. Assumes nothing.
 use native.Mathlib.Omega.{arith}
-use mathlib.Core.Path.{refl}
+use mathlib.Core.Path.{refl, _∙_}
 use Prim.Native.Nat.{_-_, _≤_}
 use Rattle.table.specs.Index.{tableIn}
+use Rattle.residual.specs.Lawful.{lawful}
 use Rattle.residual.specs.Residual.{pushed}
+use Rattle.moves.specs.Only.Following.{landing-node, landing-leaf}
 use Rattle.residual.specs.Distinct.{empty}
 use Rattle.moves.specs.Only.Rebuilding.{Rebuilding, rebuild-first, rebuild-room, rebuild-keep, rebuild-follows}
 use Rattle.moves.specs.Only.Rebuilding.{rebuild-follow, rebuild-last}
@@ -55,17 +57,79 @@ loop-again : tie.Need-loop-again Inv-loop μ-loop
 unfolding pushed
 loop-again c = (omega (arith, c .before .before .loop-test .taken), rebuild-keep (c .before .before .before .before .before .before .before .pre .1) _ _ _ (c .before .before .loop-test .taken) (c .before .before .before .loop .inv .1) _ refl (c .if1 .taken))
 
-follow-requires : tie.Need-follow-requires Inv-loop μ-loop
-follow-requires c κs = (c .before .before .before .before .before .before .before .pre .0, rebuild-follows (c .before .before .before .before .before .before .before .pre .1) _ _ _ (c .before .before .loop-test .taken) (c .before .before .before .loop .inv .1) _ refl (c .if1 .left))
+slice-aggregate-land : tie.Need-slice-aggregate-land Inv-loop μ-loop
+slice-aggregate-land c = search needs
+
+-- a marked leaf
+land-requires : tie.Need-land-requires Inv-loop μ-loop
+land-requires c κs =
+    let at-loop = c .before .before .before .before in let at-start = at-loop .before .before .before .before in
+    let tested = c .before .before .before .loop-test .taken in let marked = c .before .if1 .left in
+    (at-start .pre .0, rebuild-follows (at-start .pre .1) _ _ _ tested (at-loop .loop .inv .1) _ refl marked)
+
+array-read-c-2 : tie.Need-array-read-c-2 Inv-loop μ-loop
+array-read-c-2 c = omega (arith, c .before .before .before .before .before .before .loop .inv .1 .rest .size)
+
+add-c-2 : tie.Need-add-c-2 Inv-loop μ-loop
+add-c-2 c =
+    let at-loop = c .before .before .before .before .before .before in let at-start = at-loop .before .before .before .before in
+    let tested = c .before .before .before .before .before .loop-test .taken in let marked = c .before .before .before .if1 .left in
+    omega (arith, at-loop .loop .inv .1 .rest .size, rebuild-room (at-start .pre .1) _ _ _ tested (at-loop .loop .inv .1) _ refl)
+
+node-requires : tie.Need-node-requires Inv-loop μ-loop
+node-requires c κs =
+    let at-start = c .before .before .before .before .before .before .before .before .before .before in
+    landing-node (c .before .land .ensures) (lawful (at-start .pre .0))
+
+mul-s-2 : tie.Need-mul-s-2 Inv-loop μ-loop
+mul-s-2 c =
+    let at-loop = c .before .before .before .before .before .before .before in let at-start = at-loop .before .before .before .before in
+    let tested = c .before .before .before .before .before .before .loop-test .taken in let marked = c .before .before .before .before .if1 .left in
+    omega (arith, at-loop .loop .inv .1 .rest .size, rebuild-room (at-start .pre .1) _ _ _ tested (at-loop .loop .inv .1) _ refl)
+
+array-write-s-3 : tie.Need-array-write-s-3 Inv-loop μ-loop
+array-write-s-3 c =
+    let at-loop = c .before .before .before .before .before .before .before in let at-start = at-loop .before .before .before .before in
+    let tested = c .before .before .before .before .before .before .loop-test .taken in let marked = c .before .before .before .before .if1 .left in
+    omega (arith, at-loop .loop .inv .1 .rest .size, rebuild-room (at-start .pre .1) _ _ _ tested (at-loop .loop .inv .1) _ refl)
+
+array-write-s-4 : tie.Need-array-write-s-4 Inv-loop μ-loop
+array-write-s-4 c = search needs
 
 add-j-2 : tie.Need-add-j-2 Inv-loop μ-loop
-add-j-2 c = omega (arith, c .before .before .before .loop-test .taken)
+add-j-2 c = omega (arith, c .before .before .before .before .before .before .loop-test .taken)
 
 loop-less-2 : tie.Need-loop-less-2 Inv-loop μ-loop
-loop-less-2 c = omega (arith, c .before .before .before .loop-test .taken)
+loop-less-2 c = omega (arith, c .before .before .before .before .before .before .loop-test .taken)
 
+-- its residual is a leaf
 loop-again-2 : tie.Need-loop-again-2 Inv-loop μ-loop
-loop-again-2 c = (omega (arith, c .before .before .before .loop-test .taken), rebuild-follow (c .before .before .before .before .before .before .before .before .pre .1) _ _ _ (c .before .before .before .loop-test .taken) (c .before .before .before .before .loop .inv .1) _ refl (c .before .if1 .left) _ (c .follow .ensures))
+unfolding pushed
+loop-again-2 c =
+    let at-loop = c .before .before .before .before .before .before .before in let at-start = at-loop .before .before .before .before in
+    let tested = c .before .before .before .before .before .before .loop-test .taken in let marked = c .before .before .before .before .if1 .left in (
+      omega (arith, tested),
+      rebuild-follow (at-start .pre .1) _ _ _ tested (at-loop .loop .inv .1) _ refl marked _
+          (landing-leaf (c .before .before .land .ensures) (c .before .match .keys1) _ (c .node .ensures) .1),
+    )
+
+resolve-term-requires : tie.Need-resolve-term-requires Inv-loop μ-loop
+resolve-term-requires c κs = (c .before .before .before .before .before .before .before .before .before .before .pre .0, c .before .land .ensures .resolves)
+
+add-j-3 : tie.Need-add-j-3 Inv-loop μ-loop
+add-j-3 c = omega (arith, c .before .before .before .before .before .before .loop-test .taken)
+
+loop-less-3 : tie.Need-loop-less-3 Inv-loop μ-loop
+loop-less-3 c = omega (arith, c .before .before .before .before .before .before .loop-test .taken)
+
+-- its residual is resolved
+loop-again-3 : tie.Need-loop-again-3 Inv-loop μ-loop
+loop-again-3 c =
+    let at-loop = c .before .before .before .before .before .before .before in let at-start = at-loop .before .before .before .before in
+    let tested = c .before .before .before .before .before .before .loop-test .taken in let marked = c .before .before .before .before .if1 .left in (
+      omega (arith, tested),
+      rebuild-follow (at-start .pre .1) _ _ _ tested (at-loop .loop .inv .1) _ refl marked _ (c .resolve-term .ensures ∙ c .before .before .land .ensures .same),
+    )
 
 returns : tie.Need-returns Inv-loop μ-loop
 returns c = rebuild-last (c .before .before .before .before .before .pre .1) _ _ _ (omega (arith, c .loop-test .left)) (c .before .loop .inv .1)
@@ -88,8 +152,19 @@ rebuild-spec =
     add-j
     loop-less
     loop-again
-    follow-requires
+    slice-aggregate-land
+    land-requires
+    array-read-c-2
+    add-c-2
+    node-requires
+    mul-s-2
+    array-write-s-3
+    array-write-s-4
     add-j-2
     loop-less-2
     loop-again-2
+    resolve-term-requires
+    add-j-3
+    loop-less-3
+    loop-again-3
     returns)
