@@ -3,8 +3,9 @@ use Rattle.line.specs.Pieces.Joined.{pieces-whole}
 use Rattle.line.proofs.Rows as computed
 use Rattle.line.specs.Opening.Front.{open-ways, open-course, open-began}
 use Rattle.line.specs.Lent.Laws.{fed-work, pieces-lent, whole-line}
+use Rattle.line.specs.Lent.Ends.{ends-pieces}
 use Rattle.line.specs.Claims.{LineIsLent, PiecesAreLent, OpenLeaves, OpenIsFront, OpenStarts, PiecesAreWhole}
-use Rattle.line.specs.Claims.{PieceAnyWork, Rows}
+use Rattle.line.specs.Claims.{PieceAnyWork, EndsArePieces, Rows}
 
 pub line-is-lent : LineIsLent
 unfolding LineIsLent
@@ -13,6 +14,10 @@ line-is-lent = whole-line
 pub pieces-are-lent : PiecesAreLent
 unfolding PiecesAreLent
 pieces-are-lent = pieces-lent
+
+pub ends-are-pieces : EndsArePieces
+unfolding EndsArePieces
+ends-are-pieces = ends-pieces
 
 pub open-leaves : OpenLeaves
 unfolding OpenLeaves

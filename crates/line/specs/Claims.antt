@@ -2,6 +2,7 @@
 -- the same name.
 --     LineIsLent        what `line` says is the line of the input, or refusal 1
 --     PiecesAreLent     so is what `open`, `resume` on piece after piece, and `conclude` say
+--     EndsArePieces     the same where `after_piece` is asked of each piece, as the program does
 --     OpenLeaves        what `open` leaves, by its ways
 --     OpenIsFront       it is the front of the input
 --     OpenStarts        its record stands on the list and before the events, with a work area of zeros
@@ -23,7 +24,7 @@ use Rattle.line.specs.Line.{Line, runs, fails, refused, lineOf}
 use Rattle.line.specs.Pieces.{going, fed, pieceOf, frontOf, piecesOf}
 use Rattle.line.specs.Opening.{lent, started, openOf, openCourse, OpenWay, Began}
 use Rattle.line.specs.Whole.{wholeOf}
-use Rattle.line.specs.Lent.{lentLine, lentPieces}
+use Rattle.line.specs.Lent.{lentLine, lentPieces, lentEnds}
 
 -- 01, "The program and its lines", whatever stood in the lent buffers
 unfoldable pub LineIsLent : Type 0
@@ -34,6 +35,12 @@ unfoldable pub PiecesAreLent : Type 0
 PiecesAreLent =
     (front : List ℕ) (pieces : List (List ℕ)) (l a b w : List ℕ) → (16387 ≤ length front) ⊎ (pieces ≡ [])
     → lentPieces front pieces l a b w ≡ lentLine (front ++ flatten pieces) l a b w
+
+-- the input ends with the last piece, or with the front
+unfoldable pub EndsArePieces : Type 0
+EndsArePieces =
+    (front : List ℕ) (pieces : List (List ℕ)) (l a b w : List ℕ)
+    → lentEnds front pieces l a b w ≡ lentPieces front pieces l a b w
 
 unfoldable pub OpenLeaves : Type 0
 OpenLeaves = (s l a b w : List ℕ) → OpenWay s l a b w (openOf s l a b w)

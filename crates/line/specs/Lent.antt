@@ -2,16 +2,18 @@
 --     lentLine       the line of a whole input, or refusal 1
 --     resumeNext     one piece more, with the areas and the work words as the call before left them
 --     lentPieces     the line of `open`, `resume` on the front's events and on each piece, and `conclude`
--- The laws are in `Lent/Laws.antt`. Assumes nothing.
+--     lentEnds       the same with `after_piece` on each piece
+-- The laws are in `Lent/Laws.antt` and, of `lentEnds`, `Lent/Ends.antt`. Assumes nothing.
 use Prim.Native.Nat.{ℕ}
-use mathlib.Core.Bool.{cond}
+use mathlib.Core.Bool.{true, false, cond}
 use mathlib.Core.List.{List, [], _∷_}
 use lib.ListN.{drop}
 use Rattle.line.specs.Line.{Line, refused, lineOf}
-use Rattle.line.specs.Pieces.{Course, going, over, concludeOf}
+use Rattle.line.specs.Pieces.{Course, going, over, concludeOf, afterPiece}
 use Rattle.line.specs.Opening.{lent, OpenAnswer, started, refuses, OpenOutcome, openOf, openCourse}
 use Rattle.line.specs.Whole.{ResumeOutcome, resumeOf}
 pub mod Laws
+pub mod Ends
 
 unfoldable pub lentLine : List ℕ → List ℕ → List ℕ → List ℕ → List ℕ → Line
 lentLine s l a b w = cond (lent l a b w) (lineOf s) (refused 1 0)
@@ -42,3 +44,22 @@ unfoldable pub lentPieces : List ℕ → List (List ℕ) → List ℕ → List �
 lentPieces s ess l a b w =
     let o = openOf s l a b w in
     concludeOf (resumeAll (resumeFirst o) (frontEvents s (o .answer) ∷ ess) .course)
+
+-- ---- as the program goes: it asks `after_piece` of each piece, and reads no more once a line stands
+
+-- a piece and those after it, of which the last is the input's last
+unfoldable pub endsAll : ResumeOutcome → List ℕ → List (List ℕ) → Line
+endsAll o es [] = concludeOf (afterPiece true (resumeNext o es .course))
+endsAll o es (fs ∷ ess) =
+    elim (afterPiece false (resumeNext o es .course)) [
+      | going l m ↦ endsAll (resumeNext o es) fs ess
+      | over x ↦ x
+    ]
+
+-- by what `open` answered of the front s
+unfoldable pub endsBy : List ℕ → OpenOutcome → List (List ℕ) → OpenAnswer → Line
+endsBy s o ess (started st count next) = endsAll (resumeFirst o) (drop next s) ess
+endsBy s o ess (refuses n p) = refused n p
+
+unfoldable pub lentEnds : List ℕ → List (List ℕ) → List ℕ → List ℕ → List ℕ → List ℕ → Line
+lentEnds s ess l a b w = let o = openOf s l a b w in endsBy s o ess (o .answer)

@@ -1,6 +1,7 @@
--- One residual and one event without a store, in reading order: whether it is taken; the members of its results; the way
--- of a residual; these results, held. Assumes nothing.
-pub mod Takes
+-- One residual and one event without a store, in reading order: the members of a leaf's results, and of a residual's;
+-- whether it is taken; its way; its results, held. Assumes nothing.
+pub mod Kept
 pub mod Members
+pub mod Takes
 pub mod Only
 pub mod Moving

@@ -24,7 +24,8 @@ use Rattle.walk.specs.Walk.{option, leafResults}
 use Rattle.walk.specs.Forest.{Valid}
 use Rattle.walk.specs.Forest.Words.{term-of-node}
 use Rattle.walk.specs.Walk.Leaves.{results-yes}
-use Rattle.moves.specs.Members.{node-results, results-not-kind, results-not-held}
+use Rattle.moves.specs.Kept.{results-not-kind, results-not-held}
+use Rattle.moves.specs.Members.{node-results}
 use Rattle.moves.specs.Only.{leafMoves, countWay, leafWay}
 use Rattle.moves.specs.Only.{rebuilt, ending, tried, moved, Active, Movable, Marked}
 use Rattle.moves.specs.Only.Marks.{grown-moved}

@@ -25,7 +25,8 @@ use Rattle.residual.specs.Distinct.Laws.{kept-some}
 use Rattle.walk.specs.Walk.Leaves.{results-yes, kept-yes, kept-not-kind, kept-not-held}
 use Rattle.walk.specs.Forest.{Valid, mayMove}
 use Rattle.walk.specs.Forest.Still.{may-both, may-either}
-use Rattle.moves.specs.Members.{node-results, results-not-kind, results-not-held}
+use Rattle.moves.specs.Kept.{results-not-kind, results-not-held}
+use Rattle.moves.specs.Members.{node-results}
 
 -- ---- how many residuals stand after an event
 

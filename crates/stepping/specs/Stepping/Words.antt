@@ -10,7 +10,7 @@ use Rattle.table.specs.Memory.{Memory}
 use Rattle.residual.specs.Residual as step
 use Rattle.residual.specs.Words as word
 use Rattle.residual.specs.Distinct.{empty}
-use Rattle.moves.specs.Members.{slot-form}
+use Rattle.moves.specs.Kept.{slot-form}
 use Rattle.monitor_spec.specs.Residual.{Residual, leaf, pair}
 use Rattle.monitor_spec.specs.Slots.{pack, nodes, slotOf}
 use Rattle.stepping.specs.Stepping.Low.{packed, low}
