@@ -2,7 +2,7 @@
  * A runtime monitor for tables in the process algebra CSP_E, as a static library for C: the six operations of
  * document 01 (Read, Write, Start, Feed, Offer, View). `rt staticlib monitor_c` proves and writes it
  * (target/staticlib/libmonitor_c.a, for x86-64 Linux). Each function is proved to return, and to leave in every word
- * that it is lent, what crates/monitor_c/specs defines, on every input: no call has a condition but those below.
+ * that it is lent, what crates/words/specs defines, on every input: no call has a condition but those below.
  *
  * What is lent. Every buffer is the caller's, and is lent for one call: a pointer, and after it how many elements it
  * points to. A pointer is aligned for its type and is never NULL, also where its length is 0. A buffer that a call may

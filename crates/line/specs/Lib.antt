@@ -1,10 +1,2 @@
--- The program's line, in reading order: of a whole input; of an input in pieces; what the functions give with every
--- lent word, of the front, of a piece and of a whole input; the calls on an input, and the line to expect of them; what
--- the code's answers are; what is claimed, with the worked examples. Assumes nothing.
-pub mod Line
-pub mod Pieces
-pub mod Opening
-pub mod Whole
-pub mod Lent
+-- What the code's answers are, in the terms of crate `line_spec`. Assumes nothing.
 pub mod Answers
-pub mod Claims

@@ -1,34 +1,14 @@
 // A started monitor piece by piece, and its line at the input's end.
 ghost use mathlib.Core.Path.{_≡_};
-ghost use Rattle.state.specs.Record.{stateOf, monitorOf};
-ghost use Rattle.line.specs.Line.{stateLine};
-ghost use Rattle.line.specs.Line.{refused as refusedAt};
-ghost use Rattle.line.specs.Whole.{resumeOf};
-ghost use Rattle.line.specs.Answers.{lineSaid, resumeSaid, AfterPiece};
+ghost use Rattle.state.specs.Record.{monitorOf};
+ghost use Rattle.line_spec.specs.Whole.{resumeOf};
+ghost use Rattle.line.specs.Answers.{resumeSaid, AfterPiece};
 use crate::answer::Course;
-use crate::answer::Line;
+use format::Line;
+use format::conclude;
+use format::refused;
 use state::Answer;
 use state::State;
-use state::Verdict;
-use table::Refusal;
-
-// The line of a refusal.
-pub(crate) fn refused(refusal: Refusal) -> Line
-    ensures { λ r. ⌜ lineSaid r ≡ refusedAt (refusal .number) (refusal .place) ⌝ }
-{
-    Line::Refused(refusal.number, refusal.place as u64)
-}
-
-// The line of a monitor where the input ends.
-pub fn conclude(state: State) -> Line
-    ensures { λ r. ⌜ lineSaid r ≡ stateLine (stateOf state) ⌝ }
-{
-    let verdict = state.verdict;
-    match verdict {
-        Verdict::Running => Line::Running(state.taken, state.count),
-        Verdict::Failed(place) => Line::Failed(place, state.taken),
-    }
-}
 
 // One piece of events more. A refused event is placed from the input's first.
 pub fn resume(

@@ -2,11 +2,11 @@
 ghost use mathlib.Core.Path.{_≡_};
 ghost use lib.ListN.{length};
 ghost use Rattle.monitor_spec.specs.Start.{startOf};
-ghost use Rattle.line.specs.Opening.{lentFit, startedOn, openTable, openOf};
+ghost use Rattle.line_spec.specs.Opening.{lentFit, startedOn, openTable, openOf};
 ghost use Rattle.line.specs.Answers.{openSaid};
-use crate::answer::Head;
 use crate::answer::Opened;
-use crate::header::head;
+use format::Head;
+use format::head;
 use state::Answer;
 use table::Refusal;
 

@@ -1,15 +1,15 @@
 // The line of a whole input.
 ghost use mathlib.Core.Path.{_≡_};
 ghost use Rattle.state.specs.Record.{monitorOf};
-ghost use Rattle.line.specs.Whole.{finishOf, wholeOf};
+ghost use Rattle.line_spec.specs.Whole.{finishOf, wholeOf};
 ghost use Rattle.line.specs.Answers.{wholeSaid};
 use crate::answer::Course;
-use crate::answer::Line;
 use crate::answer::Opened;
-use crate::feeder::conclude;
-use crate::feeder::refused;
 use crate::feeder::resume;
 use crate::opener::open;
+use format::Line;
+use format::conclude;
+use format::refused;
 use state::State;
 
 // The line of a started monitor on all of its events.

@@ -2,11 +2,10 @@
 //     run      its front, then all the rest
 use crate::input;
 use crate::print::say;
-use crate::print::say_refused;
+use format::Line;
 use line::Course;
-use line::Line;
 use line::Opened;
-use monitor::State;
+use state::State;
 
 // What came of a piece: the monitor goes on, its line is known, or the piece could not be read.
 enum Progress {
@@ -107,6 +106,6 @@ pub fn run(front: &[u8], list: &mut [u16], area0: &mut [u64], area1: &mut [u64],
                 work,
             ));
         }
-        Opened::Refused(refusal) => say_refused(refusal),
+        Opened::Refused(refusal) => say(format::refused(refusal)),
     }
 }

@@ -1,8 +1,8 @@
-// Feed for C. What a call returns and leaves is `feedCall` of `specs/Calls.antt`.
+// Feed for C. What a call returns and leaves is `feedCall` of crate `words`, `specs/Calls.antt`.
 ghost use mathlib.Core.Path.{_≡_};
-ghost use Rattle.monitor_c.specs.Calls.{said, feedCall};
-use crate::answers::tell;
-use crate::words::load;
+ghost use Rattle.words.specs.Calls.{said, feedCall};
+use words::load;
+use words::tell;
 
 // Feed: the record's successor after events.
 #[no_mangle]

@@ -1,12 +1,9 @@
 // The operations of document 01 ("Operations", "When the monitor declines") for C: a static library
 // of functions over lent words, which `include/cspe_monitor.h` declares. Each returns the refusal's
 // number, 0 where there is none; View, which never refuses, returns a count of words. What a call
-// returns and leaves in the lent words is defined in `specs/`; `specs/Lib.antt` lists the
-// definitions in reading order.
-mod answers;
+// returns and leaves in the lent words is defined in crate `words`.
 mod feeder;
 mod offerer;
 mod starter;
 mod tables;
 mod viewer;
-mod words;

@@ -1,25 +1,8 @@
-// Offer for C. What a call returns and leaves is `offerCall` of `specs/Calls.antt`.
+// Offer for C. What a call returns and leaves is `offerCall` of crate `words`, `specs/Calls.antt`.
 ghost use mathlib.Core.Path.{_≡_};
-ghost use Rattle.state.specs.Answers.{offeredOf};
-ghost use Rattle.monitor_c.specs.Calls.{OfferTold, offerSaid, offerCall};
-use crate::words::load;
-use monitor::Offered;
-
-// The number to return; the bits or the place go into value.
-fn tell_offer(answer: Offered, value: &mut u64) -> u32
-    ensures { λ r. ⌜ OfferTold (offeredOf answer) r (now (value .exit)) ⌝ }
-{
-    match answer {
-        Offered::Offers(bits) => {
-            *value = bits;
-            0
-        }
-        Offered::Refused(r) => {
-            *value = r.place as u64;
-            r.number as u32
-        }
-    }
-}
+ghost use Rattle.words.specs.Calls.{offerSaid, offerCall};
+use words::load;
+use words::tell_offer;
 
 // Offer: a bit for each event that may come next.
 #[no_mangle]

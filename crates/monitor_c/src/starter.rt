@@ -1,7 +1,7 @@
-// Start for C. What a call returns and leaves is `startCall` of `specs/Calls.antt`.
+// Start for C. What a call returns and leaves is `startCall` of crate `words`, `specs/Calls.antt`.
 ghost use mathlib.Core.Path.{_≡_};
-ghost use Rattle.monitor_c.specs.Calls.{said, startCall};
-use crate::answers::tell;
+ghost use Rattle.words.specs.Calls.{said, startCall};
+use words::tell;
 
 // Start: a fresh monitor of a table.
 #[no_mangle]

@@ -1,7 +1,7 @@
-// View for C. What a call returns and leaves is `viewCall` of `specs/Calls.antt`.
+// View for C. What a call returns and leaves is `viewCall` of crate `words`, `specs/Calls.antt`.
 ghost use mathlib.Core.Path.{_≡_};
-ghost use Rattle.monitor_c.specs.Calls.{viewSaid, viewCall};
-use crate::words::load;
+ghost use Rattle.words.specs.Calls.{viewSaid, viewCall};
+use words::load;
 
 // View: how many words the residuals' slots are; in area, in which area they stand.
 #[no_mangle]

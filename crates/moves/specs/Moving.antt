@@ -35,7 +35,6 @@ pub record StepsMoves (t : Table) (bound e : ℕ) (src : List ℕ) (p n each als
   pub event : e < 64
   pub whole : bound ≡ length (t .definitions)
   pub inside : p + n ≤ length src
-  pub some : 0 < each
   pub can : Movable t e (window p n src) each
   pub rest : Rest t e (window p n src) also slot
   pub held : c * 16 ≤ length dst

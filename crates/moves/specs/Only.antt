@@ -193,14 +193,16 @@ pub record Follows (t : Table) (bound e w : ℕ) (slot : List ℕ) : Type 0 wher
   pub room : getD slot 0 0 + length (option t e w 0) ≤ 15
   pub size : length slot ≡ 16
 
--- where the calls of the follower have come to: the residual is that of term n with memory m
+-- where calls of the follower come to: the residual is that of term n with memory m
 pub record Landing (t : Table) (e w : ℕ) (slot : List ℕ) (b n m k : ℕ) : Type 0 where
   pub resolves : Resolves t b n m 0 slot
   pub same : resolvedInto t n m 0 slot ≡ pushAll slot (option t e w 0)
   pub kind : k ≡ kindOf (termOf t n)
 
-abbrev pub Lands : Table → ℕ → ℕ → List ℕ → Landed → Type 0
-Lands t e w slot l = Landing t e w slot (l .bound) (l .term) (l .memory) (l .kind)
+-- where all of them have come to: there is no call
+pub record Lands (t : Table) (e w : ℕ) (slot : List ℕ) (l : Landed) : Type 0 where
+  pub landing : Landing t e w slot (l .bound) (l .term) (l .memory) (l .kind)
+  pub ended : l .kind ≡ 5 → ⊥
 
 pub record Carries (t : Table) (bound e w m : ℕ) (slot : List ℕ) : Type 0 where
   pub event : e < 64

@@ -61,7 +61,7 @@ every (r ∷ rs) = holds r && every rs
 
 abbrev pub rows : List Row
 rows =
-    -- K7: a choice that the next event decides
+    -- K7: a choice between sides that begin alike: both stand after a, one after b
     record { table = alone (choice (a stop) (a (b stop))); term = 0; first = 0; second = 1; counts = 2 ∷ 2 ∷ 1 ∷ [] }
     -- K8: one side at a time
     ∷ record {

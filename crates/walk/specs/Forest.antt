@@ -21,11 +21,12 @@ pub mod Results
 pub mod Still
 pub mod Heads
 
--- "known .. terms"; "memory is below A"
+-- of "known STOP, prefix and parallel terms" that they are known; "memory is below A"
 abbrev pub ValidNode : Table → ℕ → ℕ → Type 0
 ValidNode t n m = (m < 16777216) × (n < termCount t) × DigitsBelow (t .alphabet) m
 
--- "one whole residual tree of known .. terms": at a pair stands a parallel, at a leaf none
+-- of "one whole residual tree of known STOP, prefix and parallel terms": at a pair stands a parallel, at a leaf none. A
+-- leaf may be of any other kind here: only STOP and prefix stand in a valid slot (state/specs), and the walk needs less
 abbrev pub Valid : Table → Residual → Type 0
 Valid t (leaf n m) = ValidNode t n m × (kindOf (termOf t n) ≡ 4 → ⊥)
 Valid t (pair n m l r) = ValidNode t n m × (kindOf (termOf t n) ≡ 4) × Valid t l × Valid t r

@@ -28,7 +28,7 @@ use Rattle.moves.specs.Only.Moved.{tried-none, tried-some, moved-none}
 use Rattle.moves.specs.Moving.{StepsLeaf, steppedLeaf, StepsMoves, steppedMoves}
 
 -- n nodes from p on are left; with what is held by now they come to the outcome o
-pub record MovesLeft (t : Table) (bound e : ℕ) (src : List ℕ) (p n each also : ℕ) (slot dst : List ℕ) (c : ℕ)
+pub record MovesLeft (t : Table) (e : ℕ) (src : List ℕ) (p n each also : ℕ) (slot dst : List ℕ) (c : ℕ)
     (o : Outcome) : Type 0 where
   pub inside : p + n ≤ length src
   pub can : Movable t e (window p n src) each
@@ -38,13 +38,13 @@ pub record MovesLeft (t : Table) (bound e : ℕ) (src : List ℕ) (p n each also
 
 pub moves-first : {t : Table} {bound e : ℕ} {src : List ℕ} {p n each also : ℕ} {slot dst : List ℕ} {c : ℕ}
     → StepsMoves t bound e src p n each also slot dst c
-    → MovesLeft t bound e src p n each also slot dst c (steppedMoves t e src p n each also slot dst c)
+    → MovesLeft t e src p n each also slot dst c (steppedMoves t e src p n each also slot dst c)
 moves-first s =
     record { inside = s .inside; can = s .can; rest = s .rest; held = s .held; same = refl }
 
 module _ {t : Table} {bound e : ℕ} {src : List ℕ} {p n each also : ℕ} {slot dst : List ℕ} {c : ℕ} {o : Outcome}
     (event : e < 64) (whole : bound ≡ length (t .definitions))
-    (s : MovesLeft t bound e src p n each also slot dst c o) where
+    (s : MovesLeft t e src p n each also slot dst c o) where
   pub left-end : each ≡ 0 → Gave o (Count c) dst
   unfolding steppedMoves onto
   left-end z = record { same = put-none dst c ∙ rw (z, moved-none t e (window p n src) also) at (s .same); fits = s .held }
@@ -118,7 +118,7 @@ module _ {t : Table} {bound e : ℕ} {src : List ℕ} {p n each also : ℕ} {slo
         unfolding steppedLeaf
         leaf-part = g1 .same ∙ rw (tried-some t e first (each % 2) (rebuilt t e others (also / 2)) moves)
 
-        pub left-cleared : (d : ℕ) → r1 ≡ Count d → MovesLeft t bound e src p n (each - 1) also slot l1 d o
+        pub left-cleared : (d : ℕ) → r1 ≡ Count d → MovesLeft t e src p n (each - 1) also slot l1 d o
         left-cleared d ed =
             let h : (each - 1) / 2 ≡ each / 2 = omega arith in
             let z : (each - 1) % 2 ≡ 0 = omega arith in
@@ -149,7 +149,7 @@ module _ {t : Table} {bound e : ℕ} {src : List ℕ} {p n each also : ℕ} {slo
       left-carries = rest-carries t bound e first others also slot rest-here event whole
 
       pub left-carried : (x : List ℕ) → x ≡ pushAll slot (grown t e first (also % 2))
-          → MovesLeft t bound e src (p + 1) (n - 1) (each / 2) (also / 2) x dst c o
+          → MovesLeft t e src (p + 1) (n - 1) (each / 2) (also / 2) x dst c o
       unfolding steppedMoves
       left-carried x ex = record {
         inside = omega (arith, s .inside, left-head);
@@ -160,6 +160,6 @@ module _ {t : Table} {bound e : ℕ} {src : List ℕ} {p n each also : ℕ} {slo
       }
 
       pub left-pushed : also % 2 ≡ 0
-          → MovesLeft t bound e src (p + 1) (n - 1) (each / 2) (also / 2) (pushed slot first) dst c o
+          → MovesLeft t e src (p + 1) (n - 1) (each / 2) (also / 2) (pushed slot first) dst c o
       unfolding pushAll
       left-pushed z = left-carried (pushed slot first) (rw (grown-kept t e first (also % 2) z))

@@ -124,7 +124,6 @@ module _ {t : Table} {bound e : ℕ} {src : List ℕ} {i : ℕ} {store dst : Lis
         event = s .event;
         whole = s .whole;
         inside = inside-here;
-        some = moved-by .some;
         can = rw nodes-here (moved-by .can);
         rest = record { size = refl; room = room-here; marked = rw nodes-here (moved-by .marked) };
         held = s .held;

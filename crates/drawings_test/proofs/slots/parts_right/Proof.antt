@@ -1,6 +1,6 @@
 -- `drawings_test::slots::parts_right` is safe and ends: the parts that `head` gives lie within the input. Assumes nothing.
 use native.Mathlib.Omega.{arith}
-use Rattle.line.specs.Answers.Laws.{head-within}
+use Rattle.format.specs.Head.Laws.{head-within}
 use borrow.Author.Needs.{needs}
 use Rattle.drawings_test.proofs.slots.parts_right.Statement.{statement}
 use Rattle.drawings_test.proofs.slots.parts_right.Tie as tie

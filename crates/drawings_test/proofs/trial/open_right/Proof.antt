@@ -3,7 +3,7 @@ use native.Mathlib.Omega.{arith}
 use mathlib.Core.Path.{sym}
 use lib.ListN.{take, length-take}
 use lib.Seq.{length-take-le}
-use Rattle.line.specs.Opening.Ways.{started-within}
+use Rattle.line.specs.Answers.Opening.{started-within}
 use borrow.Author.Needs.{needs}
 use Rattle.drawings_test.proofs.trial.open_right.Statement.{statement}
 use Rattle.drawings_test.proofs.trial.open_right.Tie as tie

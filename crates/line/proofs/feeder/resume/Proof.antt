@@ -1,5 +1,5 @@
 -- `feeder::resume` meets its contract, by Feed's answer. Assumes nothing.
-use Rattle.line.specs.Whole.Ways.{piece-given, piece-refused, piece-stopped}
+use Rattle.line.specs.Answers.Whole.{piece-given, piece-refused, piece-stopped}
 use borrow.Author.Needs.{needs}
 use Rattle.line.proofs.feeder.resume.Statement.{statement}
 use Rattle.line.proofs.feeder.resume.Tie as tie

@@ -3,8 +3,8 @@
 use native.Mathlib.Omega.{arith}
 use mathlib.Core.Path.{sym, _∙_}
 use borrow.Author.Tests.{not-true, not-false}
-use Rattle.line.specs.Answers.Laws.{head-within}
-use Rattle.line.specs.Opening.Ways.{opens-unfit, opens-parts, opens-wrong}
+use Rattle.format.specs.Head.Laws.{head-within}
+use Rattle.line.specs.Answers.Opening.{opens-unfit, opens-parts, opens-wrong}
 use borrow.Author.Needs.{needs}
 use Rattle.line.proofs.opener.open.Statement.{statement}
 use Rattle.line.proofs.opener.open.Tie as tie

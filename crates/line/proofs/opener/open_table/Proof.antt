@@ -1,7 +1,7 @@
 -- `opener::open_table` meets its contract, by Read's answer. Assumes nothing.
 use native.Mathlib.Omega.{arith}
 use mathlib.Core.Path.{sym}
-use Rattle.line.specs.Opening.Ways.{read-few, read-count, read-refused}
+use Rattle.line.specs.Answers.Opening.{read-few, read-count, read-refused}
 use borrow.Author.Needs.{needs}
 use Rattle.line.proofs.opener.open_table.Statement.{statement}
 use Rattle.line.proofs.opener.open_table.Tie as tie

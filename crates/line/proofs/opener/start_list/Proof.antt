@@ -1,5 +1,5 @@
 -- `opener::start_list` meets its contract, by Start's answer. Assumes nothing.
-use Rattle.line.specs.Opening.Ways.{start-given, start-refused, start-stopped}
+use Rattle.line.specs.Answers.Opening.{start-given, start-refused, start-stopped}
 use borrow.Author.Needs.{needs}
 use Rattle.line.proofs.opener.start_list.Statement.{statement}
 use Rattle.line.proofs.opener.start_list.Tie as tie

@@ -1,5 +1,5 @@
 -- `whole::finish` meets its contract, by what the events leave. Assumes nothing.
-use Rattle.line.specs.Whole.Ways.{end-going, end-over}
+use Rattle.line.specs.Answers.Whole.{end-going, end-over}
 use borrow.Author.Needs.{needs}
 use Rattle.line.proofs.whole.finish.Statement.{statement}
 use Rattle.line.proofs.whole.finish.Tie as tie

@@ -3,8 +3,8 @@
 use native.Mathlib.Omega.{arith}
 use mathlib.Core.Path.{sym}
 use lib.Seq.{length-take-le}
-use Rattle.line.specs.Opening.Ways.{started-within}
-use Rattle.line.specs.Whole.Ways.{line-started, line-refused}
+use Rattle.line.specs.Answers.Opening.{started-within}
+use Rattle.line.specs.Answers.Whole.{line-started, line-refused}
 use borrow.Author.Needs.{needs}
 use Rattle.line.proofs.whole.line.Statement.{statement}
 use Rattle.line.proofs.whole.line.Tie as tie

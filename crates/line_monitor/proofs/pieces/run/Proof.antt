@@ -2,7 +2,7 @@
 use native.Mathlib.Omega.{arith}
 use mathlib.Core.Path.{sym}
 use lib.Seq.{length-take-le}
-use Rattle.line.specs.Opening.Ways.{started-within}
+use Rattle.line.specs.Answers.Opening.{started-within}
 use borrow.Author.Needs.{needs}
 use Rattle.line_monitor.proofs.pieces.run.Statement.{statement}
 use Rattle.line_monitor.proofs.pieces.run.Tie as tie
@@ -65,8 +65,11 @@ finish-requires c κs = search needs
 enum-known-refusal : tie.Need-enum-known-refusal
 enum-known-refusal c = search needs
 
-say-refused-requires : tie.Need-say-refused-requires
-say-refused-requires c κs = search needs
+refused-requires : tie.Need-refused-requires
+refused-requires c κs = search needs
+
+say-requires : tie.Need-say-requires
+say-requires c κs = search needs
 
 same-length : tie.Need-same-length
 same-length c = search needs
@@ -112,7 +115,8 @@ run-spec =
     feed-front-requires
     finish-requires
     enum-known-refusal
-    say-refused-requires
+    refused-requires
+    say-requires
     same-length
     same-length-2
     same-length-3

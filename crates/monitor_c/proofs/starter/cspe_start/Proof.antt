@@ -1,7 +1,7 @@
 -- `monitor_c::starter::cspe_start` meets its contract: the record's length is tried first; then the outcome is Start's,
 -- told by `tell`. Assumes nothing.
 use borrow.Author.Needs.{needs}
-use Rattle.monitor_c.specs.Calls.Laws.{start-unmeasured, start-told}
+use Rattle.words.specs.Calls.Laws.{start-unmeasured, start-told}
 use Rattle.monitor_c.proofs.starter.cspe_start.Statement.{statement}
 use Rattle.monitor_c.proofs.starter.cspe_start.Tie as tie
 

@@ -1,14 +1,14 @@
--- `monitor_c::tables::cspe_read` meets its contract: the outcome is Read's, told by `tell`. Assumes nothing.
+-- `monitor_c::tables::cspe_read` meets its contract: the outcome is Read's, told by `tell_table`. Assumes nothing.
 use borrow.Author.Needs.{needs}
-use Rattle.monitor_c.specs.Tables.Laws.{read-told}
+use Rattle.words.specs.Tables.Laws.{read-told}
 use Rattle.monitor_c.proofs.tables.cspe_read.Statement.{statement}
 use Rattle.monitor_c.proofs.tables.cspe_read.Tie as tie
 
 read-requires : tie.Need-read-requires
 read-requires c κs = search needs
 
-tell-requires : tie.Need-tell-requires
-tell-requires c κs = search needs
+tell-table-requires : tie.Need-tell-table-requires
+tell-table-requires c κs = search needs
 
 same-length : tie.Need-same-length
 same-length c = search needs
@@ -19,7 +19,7 @@ same-length-2 c = search needs
 returns : tie.Need-returns
 returns c =
     let done = c .before .before .before .before .before .before .read in
-    read-told (done .result) _ _ _ _ _ _ _ (c .tell .ensures) (done .ensures)
+    read-told (done .result) _ _ _ _ _ _ _ (c .tell-table .ensures) (done .ensures)
 
 pub cspe-read-spec : {M : Type 1} → statement M
-cspe-read-spec = tie.close (tie.spec read-requires tell-requires same-length same-length-2 returns)
+cspe-read-spec = tie.close (tie.spec read-requires tell-table-requires same-length same-length-2 returns)

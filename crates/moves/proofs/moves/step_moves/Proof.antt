@@ -14,7 +14,7 @@ use Rattle.moves.proofs.moves.step_moves.Tie as tie
 
 abbrev Inv-loop : tie.InvT-loop
 Inv-loop list work bound e src p n each also dst₀ count at₀ left₀ x₀ u₀ s₀ c₀ dst at left x u s c =
-    MovesLeft (tableIn list) bound e src at left x u s dst c
+    MovesLeft (tableIn list) e src at left x u s dst c
     (steppedMoves (tableIn list) e src p n each also s₀ dst₀ count) × (length dst ≡ length dst₀)
 
 abbrev μ-loop : tie.MeasureT-loop

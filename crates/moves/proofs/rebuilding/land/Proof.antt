@@ -52,7 +52,7 @@ loop-again : tie.Need-loop-again Inv-loop μ-loop
 loop-again c = landing-next (c .before .before .before .before .loop .inv) (lawful (c .before .before .before .before .before .before .before .before .before .before .before .before .pre .0)) (c .before .before .before .loop-test .taken) _ (c .before .before .called .ensures .0) _ (c .before .body .ensures .0) _ (c .kind2 .ensures .0)
 
 returns : tie.Need-returns Inv-loop μ-loop
-returns c = c .before .loop .inv
+returns c = record { landing = c .before .loop .inv; ended = c .loop-test .left }
 
 pub land-spec : {M : Type 1} → statement M
 land-spec =

@@ -79,7 +79,7 @@ add-c-2 c =
 node-requires : tie.Need-node-requires Inv-loop μ-loop
 node-requires c κs =
     let at-start = c .before .before .before .before .before .before .before .before .before .before in
-    landing-node (c .before .land .ensures) (lawful (at-start .pre .0))
+    landing-node (c .before .land .ensures .landing) (lawful (at-start .pre .0))
 
 mul-s-2 : tie.Need-mul-s-2 Inv-loop μ-loop
 mul-s-2 c =
@@ -110,11 +110,11 @@ loop-again-2 c =
     let tested = c .before .before .before .before .before .before .loop-test .taken in let marked = c .before .before .before .before .if1 .left in (
       omega (arith, tested),
       rebuild-follow (at-start .pre .1) _ _ _ tested (at-loop .loop .inv .1) _ refl marked _
-          (landing-leaf (c .before .before .land .ensures) (c .before .match .keys1) _ (c .node .ensures) .1),
+          (landing-leaf (c .before .before .land .ensures .landing) (c .before .match .keys1) _ (c .node .ensures) .1),
     )
 
 resolve-term-requires : tie.Need-resolve-term-requires Inv-loop μ-loop
-resolve-term-requires c κs = (c .before .before .before .before .before .before .before .before .before .before .pre .0, c .before .land .ensures .resolves)
+resolve-term-requires c κs = (c .before .before .before .before .before .before .before .before .before .before .pre .0, c .before .land .ensures .landing .resolves)
 
 add-j-3 : tie.Need-add-j-3 Inv-loop μ-loop
 add-j-3 c = omega (arith, c .before .before .before .before .before .before .loop-test .taken)
@@ -128,7 +128,7 @@ loop-again-3 c =
     let at-loop = c .before .before .before .before .before .before .before in let at-start = at-loop .before .before .before .before in
     let tested = c .before .before .before .before .before .before .loop-test .taken in let marked = c .before .before .before .before .if1 .left in (
       omega (arith, tested),
-      rebuild-follow (at-start .pre .1) _ _ _ tested (at-loop .loop .inv .1) _ refl marked _ (c .resolve-term .ensures ∙ c .before .before .land .ensures .same),
+      rebuild-follow (at-start .pre .1) _ _ _ tested (at-loop .loop .inv .1) _ refl marked _ (c .resolve-term .ensures ∙ c .before .before .land .ensures .landing .same),
     )
 
 returns : tie.Need-returns Inv-loop μ-loop

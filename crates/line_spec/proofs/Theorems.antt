@@ -1,0 +1,43 @@
+-- What `specs/Claims.antt` says, proved. Assumes nothing.
+use Rattle.line_spec.specs.Pieces.Joined.{pieces-whole}
+use Rattle.line_spec.proofs.Rows as computed
+use Rattle.line_spec.specs.Opening.Front.{open-ways, open-course, open-began}
+use Rattle.line_spec.specs.Lent.Laws.{fed-work, pieces-lent, whole-line}
+use Rattle.line_spec.specs.Lent.Ends.{ends-pieces}
+use Rattle.line_spec.specs.Claims.{LineIsLent, PiecesAreLent, OpenLeaves, OpenIsFront, OpenStarts, PiecesAreWhole}
+use Rattle.line_spec.specs.Claims.{PieceAnyWork, EndsArePieces, Rows}
+
+pub line-is-lent : LineIsLent
+unfolding LineIsLent
+line-is-lent = whole-line
+
+pub pieces-are-lent : PiecesAreLent
+unfolding PiecesAreLent
+pieces-are-lent = pieces-lent
+
+pub ends-are-pieces : EndsArePieces
+unfolding EndsArePieces
+ends-are-pieces = ends-pieces
+
+pub open-leaves : OpenLeaves
+unfolding OpenLeaves
+open-leaves = open-ways
+
+pub open-is-front : OpenIsFront
+unfolding OpenIsFront
+open-is-front = open-course
+
+pub open-starts : OpenStarts
+unfolding OpenStarts
+open-starts = open-began
+
+pub pieces-are-whole : PiecesAreWhole
+unfolding PiecesAreWhole
+pieces-are-whole = pieces-whole
+
+pub piece-any-work : PieceAnyWork
+unfolding PieceAnyWork
+piece-any-work = fed-work
+
+pub rows : Rows
+rows = computed.rows

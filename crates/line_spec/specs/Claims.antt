@@ -1,0 +1,114 @@
+-- What this crate proves of the definitions: statements only. The proof of each is in `proofs/Theorems.antt`, under
+-- the same name.
+--     LineIsLent        what `line` says is the line of the input, or refusal 1
+--     PiecesAreLent     so is what `open`, `resume` on piece after piece, and `conclude` say
+--     EndsArePieces     the same where `after_piece` is asked of each piece, as the program does
+--     OpenLeaves        what `open` leaves, by its ways
+--     OpenIsFront       it is the front of the input
+--     OpenStarts        its record stands on the list and before the events, with a work area of zeros
+--     PiecesAreWhole    an input in pieces gives the line of the whole
+--     PieceAnyWork      a piece comes to the same course, whatever the work area held
+--     Rows              the worked examples
+-- Assumes nothing.
+use Prim.Native.Nat.{ℕ, _≤_}
+use mathlib.Core.Path.{_≡_}
+use mathlib.Core.Bool.{true}
+use mathlib.Core.Logic.{_⊎_}
+use mathlib.Core.List.{List, [], _∷_, _++_, flatten}
+use lib.ListN.{length}
+use Rattle.monitor_spec.specs.State.{State, Monitor}
+use Rattle.monitor_spec.specs.Feed.{feedOf}
+use Rattle.table.specs.Table.{fixed, Term, stop, prefix, choice, par, one}
+use Rattle.table.specs.Writing.{numbersOf}
+use Rattle.line_spec.specs.Line.{Line, runs, fails, refused, lineOf}
+use Rattle.line_spec.specs.Pieces.{going, over, fed, pieceOf, frontOf, piecesOf}
+use Rattle.line_spec.specs.Opening.{lent, started, openOf, openCourse, OpenWay, Began}
+use Rattle.line_spec.specs.Whole.{wholeOf}
+use Rattle.line_spec.specs.Lent.{lentLine, lentPieces, lentEnds}
+
+-- 01, "The program and its lines", whatever stood in the lent buffers
+unfoldable pub LineIsLent : Type 0
+LineIsLent = (s l a b w : List ℕ) → wholeOf s l a b w .line ≡ lentLine s l a b w
+
+-- the front has the length number and the table (3 bytes and 16,384 at most), or is all there is
+unfoldable pub PiecesAreLent : Type 0
+PiecesAreLent =
+    (front : List ℕ) (pieces : List (List ℕ)) (l a b w : List ℕ) → (16387 ≤ length front) ⊎ (pieces ≡ [])
+    → lentPieces front pieces l a b w ≡ lentLine (front ++ flatten pieces) l a b w
+
+-- the input ends with the last piece, or with the front: there a line stands, and it is the line of the pieces
+unfoldable pub EndsArePieces : Type 0
+EndsArePieces =
+    (front : List ℕ) (pieces : List (List ℕ)) (l a b w : List ℕ)
+    → lentEnds front pieces l a b w ≡ over (lentPieces front pieces l a b w)
+
+unfoldable pub OpenLeaves : Type 0
+OpenLeaves = (s l a b w : List ℕ) → OpenWay s l a b w (openOf s l a b w)
+
+-- a fresh monitor on the list that was read, with the areas as they stand, or a refusal
+unfoldable pub OpenIsFront : Type 0
+OpenIsFront =
+    (s l a b w : List ℕ) → lent l a b w ≡ true → openCourse (openOf s l a b w) ≡ frontOf s .course
+
+-- the events that `open` leaves to feed are those of the front
+unfoldable pub OpenStarts : Type 0
+OpenStarts =
+    (s l a b w : List ℕ) (st : State) (count next : ℕ) → openOf s l a b w .answer ≡ started st count next
+    → Began s l a b w (openOf s l a b w) count next
+
+-- the same of the definitions alone
+unfoldable pub PiecesAreWhole : Type 0
+PiecesAreWhole =
+    (front : List ℕ) (pieces : List (List ℕ)) → (16387 ≤ length front) ⊎ (pieces ≡ [])
+    → piecesOf front pieces ≡ lineOf (front ++ flatten pieces)
+
+-- the definition of a piece has a work area of zeros; `resume` takes any of the right length
+unfoldable pub PieceAnyWork : Type 0
+PieceAnyWork =
+    (l : List ℕ) (m : Monitor) (es w : List ℕ) → length w ≡ 8192
+    → fed l (feedOf l m es w) ≡ pieceOf (going l m) es
+
+-- table B: "`03 02 00 01 00 00 01 01 01 00 02 00 02 01 05 00`"
+abbrev pub tableB : List ℕ
+tableB = 3 ∷ 2 ∷ 0 ∷ 1 ∷ 0 ∷ 0 ∷ 1 ∷ 1 ∷ 1 ∷ 0 ∷ 2 ∷ 0 ∷ 2 ∷ 1 ∷ 5 ∷ 0 ∷ []
+
+-- sixteen STOPs, one or the other
+abbrev stops : Term
+stops =
+    let two = choice stop stop in
+    let four = choice two two in
+    let eight = choice four four in
+    choice eight eight
+
+-- A = 1: (0 to STOP) choice (0 to those, in parallel over {} with themselves): 257 residuals after 0
+unfoldable pub exceeding : List ℕ
+exceeding =
+    numbersOf (record {
+      alphabet = 1;
+      sets = one (0 ∷ []) ∷ one [] ∷ [];
+      definitions = record {
+        level = 0;
+        body = choice (prefix (fixed 0) stop) (prefix (fixed 0) (par (fixed 1) stops stops));
+      } ∷ [];
+    })
+
+-- "The whole input `10`, table B, `00 01 00` prints `running 3 1`."; a place and the number taken; 11; 13 with 256
+-- slots; the length number cut short, loose, over 16,384; no table; the table cut short, by Read; an alphabet of 65; the
+-- table cut short "before Read", whatever it has
+unfoldable pub Rows : Type 0
+Rows =
+    (lineOf (16 ∷ tableB ++ (0 ∷ 1 ∷ 0 ∷ [])) ≡ runs 3 1)
+    × (lineOf (16 ∷ tableB ++ (0 ∷ 0 ∷ [])) ≡ fails 2 2)
+    × (lineOf (16 ∷ tableB ++ (0 ∷ 0 ∷ 1 ∷ [])) ≡ fails 2 3)
+    × (lineOf (16 ∷ tableB ++ (0 ∷ 1 ∷ 3 ∷ [])) ≡ refused 11 2)
+    × (lineOf (79 ∷ exceeding) ≡ runs 0 2)
+    × (lineOf (79 ∷ exceeding ++ (0 ∷ [])) ≡ refused 13 0)
+    × (lineOf [] ≡ refused 3 0)
+    × (lineOf (128 ∷ []) ≡ refused 3 0)
+    × (lineOf (128 ∷ 0 ∷ []) ≡ refused 4 0)
+    × (lineOf (129 ∷ 128 ∷ 1 ∷ []) ≡ refused 2 0)
+    × (lineOf (0 ∷ []) ≡ refused 3 0)
+    × (lineOf (1 ∷ 3 ∷ []) ≡ refused 3 1)
+    × (lineOf (2 ∷ 65 ∷ 2 ∷ []) ≡ refused 5 0)
+    × (lineOf (16 ∷ 3 ∷ 2 ∷ []) ≡ refused 3 2)
+    × (lineOf (16 ∷ 65 ∷ 2 ∷ []) ≡ refused 3 2)

@@ -1,0 +1,213 @@
+-- The calls on an input, whole or in pieces, come to the line of the input, whatever stood in the lent buffers.
+--     fed-work        what a piece leaves, whatever the work area held
+--     pieces-lent     the line of the calls on a front and pieces
+--     whole-line      the line of `line`
+-- Assumes nothing.
+use Prim.Native.Nat.{ℕ, _≤_}
+use mathlib.Core.Path.{_≡_, refl, ap, sym, subst, _∙_}
+use mathlib.Core.Bool.{Bool, true, false, cond, _&&_}
+use mathlib.Core.List.{List, [], _∷_, _++_, append-nil, flatten}
+use mathlib.Core.Logic.{_⊎_, inr}
+use lib.ListN.{length, drop}
+use Rattle.table.specs.Judge.{Judgement, accepted, declined, judgeList}
+use Rattle.table.specs.Operations.{zeros}
+use Rattle.monitor_spec.specs.Consistent.{consistent}
+use Rattle.monitor_spec.specs.Fold.{through}
+use Rattle.monitor_spec.specs.State.{State, Monitor, Outcome, areasMeasured, workMeasured}
+use Rattle.monitor_spec.specs.Feed.{takeEvent, endingOf, refusing, feedAccepted, feedJudged, feedOf}
+use Rattle.line_spec.specs.Line.{Line, refused, lineOf}
+use Rattle.line_spec.specs.Pieces.{Course, going, over, fed, fedBy, pieceOf, Front, frontOf, feedFront, concludeOf}
+use Rattle.line_spec.specs.Pieces.{throughPieces, piecesOf}
+use Rattle.line_spec.specs.Pieces.Joined.{over-stays, pieces-whole}
+use Rattle.line_spec.specs.Opening.{lent, OpenAnswer, started, refuses, OpenOutcome, openRefused, openOf}
+use Rattle.line_spec.specs.Opening.{courseBy, openCourse}
+use Rattle.line_spec.specs.Opening.Laws.{work-measured, zeros-length}
+use Rattle.line_spec.specs.Opening.Front.{open-unfit, open-course, open-began}
+use Rattle.line_spec.specs.Whole.{ResumeOutcome, resumedBy, resumeOf, finished, wholeBy, wholeAfter, wholeOf}
+use Rattle.line_spec.specs.Lent.{lentLine, resumeFirst, frontEvents, nextBy, resumeNext, resumeAll, lentPieces}
+
+-- ---- a piece
+
+judged-same : (t : Judgement) (m : Monitor) (es v w : List ℕ) → length v ≡ length w
+    → feedJudged t m es v ≡ feedJudged t m es w
+unfolding feedJudged feedAccepted
+judged-same (declined n p) m es v w e = ap (λ (k : ℕ). refusing n p m (zeros k)) e
+judged-same (accepted ns t) m es v w e =
+    ap
+    (λ (k : ℕ). elim (consistent t m) [
+      | true ↦ endingOf k (through (takeEvent t) m 0 es)
+      | false ↦ refusing 10 0 m (zeros k)
+    ]) e
+
+feed-same : (l : List ℕ) (m : Monitor) (es v w : List ℕ) → workMeasured v ≡ true → workMeasured w ≡ true
+    → length v ≡ length w → fed l (feedOf l m es v) ≡ fed l (feedOf l m es w)
+unfolding feedOf fed fedBy refusing
+feed-same l m es v w h k e = by (areasMeasured (m .area0) (m .area1)) refl
+  where
+    by : (x : Bool) → areasMeasured (m .area0) (m .area1) ≡ x → fed l (feedOf l m es v) ≡ fed l (feedOf l m es w)
+    by true a =
+        let p : feedOf l m es v ≡ feedJudged (judgeList l) m es v = rw (a, h, feedOf) in
+        let q : feedOf l m es w ≡ feedJudged (judgeList l) m es w = rw (a, k, feedOf) in
+        ap (fed l) (p ∙ judged-same (judgeList l) m es v w e ∙ sym q)
+    by false a =
+        let p : feedOf l m es v ≡ refusing 1 0 m v = rw (a, feedOf) in
+        let q : feedOf l m es w ≡ refusing 1 0 m w = rw (a, feedOf) in
+        ap (fed l) p ∙ sym (ap (fed l) q)
+
+pub fed-work : (l : List ℕ) (m : Monitor) (es w : List ℕ) → length w ≡ 8192
+    → fed l (feedOf l m es w) ≡ pieceOf (going l m) es
+unfolding pieceOf
+fed-work l m es w e =
+    let z = zeros-length 8192 in
+    feed-same l m es w (zeros 8192) (work-measured w e) (work-measured (zeros 8192) z) (e ∙ sym z)
+
+-- the work area keeps its length
+judged-length : (j : Judgement) (m : Monitor) (es w : List ℕ) → length (feedJudged j m es w .work) ≡ length w
+unfolding feedJudged feedAccepted refusing endingOf
+judged-length (declined n p) m es w = zeros-length (length w)
+judged-length (accepted ns t) m es w = by (consistent t m) refl
+  where
+    by : (x : Bool) → consistent t m ≡ x → length (feedAccepted t m es w .work) ≡ length w
+    by true e = rw (e, feedAccepted) (zeros-length (length w))
+    by false e = rw (e, feedAccepted) (zeros-length (length w))
+
+left-length : (l : List ℕ) (m : Monitor) (es w : List ℕ) → length (feedOf l m es w .work) ≡ length w
+unfolding feedOf refusing
+left-length l m es w = by (areasMeasured (m .area0) (m .area1) && workMeasured w) refl
+  where
+    by : (x : Bool) → (areasMeasured (m .area0) (m .area1) && workMeasured w) ≡ x
+        → length (feedOf l m es w .work) ≡ length w
+    by true e = rw (e, feedOf) (judged-length (judgeList l) m es w)
+    by false e = rw (e, feedOf)
+
+resume-work : (l : List ℕ) (m : Monitor) (es w : List ℕ) → resumeOf l m es w .work ≡ feedOf l m es w .work
+unfolding resumeOf resumedBy
+resume-work l m es w = refl
+
+-- ---- the calls
+
+-- a monitor that goes on has a work area of the right length
+abbrev Ready : Course → List ℕ → Type 0
+Ready (going l m) w = length w ≡ 8192
+Ready (over x) w = Unit
+
+ready : (c : Course) (w : List ℕ) → length w ≡ 8192 → Ready c w
+ready (going l m) w e = e
+ready (over x) w e = tt
+
+next-course : (o : ResumeOutcome) (es : List ℕ) (c : Course) → o .course ≡ c → Ready c (o .work)
+    → nextBy o es c .course ≡ pieceOf c es
+unfolding nextBy resumeOf resumedBy pieceOf
+next-course o es (going l m) e h = fed-work l m es (o .work) h
+next-course o es (over x) e h = e
+
+next-ready : (o : ResumeOutcome) (es : List ℕ) (c : Course) → o .course ≡ c → Ready c (o .work)
+    → Ready (nextBy o es c .course) (nextBy o es c .work)
+unfolding nextBy
+next-ready o es (going l m) e h =
+    let r = resumeOf l m es (o .work) in
+    ready (r .course) (r .work) (ap length (resume-work l m es (o .work)) ∙ left-length l m es (o .work) ∙ h)
+next-ready o es (over x) e h = subst (λ (c : Course). Ready c (o .work)) (sym e) tt
+
+all-course : (o : ResumeOutcome) (ess : List (List ℕ)) → Ready (o .course) (o .work)
+    → resumeAll o ess .course ≡ throughPieces (o .course) ess
+unfolding resumeAll resumeNext throughPieces
+all-course o [] h = refl
+all-course o (es ∷ ess) h =
+    all-course (nextBy o es (o .course)) ess (next-ready o es (o .course) refl h)
+    ∙ ap (λ (c : Course). throughPieces c ess) (next-course o es (o .course) refl h)
+
+-- ---- the front
+
+course-by : (o : OpenOutcome) (x : OpenAnswer) → o .answer ≡ x
+    → openCourse o ≡ courseBy (o .list) (o .area0) (o .area1) x
+unfolding openCourse
+course-by o x e = ap (courseBy (o .list) (o .area0) (o .area1)) e
+
+refuses-ready : (o : OpenOutcome) (n p : ℕ) → o .answer ≡ refuses n p → Ready (openCourse o) (o .work)
+unfolding courseBy
+refuses-ready o n p e = subst (λ (c : Course). Ready c (o .work)) (sym (course-by o (refuses n p) e)) tt
+
+module _ (s l a b w : List ℕ) (fit : lent l a b w ≡ true) where
+  first-ready : Ready (openCourse (openOf s l a b w)) (openOf s l a b w .work)
+  first-ready = by (openOf s l a b w .answer) refl
+    where
+      by : (x : OpenAnswer) → openOf s l a b w .answer ≡ x
+          → Ready (openCourse (openOf s l a b w)) (openOf s l a b w .work)
+      by (started st count next) e =
+          ready (openCourse (openOf s l a b w)) (openOf s l a b w .work)
+          (ap length (open-began s l a b w st count next e .work) ∙ zeros-length 8192)
+      by (refuses n p) e = refuses-ready (openOf s l a b w) n p e
+
+  first-piece : pieceOf (openCourse (openOf s l a b w)) (frontEvents s (openOf s l a b w .answer))
+      ≡ feedFront (frontOf s)
+  unfolding feedFront frontEvents pieceOf courseBy
+  first-piece = by (openOf s l a b w .answer) refl
+      ∙ ap (λ (c : Course). pieceOf c (frontOf s .events)) (open-course s l a b w fit)
+    where
+      o : OpenOutcome
+      o = openOf s l a b w
+
+      by : (x : OpenAnswer) → o .answer ≡ x → pieceOf (openCourse o) (frontEvents s (o .answer))
+          ≡ pieceOf (openCourse o) (frontOf s .events)
+      by (started st count next) e =
+          ap (λ (x : OpenAnswer). pieceOf (openCourse o) (frontEvents s x)) e
+          ∙ ap (pieceOf (openCourse o)) (sym (open-began s l a b w st count next e .events))
+      by (refuses n p) e =
+          let d = course-by o (refuses n p) e in
+          ap (λ (x : Course). pieceOf x (frontEvents s (o .answer))) d
+          ∙ sym (ap (λ (x : Course). pieceOf x (frontOf s .events)) d)
+
+  pieces-fit : (ess : List (List ℕ)) → lentPieces s ess l a b w ≡ piecesOf s ess
+  unfolding lentPieces resumeFirst piecesOf throughPieces
+  pieces-fit ess =
+      let o = openOf s l a b w in
+      ap concludeOf (all-course (resumeFirst o) (frontEvents s (o .answer) ∷ ess) first-ready
+      ∙ ap (λ (c : Course). throughPieces c ess) first-piece)
+
+pieces-unfit : (s : List ℕ) (ess : List (List ℕ)) (l a b w : List ℕ) → lent l a b w ≡ false
+    → lentPieces s ess l a b w ≡ refused 1 0
+unfolding lentPieces resumeFirst openRefused courseBy concludeOf
+pieces-unfit s ess l a b w e =
+    let o = openOf s l a b w in
+    let f : o .answer ≡ refuses 1 0 = ap (λ (x : OpenOutcome). x .answer) (open-unfit s l a b w e) in
+    let all = frontEvents s (o .answer) ∷ ess in
+    ap concludeOf (all-course (resumeFirst o) all (refuses-ready o 1 0 f)
+    ∙ ap (λ (c : Course). throughPieces c all) (course-by o (refuses 1 0) f)
+    ∙ over-stays (refused 1 0) all)
+
+-- ---- the line
+
+pub pieces-lent : (s : List ℕ) (ess : List (List ℕ)) (l a b w : List ℕ) → (16387 ≤ length s) ⊎ (ess ≡ [])
+    → lentPieces s ess l a b w ≡ lentLine (s ++ flatten ess) l a b w
+unfolding lentLine
+pieces-lent s ess l a b w h = by (lent l a b w) refl
+  where
+    line : Line
+    line = lineOf (s ++ flatten ess)
+
+    by : (x : Bool) → lent l a b w ≡ x → lentPieces s ess l a b w ≡ cond (lent l a b w) line (refused 1 0)
+    by true e =
+        pieces-fit s l a b w e ess ∙ pieces-whole s ess h ∙ sym (ap (λ (y : Bool). cond y line (refused 1 0)) e)
+    by false e = pieces-unfit s ess l a b w e ∙ sym (ap (λ (y : Bool). cond y line (refused 1 0)) e)
+
+-- no piece follows the front
+alone : (s : List ℕ) (o : OpenOutcome) → wholeAfter s o .line
+    ≡ concludeOf (resumeAll (resumeFirst o) (frontEvents s (o .answer) ∷ []) .course)
+unfolding wholeAfter wholeBy finished resumeFirst frontEvents resumeAll resumeNext nextBy openCourse courseBy concludeOf
+alone s o = by (o .answer) refl
+  where
+    told : OpenAnswer → Line
+    told x = concludeOf (nextBy (resumeFirst o) (frontEvents s x) (courseBy (o .list) (o .area0) (o .area1) x) .course)
+
+    by : (x : OpenAnswer) → o .answer ≡ x → wholeBy s o (o .answer) .line ≡ told (o .answer)
+    by (started st count next) e = ap (λ (x : OpenAnswer). wholeBy s o x .line) e ∙ sym (ap told e)
+    by (refuses n p) e =
+        ap (λ (x : OpenAnswer). wholeBy s o x .line) e
+        ∙ sym (ap told e ∙ ap concludeOf (course-by o (refuses n p) e))
+
+pub whole-line : (s l a b w : List ℕ) → wholeOf s l a b w .line ≡ lentLine s l a b w
+unfolding wholeOf lentPieces flatten
+whole-line s l a b w =
+    alone s (openOf s l a b w) ∙ pieces-lent s [] l a b w (inr refl)
+    ∙ ap (λ (x : List ℕ). lentLine x l a b w) (append-nil s)

@@ -1,0 +1,89 @@
+-- The line that the program prints for an input (01, "The program and its lines").
+--     Head, headOf                  an input's table bytes and events, or what is wrong with its length number
+--     Line                          what is printed
+--     stateLine, answerLine         of a record; of an answer of Start or Feed
+--     fresh, startedLine, lineOf    a fresh monitor of 256 slots; of a number list and events; of a whole input
+-- The laws are in `Line/Laws.antt`. Assumes nothing.
+use Prim.Native.Nat.{ℕ}
+use mathlib.Core.Bool.{true, false}
+use mathlib.Core.List.{List}
+use lib.ListN.{length, take, drop}
+use lib.Dec.{ltb}
+use Rattle.numbers.specs.Number.{Scan, value, truncated, malformed, readNumber}
+use Rattle.table.specs.Judge.{Judgement, accepted, declined, judgeBytes}
+use Rattle.table.specs.Operations.{zeros}
+use Rattle.monitor_spec.specs.State.{Verdict, running, failedAt, State, Monitor, Answer, given, stopped, Outcome}
+use Rattle.monitor_spec.specs.State as state
+use Rattle.monitor_spec.specs.Start.{startOf}
+use Rattle.monitor_spec.specs.Feed.{feedOf}
+pub mod Laws
+
+pub data Head : Type 0 where
+  parts : List ℕ → List ℕ → Head
+  wrong : ℕ → ℕ → Head
+
+-- "a length over 16,384 is 2; input ending within the table is 3, at the number of table bytes there": a length, and
+-- what follows it
+unfoldable pub cut : ℕ → List ℕ → Head
+cut n s =
+    elim (ltb 16384 n) [
+      | true ↦ wrong 2 0
+      | false ↦ elim (ltb (length s) n) [ true ↦ wrong 3 (length s) | false ↦ parts (take n s) (drop n s) ]
+    ]
+
+-- "The length number uses 3 and 4 with place 0"
+unfoldable pub headBy : Scan → Head
+headBy (value n k s) = cut n s
+headBy truncated = wrong 3 0
+headBy malformed = wrong 4 0
+
+-- "Standard input: a number, that many table bytes, then events, one byte each."
+unfoldable pub headOf : List ℕ → Head
+headOf s = headBy (readNumber s)
+
+-- "`running TAKEN RESIDUALS`, `failed PLACE TAKEN`, or `refused NUMBER PLACE`"
+pub data Line : Type 0 where
+  runs fails refused : ℕ → ℕ → Line
+
+unfoldable pub verdictLine : Verdict → ℕ → ℕ → Line
+verdictLine running taken count = runs taken count
+verdictLine (failedAt place) taken count = fails place taken
+
+unfoldable pub stateLine : State → Line
+stateLine s = verdictLine (s .verdict) (s .taken) (s .count)
+
+-- "Events are placed from the input's first": they are all one call's, whose place is "events taken by this call"
+unfoldable pub answerLine : Answer → Line
+answerLine (given s) = stateLine s
+answerLine (state.refused n p) = refused n p
+answerLine (stopped n p s) = refused n p
+
+-- "256 slots": 4,096 words
+unfoldable pub fresh : List ℕ → Outcome
+fresh l = startOf l (zeros 4096) (zeros 4096) (zeros 8192)
+
+-- the monitor that an outcome leaves: a record with its areas
+unfoldable pub monitorLeft : Outcome → State → Monitor
+monitorLeft o s = record { state = s; area0 = o .area0; area1 = o .area1 }
+
+-- Start's answer, with its outcome o, and then Feed's; Start gives none of the third form
+unfoldable pub startedBy : List ℕ → List ℕ → Outcome → Answer → Line
+startedBy l es o (given s) = answerLine (feedOf l (monitorLeft o s) es (zeros 8192) .answer)
+startedBy l es o (state.refused n p) = refused n p
+startedBy l es o (stopped n p s) = refused n p
+
+unfoldable pub startedLine : List ℕ → List ℕ → Line
+startedLine l es = startedBy l es (fresh l) (fresh l .answer)
+
+-- Read's judgement
+unfoldable pub readLine : List ℕ → Judgement → Line
+readLine es (accepted ns t) = startedLine ns es
+readLine es (declined n p) = refused n p
+
+-- "all before Read"
+unfoldable pub headLine : Head → Line
+headLine (parts bs es) = readLine es (judgeBytes bs)
+headLine (wrong n p) = refused n p
+
+unfoldable pub lineOf : List ℕ → Line
+lineOf s = headLine (headOf s)

@@ -1,0 +1,160 @@
+-- What `openOf` leaves is the front of the input.
+--     lent-out                   the lent lengths
+--     open-fit, open-unfit       by the test of them
+--     open-ways                  its ways
+--     open-course, open-began    the course is that of the front; where there is a record, what holds besides
+-- Assumes nothing.
+use Prim.Native.Nat.{ℕ, _-_, _≤_}
+use native.Mathlib.Omega.{arith}
+use mathlib.Core.Path.{_≡_, refl, ap, sym, subst, _∙_}
+use mathlib.Core.Bool.{Bool, true, false, _&&_}
+use mathlib.Core.List.{List, _++_}
+use lib.ListN.{length, take, drop, length-append}
+use lib.Seq.{take-append-seam}
+use lib.Dec.{eqb}
+use borrow.Author.Tests.{eqb-true}
+use Rattle.table.specs.Judge.{Judgement, accepted, declined, judgeBytes}
+use Rattle.table.specs.Operations.{zeros}
+use Rattle.monitor_spec.specs.Valid.Laws.{and-split}
+use Rattle.monitor_spec.specs.State.{State, Answer, given, stopped, Outcome}
+use Rattle.monitor_spec.specs.State as state
+use Rattle.monitor_spec.specs.Start.{startOf}
+use Rattle.monitor_spec.specs.History.Begun.{start-never}
+use Rattle.line_spec.specs.Line.{Head, parts, wrong, headOf, fresh, monitorLeft}
+use Rattle.line_spec.specs.Pieces.{Course, fed, fedBy, frontBy, frontHead, frontOf}
+use Rattle.line_spec.specs.Line.Laws.{head-events}
+use Rattle.line_spec.specs.Opening.{lentFit, lent, started, refuses, OpenOutcome, openRefused, startAnswer, startedOn}
+use Rattle.line_spec.specs.Opening.{openHead, openOf, courseBy, openCourse, OpenWay, lengthsWrong, headWrong}
+use Rattle.line_spec.specs.Opening.{tableDeclined, tableAccepted, Began}
+use Rattle.line_spec.specs.Opening.Laws.{fed-fresh, start-work, zeros-length, table-accepted, table-declined}
+
+-- ---- lent lengths
+
+pub record Lengths (l a b w : List ℕ) : Type 0 where
+  pub list : length l ≡ 16384
+  pub area0 : length a ≡ 4096
+  pub area1 : length b ≡ 4096
+  pub work : length w ≡ 8192
+
+pub lent-out : (l a b w : List ℕ) → lent l a b w ≡ true → Lengths l a b w
+unfolding lentFit
+lent-out l a b w e =
+    let (p, x) = and-split (eqb (length l) 16384) _ e in
+    let (q, y) = and-split (eqb (length a) 4096) _ x in
+    let (u, v) = and-split (eqb (length b) 4096) (eqb (length w) 8192) y in
+    record { list = eqb-true _ _ p; area0 = eqb-true _ _ q; area1 = eqb-true _ _ u; work = eqb-true _ _ v }
+
+module _ (s l a b w : List ℕ) where
+  pub open-fit : lent l a b w ≡ true → openOf s l a b w ≡ openHead (length s) (headOf s) l a b w
+  unfolding openOf
+  open-fit e = rw (e, openOf)
+
+  pub open-unfit : lent l a b w ≡ false → openOf s l a b w ≡ openRefused 1 0 l a b w
+  unfolding openOf
+  open-unfit e = rw (e, openOf)
+
+-- ---- the ways
+
+module _ (s l a b w : List ℕ) where
+  headed : lent l a b w ≡ true → (h : Head) → headOf s ≡ h → openOf s l a b w ≡ openHead (length s) h l a b w
+  headed e h k = open-fit s l a b w e ∙ ap (λ (x : Head). openHead (length s) x l a b w) k
+
+  judged : (bs es : List ℕ) → lent l a b w ≡ true → headOf s ≡ parts bs es → (j : Judgement) → judgeBytes bs ≡ j
+      → OpenWay s l a b w (openOf s l a b w)
+  unfolding openHead
+  judged bs es e h (accepted ns t) j =
+      let d = lent-out l a b w e in
+      subst (OpenWay s l a b w) (sym (headed e (parts bs es) h
+      ∙ table-accepted bs (length s - length es) l a b w (d .list) (d .work) ns t j)) (tableAccepted bs es ns t e h j)
+  judged bs es e h (declined n p) j =
+      let d = lent-out l a b w e in
+      subst (OpenWay s l a b w) (sym (headed e (parts bs es) h
+      ∙ table-declined bs (length s - length es) l a b w (d .list) (d .work) n p j)) (tableDeclined bs es n p e h j)
+
+  pub open-ways : OpenWay s l a b w (openOf s l a b w)
+  unfolding openHead
+  open-ways = by (lent l a b w) refl (headOf s) refl
+    where
+      by : (x : Bool) → lent l a b w ≡ x → (h : Head) → headOf s ≡ h → OpenWay s l a b w (openOf s l a b w)
+      by false e h k = subst (OpenWay s l a b w) (sym (open-unfit s l a b w e)) (lengthsWrong e)
+      by true e (wrong n p) h = subst (OpenWay s l a b w) (sym (headed e (wrong n p) h)) (headWrong n p e h)
+      by true e (parts bs es) h = judged bs es e h (judgeBytes bs) refl
+
+-- ---- the course
+
+start-course : (count next : ℕ) (l : List ℕ) (o : Outcome) → ((n p : ℕ) (s : State) → o .answer ≡ stopped n p s → ⊥)
+    → openCourse (startedOn count next l o) ≡ fed (take count l) o
+unfolding openCourse courseBy startedOn startAnswer fed fedBy monitorLeft
+start-course count next l o never = by (o .answer) refl
+  where
+    asked : Answer → Course
+    asked x = courseBy l (o .area0) (o .area1) (startAnswer count next x)
+
+    by : (x : Answer) → o .answer ≡ x → asked (o .answer) ≡ fedBy (take count l) o (o .answer)
+    by (given s) e = ap asked e ∙ sym (ap (fedBy (take count l) o) e)
+    by (state.refused n p) e = ap asked e ∙ sym (ap (fedBy (take count l) o) e)
+    by (stopped n p s) e = absurd (never n p s e)
+
+true-false : {X : Type 0} {x : Bool} → x ≡ true → x ≡ false → X
+true-false e f = absurd (let z : _≡_ {A = ℕ} 0 1 = cc in omega arith)
+
+module _ (s l a b w : List ℕ) (fit : lent l a b w ≡ true) where
+  accepted-course : (next : ℕ) (ns : List ℕ)
+      → openCourse (startedOn (length ns) next (ns ++ zeros (16384 - length ns)) (startOf ns a b (zeros 8192)))
+      ≡ fed ns (fresh ns)
+  accepted-course next ns =
+      let d = lent-out l a b w fit in
+      let o = startOf ns a b (zeros 8192) in
+      start-course (length ns) next (ns ++ zeros (16384 - length ns)) o (start-never ns a b (zeros 8192))
+      ∙ ap (λ (x : List ℕ). fed x o) (take-append-seam ns (zeros (16384 - length ns)))
+      ∙ fed-fresh ns a b (zeros 8192) (d .area0) (d .area1) (zeros-length 8192)
+
+  by-way : (o : OpenOutcome) → OpenWay s l a b w o → openCourse o ≡ frontOf s .course
+  unfolding openCourse courseBy openRefused frontOf frontHead frontBy
+  by-way o (lengthsWrong e) = true-false fit e
+  by-way o (headWrong n p e h) = sym (ap (λ (x : Head). frontHead x .course) h)
+  by-way o (tableDeclined bs es n p e h j) =
+      sym (ap (λ (x : Head). frontHead x .course) h ∙ ap (λ (x : Judgement). frontBy es x .course) j)
+  by-way o (tableAccepted bs es ns t e h j) =
+      accepted-course (length s - length es) ns
+      ∙ sym (ap (λ (x : Head). frontHead x .course) h ∙ ap (λ (x : Judgement). frontBy es x .course) j)
+
+  pub open-course : openCourse (openOf s l a b w) ≡ frontOf s .course
+  open-course = by-way (openOf s l a b w) (open-ways s l a b w)
+
+-- ---- where there is a record
+
+-- only a record that Start gave is one
+started-out : (k m : ℕ) (x : Answer) (st : State) (count next : ℕ) → startAnswer k m x ≡ started st count next
+    → (count ≡ k) × (next ≡ m)
+unfolding startAnswer
+started-out k m (given s) st count next e = (cc, cc)
+started-out k m (state.refused n p) st count next e = absurd (let z : _≡_ {A = ℕ} 0 1 = cc in omega arith)
+started-out k m (stopped n p s) st count next e = absurd (let z : _≡_ {A = ℕ} 0 1 = cc in omega arith)
+
+not-started : {X : Type 0} {n p : ℕ} {st : State} {count next : ℕ} → refuses n p ≡ started st count next → X
+not-started e = absurd (let z : _≡_ {A = ℕ} 0 1 = cc in omega arith)
+
+module _ (s l a b w : List ℕ) (st : State) (count next : ℕ) where
+  begins : (o : OpenOutcome) → OpenWay s l a b w o → o .answer ≡ started st count next
+      → Began s l a b w o count next
+  unfolding openRefused startedOn frontOf frontHead frontBy
+  begins o (lengthsWrong e) f = not-started f
+  begins o (headWrong n p e h) f = not-started f
+  begins o (tableDeclined bs es n p e h j) f = not-started f
+  begins o (tableAccepted bs es ns t e h j) f =
+      let d = lent-out l a b w e in
+      let (c, n) = started-out (length ns) (length s - length es) (startOf ns a b (zeros 8192) .answer) st count next
+      f in
+      record {
+        fit = e;
+        events =
+            ap (λ (x : Head). frontHead x .events) h ∙ ap (λ (x : Judgement). frontBy es x .events) j
+            ∙ head-events s bs es h ∙ ap (λ (x : ℕ). drop x s) (sym n);
+        within = omega arith;
+        few = let m = length-append ns (zeros (16384 - length ns)) in omega arith;
+        work = start-work ns a b (zeros 8192) (d .area0) (d .area1) (zeros-length 8192);
+      }
+
+  pub open-began : openOf s l a b w .answer ≡ started st count next → Began s l a b w (openOf s l a b w) count next
+  open-began = begins (openOf s l a b w) (open-ways s l a b w)

@@ -1,0 +1,146 @@
+-- What Read and Start leave of lent buffers of the right lengths, whatever stood in them.
+--     fed-fresh                          Start's course is that of a fresh monitor
+--     start-work                         it clears the work area
+--     table-accepted, table-declined     a table's bytes read and started, by the judgement on them
+-- Assumes nothing.
+use Prim.Native.Nat.{ℕ, _-_, _/_}
+use native.Mathlib.Omega.{arith}
+use mathlib.Core.Path.{_≡_, refl, ap, ap₂, sym, _∙_}
+use mathlib.Core.Bool.{Bool, true, false, _&&_}
+use mathlib.Core.List.{List, [], _++_}
+use lib.ListN.{length, length-replicate}
+use lib.Seq.{take-append-seam}
+use lib.Dec.{ltb, eqb, leb}
+use borrow.Author.Tests.{eq-eqb}
+use Rattle.table.specs.Table.{Table}
+use Rattle.table.specs.Judge.{Judgement, accepted, declined, judgeList, judgeBytes}
+use Rattle.table.specs.Operations.{zeros, measured, readJudged, readOf}
+use Rattle.table.specs.Operations as read
+use Rattle.monitor_spec.specs.Residual.{residualsOf}
+use Rattle.monitor_spec.specs.Slots.{slotsOf}
+use Rattle.monitor_spec.specs.State.{given, Outcome, running, areasMeasured, workMeasured, slotCount, fill}
+use Rattle.monitor_spec.specs.State as state
+use Rattle.monitor_spec.specs.Feed.{nextVerdict}
+use Rattle.monitor_spec.specs.Start.{startAccepted, startJudged, startOf}
+use Rattle.line_spec.specs.Line.{fresh}
+use Rattle.line_spec.specs.Pieces.{fed, fedBy}
+use Rattle.line_spec.specs.Opening.{openRefused, startedOn, readThen, openTable}
+
+-- ---- Start
+
+-- Start of an accepted table, by the number of slots and of work words
+begunWith : Table → ℕ → ℕ → Outcome
+begunWith t n k =
+    let ss = slotsOf (residualsOf t []) in
+    elim (ltb n (length ss)) [
+      | true ↦ record { answer = state.refused 13 0; area0 = fill n []; area1 = fill n []; work = zeros k }
+      | false ↦
+          record {
+            answer = given (record { taken = 0; count = length ss; verdict = nextVerdict running 0 ss });
+            area0 = fill n ss;
+            area1 = fill n [];
+            work = zeros k;
+          }
+    ]
+
+begun-with : (t : Table) (a b w : List ℕ) → startAccepted t a b w ≡ begunWith t (slotCount a) (length w)
+unfolding startAccepted begunWith
+begun-with t a b w = refl
+
+begun-work : (t : Table) (n k : ℕ) → begunWith t n k .work ≡ zeros k
+unfolding begunWith
+begun-work t n k = by (ltb n (length (slotsOf (residualsOf t [])))) refl
+  where
+    by : (x : Bool) → ltb n (length (slotsOf (residualsOf t []))) ≡ x → begunWith t n k .work ≡ zeros k
+    by true e = rw (e, begunWith)
+    by false e = rw (e, begunWith)
+
+areas-measured : (a b : List ℕ) → length a ≡ 4096 → length b ≡ 4096 → areasMeasured a b ≡ true
+unfolding areasMeasured
+areas-measured a b e f = rw (e, f)
+
+pub work-measured : (w : List ℕ) → length w ≡ 8192 → workMeasured w ≡ true
+unfolding workMeasured
+work-measured w e = eq-eqb (length w) 8192 e
+
+both-true : (x y : Bool) → x ≡ true → y ≡ true → (x && y) ≡ true
+both-true x y e f = rw (e, f)
+
+pub all-measured : (a b w : List ℕ) → length a ≡ 4096 → length b ≡ 4096 → length w ≡ 8192
+    → (areasMeasured a b && workMeasured w) ≡ true
+all-measured a b w e f g = both-true _ _ (areas-measured a b e f) (work-measured w g)
+
+module _ (l a b w : List ℕ) (e : length a ≡ 4096) (f : length b ≡ 4096) (g : length w ≡ 8192) where
+  start-judged : startOf l a b w ≡ startJudged (judgeList l) a b w
+  unfolding startOf
+  start-judged = rw (all-measured a b w e f g, startOf)
+
+  start-accepted : (ns : List ℕ) (t : Table) → judgeList l ≡ accepted ns t → startOf l a b w ≡ begunWith t 256 8192
+  unfolding startJudged slotCount
+  start-accepted ns t j =
+      let n : slotCount a ≡ 256 = omega arith in
+      start-judged ∙ ap (λ (x : Judgement). startJudged x a b w) j ∙ begun-with t a b w ∙ ap₂ (begunWith t) n g
+
+  start-declined : (n p : ℕ) → judgeList l ≡ declined n p → startOf l a b w
+      ≡ record { answer = state.refused n p; area0 = a; area1 = b; work = zeros (length w) }
+  unfolding startJudged
+  start-declined n p j = start-judged ∙ ap (λ (x : Judgement). startJudged x a b w) j
+
+  -- "all zero after each call"
+  pub start-work : startOf l a b w .work ≡ zeros 8192
+  start-work = by (judgeList l) refl
+    where
+      by : (j : Judgement) → judgeList l ≡ j → startOf l a b w .work ≡ zeros 8192
+      by (accepted ns t) j = ap (λ (o : Outcome). o .work) (start-accepted ns t j) ∙ begun-work t 256 8192
+      by (declined n p) j = ap (λ (o : Outcome). o .work) (start-declined n p j) ∙ ap zeros g
+
+pub zeros-length : (n : ℕ) → length (zeros n) ≡ n
+zeros-length n = length-replicate {A = ℕ} n 0
+
+-- nothing of what stood in the areas is left
+pub fed-fresh : (l a b w : List ℕ) → length a ≡ 4096 → length b ≡ 4096 → length w ≡ 8192
+    → fed l (startOf l a b w) ≡ fed l (fresh l)
+unfolding fresh fed fedBy
+fed-fresh l a b w e f g = by (judgeList l) refl
+  where
+    z : length (zeros 4096) ≡ 4096
+    z = zeros-length 4096
+
+    by : (j : Judgement) → judgeList l ≡ j → fed l (startOf l a b w) ≡ fed l (fresh l)
+    by (accepted ns t) j =
+        ap (fed l) (start-accepted l a b w e f g ns t j
+        ∙ sym (start-accepted l (zeros 4096) (zeros 4096) (zeros 8192) z z (zeros-length 8192) ns t j))
+    by (declined n p) j =
+        ap (fed l) (start-declined l a b w e f g n p j)
+        ∙ sym (ap (fed l) (start-declined l (zeros 4096) (zeros 4096) (zeros 8192) z z (zeros-length 8192) n p j))
+
+-- ---- Read
+
+pub read-right : (bs l w : List ℕ) → length l ≡ 16384 → length w ≡ 8192 → readOf bs l w ≡ readJudged (judgeBytes bs)
+unfolding readOf measured
+read-right bs l w e f = rw (e, f)
+
+-- ---- Read, and then Start
+
+module _ (bs : List ℕ) (next : ℕ) (l a b w : List ℕ) (e : length l ≡ 16384) (g : length w ≡ 8192) where
+  judged-table : (j : Judgement) → judgeBytes bs ≡ j → openTable bs next l a b w
+      ≡ readThen next (readJudged j .answer) (readJudged j .output) a b (readJudged j .work)
+  unfolding openTable
+  judged-table j k =
+      ap (λ (o : read.Outcome). readThen next (o .answer) (o .output) a b (o .work))
+      (read-right bs l w e g ∙ ap readJudged k)
+
+  pub table-accepted : (ns : List ℕ) (t : Table) → judgeBytes bs ≡ accepted ns t → openTable bs next l a b w
+      ≡ startedOn (length ns) next (ns ++ zeros (16384 - length ns)) (startOf ns a b (zeros 8192))
+  unfolding readThen readJudged
+  table-accepted ns t k =
+      let after = zeros (16384 - length ns) in
+      judged-table (accepted ns t) k
+      ∙ ap (λ (x : List ℕ). startedOn (length ns) next (ns ++ after) (startOf x a b (zeros 8192)))
+      (take-append-seam ns after)
+
+  -- "Read's output is zeroed on 2 to 9"; Start is not called
+  pub table-declined : (n p : ℕ) → judgeBytes bs ≡ declined n p → openTable bs next l a b w
+      ≡ openRefused n p (zeros 16384) a b (zeros 8192)
+  unfolding readThen readJudged
+  table-declined n p k = judged-table (declined n p) k

@@ -1,8 +1,0 @@
--- What `specs/Claims.antt` says, proved by computing. Assumes nothing.
-use mathlib.Core.Path.{refl}
-use Rattle.text.specs.Text.{decimalWithin, decimal, spelled, textOf}
-use Rattle.text.specs.Claims.{Rows}
-
-pub rows : Rows
-unfolding Rows textOf spelled decimal decimalWithin
-rows = (refl, refl, refl, refl)

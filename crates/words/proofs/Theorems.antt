@@ -1,0 +1,22 @@
+-- A proof of each claim of `specs/Claims.antt`. Assumes nothing.
+use Rattle.words.specs.Words.Laws.{read-back}
+use Rattle.words.specs.Claims.{RecordReadsBack, ZeroExactly, ViewShows, Rows}
+use Rattle.words.proofs.Zero.{read-zero, write-zero, start-zero, feed-zero, offer-zero}
+use Rattle.words.proofs.Shows.{shows}
+use Rattle.words.proofs.Rows.{rows-hold}
+
+pub record-reads-back : RecordReadsBack
+unfolding RecordReadsBack
+record-reads-back = read-back
+
+pub zero-exactly : ZeroExactly
+zero-exactly =
+    record { read = read-zero; write = write-zero; start = start-zero; feed = feed-zero; offer = offer-zero }
+
+pub view-shows : ViewShows
+unfolding ViewShows
+view-shows = shows
+
+pub rows : Rows
+unfolding Rows
+rows = rows-hold

@@ -1,0 +1,171 @@
+-- `cspe_start`, `cspe_feed`, `cspe_offer` and `cspe_view`: what they return and what stands in the lent words
+-- afterwards (01, "Operations"). The record is four lent words (`Words`).
+--     MonitorCall, Told, startCall, feedCall    of Start and Feed
+--     OfferCall, OfferTold, offerCall           of Offer
+--     ViewCall, viewCall                        of View
+-- The laws are in `Calls/Laws.antt`. Assumes nothing.
+use Prim.Native.Nat.{ℕ, _%_}
+use mathlib.Core.Path.{_≡_}
+use mathlib.Core.Bool.{Bool, true, false}
+use mathlib.Core.List.{List}
+use lib.ListN.{length}
+use lib.Dec.{eqb}
+use Rattle.monitor_spec.specs.State.{State, Monitor, Answer, given, refused, stopped, Outcome}
+use Rattle.monitor_spec.specs.Start.{startOf}
+use Rattle.monitor_spec.specs.Feed.{feedOf}
+use Rattle.monitor_spec.specs.Offer.{Offered, offers, OfferOutcome, offerOf}
+use Rattle.monitor_spec.specs.Offer as operation
+use Rattle.monitor_spec.specs.View.{viewOf}
+use Rattle.words.specs.Words.{recordMeasured, stateIn, wordsOf}
+pub mod Laws
+
+-- ---- Start and Feed
+
+pub record MonitorCall : Type 0 where
+  pub number : ℕ
+  pub place : ℕ
+  pub words : List ℕ
+  pub area0 : List ℕ
+  pub area1 : List ℕ
+  pub work : List ℕ
+
+abbrev pub said : ℕ → ℕ → List ℕ → List ℕ → List ℕ → List ℕ → MonitorCall
+said n p r a b w = record { number = n; place = p; words = r; area0 = a; area1 = b; work = w }
+
+-- the refusal's number, 0 where there is none
+unfoldable pub numberOf : Answer → ℕ
+numberOf (given s) = 0
+numberOf (refused n p) = n
+numberOf (stopped n p s) = n
+
+-- there is none
+unfoldable pub isGiven : Answer → Bool
+isGiven (given s) = true
+isGiven (refused n p) = false
+isGiven (stopped n p s) = false
+
+-- its place, 0 where there is none
+unfoldable pub placeOf : Answer → ℕ
+placeOf (given s) = 0
+placeOf (refused n p) = p
+placeOf (stopped n p s) = p
+
+-- the record given, or that after the events already taken; else the words that were lent are kept
+unfoldable pub recordAfter : List ℕ → Answer → List ℕ
+recordAfter r (given s) = wordsOf s
+recordAfter r (refused n p) = r
+recordAfter r (stopped n p s) = wordsOf s
+
+-- the promise of `tell`: of an answer, where the words lent are r
+pub record Told (x : Answer) (r : List ℕ) (n p : ℕ) (r' : List ℕ) : Type 0 where
+  pub number : n ≡ numberOf x
+  pub place : p ≡ placeOf x
+  pub words : r' ≡ recordAfter r x
+
+unfoldable pub monitorCall : List ℕ → Outcome → MonitorCall
+monitorCall r o =
+    record {
+      number = numberOf (o .answer);
+      place = placeOf (o .answer);
+      words = recordAfter r (o .answer);
+      area0 = o .area0;
+      area1 = o .area1;
+      work = o .work;
+    }
+
+-- the monitor that the lent words and areas are
+unfoldable pub monitorIn : List ℕ → List ℕ → List ℕ → Monitor
+monitorIn r a b = record { state = stateIn r; area0 = a; area1 = b }
+
+-- a record that is not of four words: refusal 1, place 0, all kept
+unfoldable pub unmeasured : List ℕ → List ℕ → List ℕ → List ℕ → MonitorCall
+unmeasured r a b w = record { number = 1; place = 0; words = r; area0 = a; area1 = b; work = w }
+
+-- number list, record, areas, work words
+unfoldable pub startCall : List ℕ → List ℕ → List ℕ → List ℕ → List ℕ → MonitorCall
+startCall l r a b w =
+    elim (recordMeasured r) [
+      | true ↦ monitorCall r (startOf l a b w)
+      | false ↦ unmeasured r a b w
+    ]
+
+-- number list, record, areas, events, work words
+unfoldable pub feedCall : List ℕ → List ℕ → List ℕ → List ℕ → List ℕ → List ℕ → MonitorCall
+feedCall l r a b es w =
+    elim (recordMeasured r) [
+      | true ↦ monitorCall r (feedOf l (monitorIn r a b) es w)
+      | false ↦ unmeasured r a b w
+    ]
+
+-- ---- Offer
+
+pub record OfferCall : Type 0 where
+  pub number : ℕ
+  pub value : ℕ
+  pub area0 : List ℕ
+  pub area1 : List ℕ
+  pub work : List ℕ
+
+abbrev pub offerSaid : ℕ → ℕ → List ℕ → List ℕ → List ℕ → OfferCall
+offerSaid n v a b w = record { number = n; value = v; area0 = a; area1 = b; work = w }
+
+unfoldable pub offerNumber : Offered → ℕ
+offerNumber (offers bits) = 0
+offerNumber (operation.refused n p) = n
+
+unfoldable pub isOffered : Offered → Bool
+isOffered (offers bits) = true
+isOffered (operation.refused n p) = false
+
+-- the bits, or the refusal's place
+unfoldable pub offerValue : Offered → ℕ
+offerValue (offers bits) = bits
+offerValue (operation.refused n p) = p
+
+-- the promise of `tell_offer`
+pub record OfferTold (x : Offered) (n v : ℕ) : Type 0 where
+  pub number : n ≡ offerNumber x
+  pub value : v ≡ offerValue x
+
+unfoldable pub offering : OfferOutcome → OfferCall
+offering o =
+    record {
+      number = offerNumber (o .answer);
+      value = offerValue (o .answer);
+      area0 = o .area0;
+      area1 = o .area1;
+      work = o .work;
+    }
+
+-- number list, record, areas, work words
+unfoldable pub offerCall : List ℕ → List ℕ → List ℕ → List ℕ → List ℕ → OfferCall
+offerCall l r a b w =
+    elim (recordMeasured r) [
+      | true ↦ offering (offerOf l (monitorIn r a b) w)
+      | false ↦ record { number = 1; value = 0; area0 = a; area1 = b; work = w }
+    ]
+
+-- ---- View
+
+-- how many words the residuals' slots are, and in which area they stand
+pub record ViewCall : Type 0 where
+  pub count : ℕ
+  pub area : ℕ
+
+abbrev pub viewSaid : ℕ → ℕ → ViewCall
+viewSaid n k = record { count = n; area = k }
+
+-- "The present area is taken mod 2"; "the empty beginning of area 0", and ours: any part without words is said of area 0
+unfoldable pub areaOf : ℕ → ℕ → ℕ
+areaOf count taken = elim (eqb count 0) [ true ↦ 0 | false ↦ taken % 2 ]
+
+unfoldable pub viewing : State → List ℕ → ViewCall
+viewing s part = record { count = length part; area = areaOf (length part) (s .taken) }
+
+-- record, areas; View "never refuses", so a record that is not of four words has no words to show
+unfoldable pub viewCall : List ℕ → List ℕ → List ℕ → ViewCall
+viewCall r a b =
+    elim (recordMeasured r) [
+      | true ↦ viewing (stateIn r) (viewOf (monitorIn r a b))
+      | false ↦ record { count = 0; area = 0 }
+    ]

@@ -1,0 +1,127 @@
+-- What a call of the monitor's operations comes to, case by case. Assumes nothing.
+use Prim.Native.Nat.{ℕ, _%_}
+use mathlib.Core.Path.{_≡_, refl, ap, _∙_}
+use mathlib.Core.List.{List}
+use lib.ListN.{length}
+use borrow.Author.Tests.{eq-eqb, ne-eqb}
+use Rattle.state.specs.declared.record.State.{State as StateCode}
+use Rattle.table.specs.declared.answer.Refusal.{Refusal}
+use Rattle.state.specs.declared.answer.Answer as code
+use Rattle.state.specs.declared.answer.Answer.the-variants.{Given, Refused, Stopped}
+use Rattle.state.specs.declared.answer.Offered as offer
+use Rattle.state.specs.declared.answer.Offered.the-variants as variant
+use Rattle.monitor_spec.specs.State.{State, Outcome}
+use Rattle.monitor_spec.specs.Start.{startOf}
+use Rattle.monitor_spec.specs.Feed.{feedOf}
+use Rattle.monitor_spec.specs.Offer.{offerOf}
+use Rattle.monitor_spec.specs.View.{viewOf}
+use Rattle.state.specs.Record.{stateOf, monitorOf}
+use Rattle.state.specs.Answers.{answerOf, outcome, offeredOf, offerOutcome}
+use Rattle.words.specs.Words.{recordMeasured, stateIn, wordsOf}
+use Rattle.words.specs.Calls.{numberOf, placeOf, recordAfter, Told, said, monitorCall, monitorIn, unmeasured}
+use Rattle.words.specs.Calls.{startCall, feedCall}
+use Rattle.words.specs.Calls.{offerNumber, offerValue, OfferTold, offerSaid, offering, offerCall}
+use Rattle.words.specs.Calls.{areaOf, viewSaid, viewing, viewCall}
+
+-- ---- a record that is not of four words
+
+pub start-unmeasured : (l r a b w : List ℕ) → (length r ≡ 4 → ⊥) → said 1 0 r a b w ≡ startCall l r a b w
+unfolding startCall recordMeasured unmeasured
+start-unmeasured l r a b w h = rw (ne-eqb (length r) 4 h, startCall) refl
+
+pub feed-unmeasured : (l r a b es w : List ℕ) → (length r ≡ 4 → ⊥) → said 1 0 r a b w ≡ feedCall l r a b es w
+unfolding feedCall recordMeasured unmeasured
+feed-unmeasured l r a b es w h = rw (ne-eqb (length r) 4 h, feedCall) refl
+
+pub offer-unmeasured : (l r a b w : List ℕ) → (length r ≡ 4 → ⊥) → offerSaid 1 0 a b w ≡ offerCall l r a b w
+unfolding offerCall recordMeasured
+offer-unmeasured l r a b w h = rw (ne-eqb (length r) 4 h, offerCall) refl
+
+pub view-unmeasured : (r a b : List ℕ) → (length r ≡ 4 → ⊥) → viewSaid 0 0 ≡ viewCall r a b
+unfolding viewCall recordMeasured
+view-unmeasured r a b h = rw (ne-eqb (length r) 4 h, viewCall) refl
+
+-- ---- Start and Feed
+
+-- what `tell` promises of each answer
+pub tell-given : (x : code.Answer) (s : StateCode) (r r' : List ℕ) → x ≡ Given s → r' ≡ wordsOf (stateOf s)
+    → Told (answerOf x) r 0 0 r'
+unfolding numberOf placeOf recordAfter
+tell-given x s r r' e h = rw e (record { number = refl; place = refl; words = h })
+
+pub tell-refused : (x : code.Answer) (q : Refusal) (r : List ℕ) → x ≡ Refused q
+    → Told (answerOf x) r (q .number) (q .place) r
+unfolding numberOf placeOf recordAfter
+tell-refused x q r e = rw e (record { number = refl; place = refl; words = refl })
+
+pub tell-stopped : (x : code.Answer) (q : Refusal) (s : StateCode) (r r' : List ℕ) → x ≡ Stopped q s
+    → r' ≡ wordsOf (stateOf s) → Told (answerOf x) r (q .number) (q .place) r'
+unfolding numberOf placeOf recordAfter
+tell-stopped x q s r r' e h = rw e (record { number = refl; place = refl; words = h })
+
+module _ (x : code.Answer) (n p : ℕ) (r r' a b w : List ℕ) (t : Told (answerOf x) r n p r') where
+  told : (o : Outcome) → outcome x a b w ≡ o → said n p r' a b w ≡ monitorCall r o
+  unfolding monitorCall
+  told o e =
+      (λ i. record { number = t .number i; place = t .place i; words = t .words i; area0 = a; area1 = b; work = w })
+      ∙ ap (monitorCall r) e
+
+  pub start-told : (l a₀ b₀ w₀ : List ℕ) → length r ≡ 4 → outcome x a b w ≡ startOf l a₀ b₀ w₀
+      → said n p r' a b w ≡ startCall l r a₀ b₀ w₀
+  unfolding startCall recordMeasured
+  start-told l a₀ b₀ w₀ h e = rw (eq-eqb (length r) 4 h, startCall) (told _ e)
+
+  pub feed-told : (l a₀ b₀ es w₀ : List ℕ) (s : StateCode) → length r ≡ 4 → stateOf s ≡ stateIn r
+      → outcome x a b w ≡ feedOf l (monitorOf s a₀ b₀) es w₀ → said n p r' a b w ≡ feedCall l r a₀ b₀ es w₀
+  unfolding feedCall recordMeasured monitorIn
+  feed-told l a₀ b₀ es w₀ s h k e =
+      rw (eq-eqb (length r) 4 h, feedCall)
+      (told _ (e ∙ ap (λ (y : State). feedOf l (record { state = y; area0 = a₀; area1 = b₀ }) es w₀) k))
+
+-- ---- Offer
+
+-- what `tell_offer` promises of each answer
+pub tell-offers : (x : offer.Offered) (n : ℕ) → x ≡ variant.Offers n → OfferTold (offeredOf x) 0 n
+unfolding offerNumber offerValue
+tell-offers x n e = rw e (record { number = refl; value = refl })
+
+pub tell-declined : (x : offer.Offered) (q : Refusal) → x ≡ variant.Refused q
+    → OfferTold (offeredOf x) (q .number) (q .place)
+unfolding offerNumber offerValue
+tell-declined x q e = rw e (record { number = refl; value = refl })
+
+pub offer-told : (x : offer.Offered) (n v : ℕ) (l r a b w w₀ : List ℕ) (s : StateCode)
+    → OfferTold (offeredOf x) n v → length r ≡ 4 → stateOf s ≡ stateIn r
+    → offerOutcome x a b w ≡ offerOf l (monitorOf s a b) w₀ → offerSaid n v a b w ≡ offerCall l r a b w₀
+unfolding offerCall offering recordMeasured monitorIn
+offer-told x n v l r a b w w₀ s t h k e =
+    rw (eq-eqb (length r) 4 h, offerCall)
+    ((λ i. record { number = t .number i; value = t .value i; area0 = a; area1 = b; work = w })
+    ∙ ap offering (e ∙ ap (λ (y : State). offerOf l (record { state = y; area0 = a; area1 = b }) w₀) k))
+
+-- ---- View
+
+area-none : (n t : ℕ) → n ≡ 0 → 0 ≡ areaOf n t
+unfolding areaOf
+area-none n t h = rw (eq-eqb n 0 h, areaOf)
+
+pub area-some : (n t : ℕ) → (n ≡ 0 → ⊥) → t % 2 ≡ areaOf n t
+unfolding areaOf
+area-some n t h = rw (ne-eqb n 0 h, areaOf)
+
+module _ (s : StateCode) (r a b part : List ℕ) (h : length r ≡ 4) (k : stateOf s ≡ stateIn r)
+    (e : part ≡ viewOf (monitorOf s a b)) where
+  view-measured : (n : ℕ) → n ≡ areaOf (length part) (s .taken) → viewSaid (length part) n ≡ viewCall r a b
+  unfolding viewCall viewing recordMeasured monitorIn
+  view-measured n q =
+      rw (eq-eqb (length r) 4 h, viewCall)
+      ((λ i. record { count = length part; area = q i })
+      ∙ ap (viewing (stateOf s)) e
+      ∙ ap (λ (y : State). viewing y (viewOf (record { state = y; area0 = a; area1 = b }))) k)
+
+  -- the empty part
+  pub view-none : length part ≡ 0 → viewSaid (length part) 0 ≡ viewCall r a b
+  view-none z = view-measured 0 (area-none (length part) (s .taken) z)
+
+  pub view-some : (length part ≡ 0 → ⊥) → viewSaid (length part) (s .taken % 2) ≡ viewCall r a b
+  view-some z = view-measured (s .taken % 2) (area-some (length part) (s .taken) z)

@@ -1,0 +1,49 @@
+-- What is proved of the definitions that the contracts of the functions for C cite: statements only. The proofs are in
+-- `proofs/Theorems.antt`, under the same names.
+--     RecordReadsBack    a record's words are read as that record
+--     ZeroExactly        the number returned is 0 exactly where the operation refused nothing
+--     ViewShows          the words that `cspe_view` tells are the part that View hands back
+--     Rows               worked calls on table B
+-- Assumes nothing.
+use Prim.Native.Nat.{ℕ}
+use mathlib.Core.Path.{_≡_}
+use mathlib.Core.Bool.{true, _&&_}
+use mathlib.Core.List.{List}
+use lib.ListN.{take}
+use lib.Dec.{eqb}
+use Rattle.numbers.specs.Number.{Bytes}
+use Rattle.table.specs.Operations.{readOf, writeOf}
+use Rattle.monitor_spec.specs.State.{State, choose}
+use Rattle.monitor_spec.specs.Start.{startOf}
+use Rattle.monitor_spec.specs.Feed.{feedOf}
+use Rattle.monitor_spec.specs.Offer.{offerOf}
+use Rattle.monitor_spec.specs.View.{viewOf}
+use Rattle.words.specs.Words.{recordMeasured, stateIn, wordsOf}
+use Rattle.words.specs.Tables.{isDone, readCall, writeCall}
+use Rattle.words.specs.Calls.{isGiven, isOffered, monitorIn, startCall, feedCall, offerCall, viewCall}
+use Rattle.words.specs.Examples.{RowsHold}
+
+unfoldable pub RecordReadsBack : Type 0
+RecordReadsBack = (s : State) → stateIn (wordsOf s) ≡ s
+
+-- a record that is not of four words is a refusal too
+pub record ZeroExactly : Type 0 where
+  pub read : (s out w : List ℕ) → Bytes s → eqb (readCall s out w .number) 0 ≡ isDone (readOf s out w .answer)
+  pub write : (l out w : List ℕ) → eqb (writeCall l out w .number) 0 ≡ isDone (writeOf l out w .answer)
+  pub start : (l r a b w : List ℕ)
+      → eqb (startCall l r a b w .number) 0 ≡ (recordMeasured r && isGiven (startOf l a b w .answer))
+  pub feed : (l r a b es w : List ℕ)
+      → eqb (feedCall l r a b es w .number) 0
+      ≡ (recordMeasured r && isGiven (feedOf l (monitorIn r a b) es w .answer))
+  pub offer : (l r a b w : List ℕ)
+      → eqb (offerCall l r a b w .number) 0
+      ≡ (recordMeasured r && isOffered (offerOf l (monitorIn r a b) w .answer))
+
+-- of the area that is told, from its beginning
+unfoldable pub ViewShows : Type 0
+ViewShows =
+    (r a b : List ℕ) → recordMeasured r ≡ true
+    → take (viewCall r a b .count) (choose (eqb (viewCall r a b .area) 0) a b) ≡ viewOf (monitorIn r a b)
+
+unfoldable pub Rows : Type 0
+Rows = RowsHold

@@ -1,0 +1,69 @@
+-- Calls on table B of 01 as C makes them, with two slots, as computed rows.
+--     started, fed       the words that a Start leaves; a Feed on them
+--     RowsHold           what is returned and left
+-- Assumes nothing.
+use Prim.Native.Nat.{ℕ}
+use mathlib.Core.Path.{_≡_}
+use mathlib.Core.List.{List, [], _∷_, _++_}
+use Rattle.table.specs.Operations.{zeros}
+use Rattle.monitor_spec.specs.State.{running, failedAt}
+use Rattle.words.specs.Words.{stateIn}
+use Rattle.words.specs.Tables.{said, readCall, writeCall}
+use Rattle.words.specs.Calls.{MonitorCall, OfferCall, ViewCall, startCall, feedCall, offerCall, viewCall}
+use Rattle.words.specs.Calls as calls
+
+-- 01, "Table B": its numbers are its bytes
+abbrev pub tableB : List ℕ
+tableB = 3 ∷ 2 ∷ 0 ∷ 1 ∷ 0 ∷ 0 ∷ 1 ∷ 1 ∷ 1 ∷ 0 ∷ 2 ∷ 0 ∷ 2 ∷ 1 ∷ 5 ∷ 0 ∷ []
+
+-- a record's words
+abbrev pub four : ℕ → ℕ → ℕ → ℕ → List ℕ
+four taken count failed place = taken ∷ count ∷ failed ∷ place ∷ []
+
+-- two slots: a residual of one node, and none
+abbrev pub slot : ℕ → List ℕ
+slot term = 1 ∷ term ∷ zeros 30
+
+unfoldable pub started : MonitorCall
+started = startCall tableB (zeros 4) (zeros 32) (zeros 32) (zeros 8192)
+
+unfoldable pub fed : List ℕ → MonitorCall
+fed es = feedCall tableB (started .words) (started .area0) (started .area1) es (zeros 8192)
+
+unfoldable pub offered : MonitorCall → OfferCall
+offered m = offerCall tableB (m .words) (m .area0) (m .area1) (zeros 8192)
+
+unfoldable pub viewed : MonitorCall → ViewCall
+viewed m = viewCall (m .words) (m .area0) (m .area1)
+
+abbrev left : ℕ → ℕ → List ℕ → List ℕ → List ℕ → MonitorCall
+left n p r a b = calls.said n p r a b (zeros 8192)
+
+unfoldable pub RowsHold : Type 0
+RowsHold =
+    -- Read and Write: the count; "cut short" at the input's length; a short output
+    (readCall tableB (zeros 16384) (zeros 8192) ≡ said 0 16 (tableB ++ zeros 16368) (zeros 8192))
+    × (readCall (3 ∷ 2 ∷ []) (zeros 16384) (zeros 8192) ≡ said 3 2 (zeros 16384) (zeros 8192))
+    × (writeCall tableB (zeros 17) (zeros 8192) ≡ said 0 16 (tableB ++ 0 ∷ []) (zeros 8192))
+    × (writeCall tableB (zeros 15) (zeros 8192) ≡ said 1 0 (zeros 15) (zeros 8192))
+    -- Start, and Feed on K3, K1, and on an event that is A
+    × (started ≡ left 0 0 (four 0 1 0 0) (slot 0) (zeros 32))
+    × (fed (0 ∷ 1 ∷ 0 ∷ []) ≡ left 0 0 (four 3 1 0 0) (zeros 32) (slot 16777216))
+    × (fed (0 ∷ 0 ∷ []) ≡ left 0 0 (four 2 0 1 2) (zeros 32) (zeros 32))
+    × (fed (0 ∷ 3 ∷ 1 ∷ []) ≡ left 11 1 (four 1 1 0 0) (zeros 32) (slot 16777216))
+    -- a record of three words, of five; one that the areas do not agree with
+    × (startCall tableB (zeros 3) (zeros 32) (zeros 32) (zeros 9)
+    ≡ calls.said 1 0 (zeros 3) (zeros 32) (zeros 32) (zeros 9))
+    × (feedCall tableB (zeros 5) (zeros 32) (zeros 32) [] (zeros 8192) ≡ left 1 0 (zeros 5) (zeros 32) (zeros 32))
+    × (feedCall tableB (four 0 1 0 0) (zeros 32) (zeros 32) [] (zeros 8192)
+    ≡ left 10 0 (four 0 1 0 0) (zeros 32) (zeros 32))
+    -- Offer and View after 0, after 0 and 1, after failure
+    × (offered (fed (0 ∷ [])) .value ≡ 2)
+    × (offered (fed (0 ∷ 1 ∷ [])) .value ≡ 1)
+    × (offered (fed (0 ∷ 0 ∷ [])) .value ≡ 0)
+    × (viewed (fed (0 ∷ [])) ≡ calls.viewSaid 16 1)
+    × (viewed (fed (0 ∷ 1 ∷ [])) ≡ calls.viewSaid 16 0)
+    × (viewed (fed (0 ∷ 0 ∷ [])) ≡ calls.viewSaid 0 0)
+    -- a word above 1 is read as failed; the place of a running record is not read
+    × (stateIn (four 5 0 7 2) ≡ record { taken = 5; count = 0; verdict = failedAt 2 })
+    × (stateIn (four 5 1 0 9) ≡ record { taken = 5; count = 1; verdict = running })

@@ -1,0 +1,50 @@
+// Answers of Start, Feed and Offer in words. The definitions are in `specs/Calls.antt`.
+ghost use mathlib.Core.Path.{_≡_};
+ghost use lib.ListN.{length};
+ghost use Rattle.state.specs.Answers.{answerOf, offeredOf};
+ghost use Rattle.words.specs.Calls.{Told, OfferTold};
+use crate::record::store;
+use state::Answer;
+use state::Offered;
+
+// Of Start and Feed. The number to return; the place goes into place, and the record, if there is one,
+// into record.
+pub fn tell(answer: Answer, record: &mut [u64], place: &mut u64) -> u32
+    requires { ⌜ length (now «record») ≡ 4 ⌝ }
+    ensures { λ r.
+        ⌜ Told (answerOf answer) (now («record» .entry)) r (now (place .exit))
+        (now («record» .exit)) ⌝ }
+{
+    match answer {
+        Answer::Given(state) => {
+            store(record, state);
+            *place = 0;
+            0
+        }
+        Answer::Refused(refusal) => {
+            *place = refusal.place as u64;
+            refusal.number as u32
+        }
+        Answer::Stopped(why, state) => {
+            store(record, state);
+            *place = why.place as u64;
+            why.number as u32
+        }
+    }
+}
+
+// Of Offer. The number to return; the bits or the place go into value.
+pub fn tell_offer(answer: Offered, value: &mut u64) -> u32
+    ensures { λ r. ⌜ OfferTold (offeredOf answer) r (now (value .exit)) ⌝ }
+{
+    match answer {
+        Offered::Offers(bits) => {
+            *value = bits;
+            0
+        }
+        Offered::Refused(r) => {
+            *value = r.place as u64;
+            r.number as u32
+        }
+    }
+}

@@ -1,0 +1,14 @@
+// What the functions for C take and give (crate `monitor_c`) in lent words: the record, and the answers
+// of Read, Write, Start, Feed and Offer. What a call returns and leaves is defined in `specs/`;
+// `specs/Lib.antt` lists the definitions in reading order.
+//     load, store                       a record from four words, and into them
+//     tell, tell_offer, tell_table      an answer as a number with a place or a value
+mod answers;
+mod record;
+mod tables;
+
+pub use answers::tell;
+pub use answers::tell_offer;
+pub use record::load;
+pub use record::store;
+pub use tables::tell_table;
