@@ -6,11 +6,12 @@
  *
  * What is lent. Every buffer is the caller's, and is lent for one call: a pointer, and after it how many elements it
  * points to. A pointer is aligned for its type and is never NULL, also where its length is 0. A buffer that a call may
- * write (its pointer is not const) overlaps no other buffer of that call. The library allocates nothing and keeps
- * nothing between calls, so calls on different buffers may run at the same time.
+ * write (its pointer is not const) overlaps no other buffer of that call, and the word behind the last pointer lies in
+ * none of them. The library allocates nothing and keeps nothing between calls, so calls on different buffers may run
+ * at the same time.
  *
- * Stack. A call takes up to 60 KiB where a table's ways through choices and calls are short, and more where they are
- * long: 425 KiB is the most that was measured (tools/stack). No proof bounds it; a thread with 512 KiB has room.
+ * Stack. Where a table's ways through choices and calls are short, 44 KiB were measured, and up to 425 KiB where they
+ * are as long as can be (tools/stack). No proof bounds it; a thread with 512 KiB has room.
  *
  * What is returned. Each function but cspe_view returns the refusal's number, 0 where there is none (enum
  * cspe_refusal). One more word is written through the last pointer on every call: the result, the

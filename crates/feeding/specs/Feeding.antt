@@ -25,11 +25,11 @@ use Rattle.feeding.specs.declared.event.Taken.the-variants.{Went, Stoppe
 use Rattle.state.specs.declared.answer.Answer.{Answer}
 use Rattle.state.specs.Record.{monitorOf}
 use Rattle.state.specs.Answers.{outcome}
-use Rattle.stepping.specs.Holds.{Holds, heldIn}
+use Rattle.stepping.specs.Holds.{AreaHolds, heldIn}
 
 -- area p holds the slots of c proper residuals and then zeros, area o zeros
 pub record Holding (t : Table) (p o : List ℕ) (c : ℕ) : Type 0 where
-  pub held : Holds t p c
+  pub held : AreaHolds t p c
   pub other : o ≡ fill (held .slots) []
 
 -- there are residuals of which record and areas are laid out
@@ -42,7 +42,7 @@ unfoldable pub nextOf : Table → ℕ → List ℕ → ℕ → List (List ℕ)
 nextOf t e p c = slotsOf (afterAll t e (heldIn t p c))
 
 -- the next slots have room: areas that were asked for
-pub record Filled (n : ℕ) (next : List (List ℕ)) (a⁺ b⁺ : List ℕ) (c : ℕ) (a' b' : List ℕ) : Type 0 where
+pub record AreasFilled (n : ℕ) (next : List (List ℕ)) (a⁺ b⁺ : List ℕ) (c : ℕ) (a' b' : List ℕ) : Type 0 where
   pub count : c ≡ length next
   pub room : length next ≤ n
   pub first : a' ≡ a⁺
@@ -56,7 +56,7 @@ pub record Kept (n : ℕ) (next : List (List ℕ)) (a b a' b' : List ℕ) : Type
 
 -- of areas a and b with n slots: they become a⁺ and b⁺, or are kept
 abbrev pub Stepped : ℕ → List (List ℕ) → List ℕ → List ℕ → List ℕ → List ℕ → Held → List ℕ → List ℕ → Type 0
-Stepped n next a b a⁺ b⁺ (Count c) a' b' = Filled n next a⁺ b⁺ c a' b'
+Stepped n next a b a⁺ b⁺ (Count c) a' b' = AreasFilled n next a⁺ b⁺ c a' b'
 Stepped n next a b a⁺ b⁺ Exceeded a' b' = Kept n next a b a' b'
 
 -- "each event fills the other and zeroes the first": of area p with c residuals and area o

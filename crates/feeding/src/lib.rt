@@ -1,5 +1,5 @@
-// Feed (document 01, "Operations"), proved equal to its definition in crate monitor_spec: one event,
-// and all of a call.
+// Feed (document 01, "Operations"), proved equal to its definition in crate monitor_spec: one
+// event, and all of a call.
 mod event;
 mod feeder;
 

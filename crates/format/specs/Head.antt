@@ -1,5 +1,5 @@
--- What the functions on an input's head promise (01, "The program and its lines": "a number, that many table bytes, then
--- events").
+-- What the functions on an input's head promise (01, "The program and its lines": "a number, that many table bytes,
+-- then events").
 --     PartsAt, HeadIs          the parts of an input by their places; an answer that says what a head is
 --     HeadSaid, CutSaid        the promises of `head` and `cut`
 -- The laws are in `Head/Laws.antt`. Assumes nothing.

@@ -6,7 +6,7 @@ ghost use Rattle.format.specs.Text.{spelled, textOf};
 ghost use Rattle.format.specs.Bytes.{Room, Shows, Added, AddedNumber};
 use crate::answer::Line;
 
-// The first `count` bytes are a text.
+// The first `count` bytes are a text; nothing is said of those after them.
 pub struct Text {
     pub bytes: [u8; 50],
     pub count: usize,

@@ -2,7 +2,7 @@
 -- accessor of `index` answers.
 --     indexed-rules                             the rules
 --     terms-few, definitions-few                what keeps the words inside the work area
---     alphabet-is, definitions-are, terms-are, body-is, level-is       of the table and its definitions
+--     alphabet-is, definitions-are, terms-are, body-is                 of the table and its definitions
 --     kind-is, right-is, called-is, parameter-is, enclosing-is         of a term, by the digits of its word
 --     branches-is, reach-is                                            of a term, by its own words
 --     fixed-holds, family-holds                 the word of the row that a prefix or a parallel reads
@@ -18,7 +18,6 @@ use Rattle.table.specs.Table.{SetRef, fixed, family, Term, stop, fail, prefix, 
 use Rattle.table.specs.Table.{Definition, Table, termCount, bodyNumber, enclosing}
 use Rattle.table.specs.Context.{Each}
 use Rattle.table.specs.Fields.{Fields, OfRef, RefExists, ParamSmall}
-use Rattle.table.specs.References.{levelIn}
 use Rattle.table.specs.References.Nodes.{node-links}
 use Rattle.table.specs.Width.{reach}
 use Rattle.table.specs.Branches.{branches, bodyIn}
@@ -141,9 +140,6 @@ module _ {l w : List ℕ} (x : Indexed l w) where
     body-is =
         let e = x .structure .roots d (omega arith) in
         (e, rw e (body-below (tableIn l) (indexed-rules x .fields) d h))
-
-    pub level-is : getD w (7265 + d) 0 ≡ levelIn (tableIn l .definitions) d
-    level-is = x .structure .levels d h
 
   module _ (n : ℕ) (h : n < termCount (tableIn l)) where
     pub kind-is : (getD w (4096 + n) 0 % 8 ≡ kindOf (termOf (tableIn l) n)) × (getD w (4096 + n) 0 % 8 ≤ 5)

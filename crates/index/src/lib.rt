@@ -1,12 +1,12 @@
-// The index of an accepted table: what the monitor asks of it. Each function needs the list whose table was
-// judged and the work area in which `check` left its index; it says what the abstract table of the list has.
+// The index of an accepted table: what the monitor asks of it. Each function needs the list whose
+// table was judged and the work area in which `check` left its index; it says what the abstract
+// table of the list has.
 ghost use mathlib.Core.Path.{_≡_};
 ghost use mathlib.Core.Logic.{_⊎_};
 ghost use Prim.Native.Nat.{ℕ, _+_, _/_, _%_, _^_, _<_, _≤_};
 ghost use lib.Dec.{eqb};
 ghost use lib.ListN.{length};
 ghost use Rattle.table.specs.Table.{termCount, bodyNumber, enclosing as enclosingOf};
-ghost use Rattle.table.specs.References.{levelIn};
 ghost use Rattle.table.specs.Width.{reach as reachOf};
 ghost use Rattle.table.specs.Branches.{branches as branchesOf};
 ghost use Rattle.table.specs.Branches.Capped.{capped};
@@ -25,7 +25,8 @@ pub fn alphabet(list: &[u16], work: &[u64]) -> u64
 // The number of definitions.
 pub fn definition_count(list: &[u16], work: &[u64]) -> usize
     requires { ⌜ Indexed (now list) (now work) ⌝ }
-    ensures { λ r. ⌜ (r ≡ length (tableIn (now (list .entry)) .definitions)) × (1 ≤ r) × (r ≤ 32) ⌝ }
+    ensures { λ r.
+        ⌜ (r ≡ length (tableIn (now (list .entry)) .definitions)) × (1 ≤ r) × (r ≤ 32) ⌝ }
 {
     work[7306] as usize
 }
@@ -47,15 +48,6 @@ pub fn body(list: &[u16], work: &[u64], d: usize) -> usize
     work[7232 + d] as usize
 }
 
-// The level of definition d.
-pub fn level(list: &[u16], work: &[u64], d: usize) -> u64
-    requires { ⌜ Indexed (now list) (now work) ⌝ }
-    requires { ⌜ d < length (tableIn (now list) .definitions) ⌝ }
-    ensures { λ r. ⌜ r ≡ levelIn (tableIn (now (list .entry)) .definitions) d ⌝ }
-{
-    work[7265 + d]
-}
-
 // The kind of term n: 0 STOP, 1 FAIL, 2 prefix, 3 choice, 4 parallel, 5 call.
 pub fn kind(list: &[u16], work: &[u64], n: usize) -> u64
     requires { ⌜ Indexed (now list) (now work) ⌝ }
@@ -65,11 +57,13 @@ pub fn kind(list: &[u16], work: &[u64], n: usize) -> u64
     work[4096 + n] % 8
 }
 
-// The number of a choice's or a parallel's right side; a prefix's follower and a left side have the number n + 1.
+// The number of a choice's or a parallel's right side; a prefix's follower and a left side have the
+// number n + 1.
 pub fn right(list: &[u16], work: &[u64], n: usize) -> usize
     requires { ⌜ Indexed (now list) (now work) ⌝ }
     requires { ⌜ n < termCount (tableIn (now list)) ⌝ }
-    ensures { λ r. ⌜ (r ≡ n + 1 + leftSize (termOf (tableIn (now (list .entry))) n)) × (r ≤ 1024) ⌝ }
+    ensures { λ r.
+        ⌜ (r ≡ n + 1 + leftSize (termOf (tableIn (now (list .entry))) n)) × (r ≤ 1024) ⌝ }
 {
     (work[4096 + n] / 524288 % 2048) as usize
 }
@@ -90,7 +84,8 @@ pub fn called(list: &[u16], work: &[u64], n: usize) -> usize
 pub fn parameter(list: &[u16], work: &[u64], n: usize) -> u64
     requires { ⌜ Indexed (now list) (now work) ⌝ }
     requires { ⌜ n < termCount (tableIn (now list)) ⌝ }
-    ensures { λ r. ⌜ (r ≡ parameterOf (refOf (termOf (tableIn (now (list .entry))) n))) × (r ≤ 4) ⌝ }
+    ensures { λ r.
+        ⌜ (r ≡ parameterOf (refOf (termOf (tableIn (now (list .entry))) n))) × (r ≤ 4) ⌝ }
 {
     work[4096 + n] / 8 % 8
 }
@@ -109,7 +104,8 @@ pub fn branches(list: &[u16], work: &[u64], n: usize) -> u64
     requires { ⌜ Indexed (now list) (now work) ⌝ }
     requires { ⌜ n < termCount (tableIn (now list)) ⌝ }
     ensures { λ r.
-        ⌜ (r ≡ capped (branchesOf (tableIn (now (list .entry))) (termOf (tableIn (now (list .entry))) n)))
+        ⌜ (r ≡ capped (branchesOf (tableIn (now (list .entry)))
+        (termOf (tableIn (now (list .entry))) n)))
         × (r ≤ 257) ⌝ }
 {
     work[6144 + n]
@@ -119,7 +115,9 @@ pub fn branches(list: &[u16], work: &[u64], n: usize) -> u64
 pub fn reach(list: &[u16], work: &[u64], n: usize) -> u64
     requires { ⌜ Indexed (now list) (now work) ⌝ }
     requires { ⌜ n < termCount (tableIn (now list)) ⌝ }
-    ensures { λ r. ⌜ (r ≡ reachOf (tableIn (now (list .entry))) (termOf (tableIn (now (list .entry))) n)) × (r ≤ 8) ⌝ }
+    ensures { λ r.
+        ⌜ (r ≡ reachOf (tableIn (now (list .entry))) (termOf (tableIn (now (list .entry))) n))
+        × (r ≤ 8) ⌝ }
 {
     work[5120 + n]
 }
@@ -136,9 +134,12 @@ fn bit(mask: u64, e: u64) -> bool
 pub fn holds(list: &[u16], work: &[u64], n: usize, v: u64, e: u64) -> bool
     requires { ⌜ Indexed (now list) (now work) ⌝ }
     requires { ⌜ n < termCount (tableIn (now list)) ⌝ }
-    requires { ⌜ (kindOf (termOf (tableIn (now list)) n) ≡ 2) ⊎ (kindOf (termOf (tableIn (now list)) n) ≡ 4) ⌝ }
+    requires { ⌜ (kindOf (termOf (tableIn (now list)) n) ≡ 2)
+        ⊎ (kindOf (termOf (tableIn (now list)) n) ≡ 4) ⌝ }
     requires { ⌜ (v < tableIn (now list) .alphabet) × (e < 64) ⌝ }
-    ensures { λ r. ⌜ r ≡ inRow (tableIn (now (list .entry))) (refOf (termOf (tableIn (now (list .entry))) n)) v e ⌝ }
+    ensures { λ r.
+        ⌜ r ≡ inRow (tableIn (now (list .entry))) (refOf (termOf (tableIn (now (list .entry))) n)) v
+        e ⌝ }
 {
     let w = work[4096 + n];
     let row = (w / 1073741824) as usize;

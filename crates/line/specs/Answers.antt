@@ -3,8 +3,8 @@
 --     courseSaid               a monitor that goes on, on a number list with both areas, or a line that stands
 --     openSaid, resumeSaid, wholeSaid    an answer of `open`, `resume`, `line` with every lent word
 --     AfterPiece               the promise of `after_piece`
--- A head and a line are said in crate `format`. The laws are in `Answers/`: `Laws`; by the ways out of the code, `Opening` and `Whole`.
--- Assumes nothing.
+-- A head and a line are said in crate `format`. The laws are in `Answers/`: `Laws`; by the ways out of the code,
+-- `Opening` and `Whole`. Assumes nothing.
 use Prim.Native.Nat.{ℕ}
 use mathlib.Core.Path.{_≡_}
 use mathlib.Core.Bool.{Bool}

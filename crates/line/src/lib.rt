@@ -1,5 +1,6 @@
 // What the program says of an input (document 01, "The program and its lines"), on a whole input or
-// piece by piece. The definitions are in crate `line_spec`; `specs/Answers.antt` says what the answers are.
+// piece by piece. The definitions are in crate `line_spec`; `specs/Answers.antt` says what the
+// answers are.
 //     line                    a whole input
 //     open, resume, conclude  its front, each piece after it, its end
 //     after_piece             a course where the input ended, or did not

@@ -4,8 +4,8 @@
 use libc::STDIN_FILENO;
 ghost use Rattle.io.specs.Counts.{Counts};
 
-// How many bytes stand at the buffer's start; or that a read failed. They are fewer than it holds only
-// where the input ended, which no contract can say.
+// How many bytes stand at the buffer's start; or that a read failed. They are fewer than it holds
+// only where the input ended, which no contract can say.
 pub struct Filled {
     pub count: usize,
     pub broken: bool,

@@ -40,8 +40,8 @@ fn turn(
     after(course, n < piece.len())
 }
 
-// Prints the line. No run leaves a monitor that goes on: the events taken are counted in 64 bits, and
-// refusal 12 comes before the turns are used up.
+// Prints the line. No run leaves a monitor that goes on: the events taken are counted in 64 bits,
+// and refusal 12 comes before the turns are used up.
 fn finish(turn: Progress) {
     match turn {
         Progress::Going(state) => say(line::conclude(state)),

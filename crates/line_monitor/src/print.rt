@@ -1,4 +1,4 @@
-// The line, on standard output. Its bytes are those of crate `text`.
+// The line, on standard output. Its bytes are those of crate `format`.
 use format::Line;
 use libc::STDOUT_FILENO;
 

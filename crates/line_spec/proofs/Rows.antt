@@ -23,7 +23,7 @@ use Rattle.meaning.specs.Figure1.{bodyCount}
 use Rattle.monitor_spec.specs.Residual.{pairs, resolveIn, resolveDef, resolve, afterLeaf, afterPair, after, afterAll}
 use Rattle.monitor_spec.specs.Residual.{run}
 use Rattle.monitor_spec.specs.Residual.{fromDefinition, residualsOf}
-use Rattle.monitor_spec.specs.Slots.{pack, termOf, memoryOf, nodes, slotOf, compareWords, insertSorted, canon, slotsOf}
+use Rattle.monitor_spec.specs.Slots.{pack, termOfWord, memoryOf, nodes, slotOf, compareWords, insertSorted, canon, slotsOf}
 use Rattle.monitor_spec.specs.Valid.{joinTrees, plant, plantWord, forest, oneTree, slotResidual, held, digitFits}
 use Rattle.monitor_spec.specs.Valid.{memoryFits, memoriesFit, reachAt, reachSum, validSlot}
 use Rattle.monitor_spec.specs.State.{areasMeasured, workMeasured, slotCount, even, choose, chunks, fill}
@@ -33,7 +33,8 @@ use Rattle.monitor_spec.specs.Fold.{through}
 use Rattle.monitor_spec.specs.Feed.{presentSlots, nextSlots, nextVerdict, taking, takeEvent, endingOf, refusing}
 use Rattle.monitor_spec.specs.Feed.{feedAccepted, feedJudged, feedOf}
 use Rattle.monitor_spec.specs.Start.{startAccepted, startJudged, startOf}
-use Rattle.line_spec.specs.Line.{cut, headBy, headOf, verdictLine, stateLine, answerLine, fresh, monitorLeft, startedBy}
+use Rattle.line_spec.specs.Line.{cut, headBy, headOf, verdictLine, stateLine, answerLine, fresh, monitorLeft}
+use Rattle.line_spec.specs.Line.{startedBy}
 use Rattle.line_spec.specs.Line.{startedLine, readLine, headLine, lineOf}
 use Rattle.line_spec.specs.Claims.{exceeding, Rows}
 
@@ -47,7 +48,7 @@ unfolding flatMap size sizes bodyOf bodyNumber termIn termOfDefs termAt prefixes
     branchesWith branchesAt bodyIn nextBranches allBranches followerAbove bodyAbove tooManyBranches
     unlessMet placed judgeRead judge sized judgeList digit remember elem rowIn rowOf inRow recalled member bodyCount
     pairs resolveIn resolveDef resolve afterLeaf afterPair after afterAll run fromDefinition residualsOf
-    pack termOf memoryOf nodes slotOf compareWords insertSorted canon slotsOf
+    pack termOfWord memoryOf nodes slotOf compareWords insertSorted canon slotsOf
     joinTrees plant plantWord forest oneTree slotResidual held digitFits memoryFits memoriesFit reachAt reachSum
     validSlot
     areasMeasured workMeasured slotCount even choose chunks flatten fill

@@ -5,6 +5,10 @@ use Rattle.line_spec.specs.Opening.Front.{open-ways, open-course, open-b
 use Rattle.line_spec.specs.Lent.Laws.{fed-work, pieces-lent, whole-line}
 use Rattle.line_spec.specs.Lent.Ends.{ends-pieces}
 use Rattle.line_spec.specs.Claims.{LineIsLent, PiecesAreLent, OpenLeaves, OpenIsFront, OpenStarts, PiecesAreWhole}
+use Rattle.line_spec.specs.Claims.{ResumeLeaves, LineLeaves}
+use Rattle.line_spec.specs.Opening.{openOf}
+use Rattle.line_spec.specs.Whole.{resumedBy, resumeOf, finished, wholeBy, wholeAfter, wholeOf}
+use mathlib.Core.Path.{refl, ap}
 use Rattle.line_spec.specs.Claims.{PieceAnyWork, EndsArePieces, Rows}
 
 pub line-is-lent : LineIsLent
@@ -22,6 +26,18 @@ ends-are-pieces = ends-pieces
 pub open-leaves : OpenLeaves
 unfolding OpenLeaves
 open-leaves = open-ways
+
+pub resume-leaves : ResumeLeaves
+unfolding ResumeLeaves resumeOf resumedBy
+resume-leaves l m es w = refl
+
+pub line-leaves : LineLeaves
+unfolding wholeOf wholeAfter wholeBy finished resumeOf resumedBy
+line-leaves =
+    record {
+      refusing = λ s l a b w n p e. ap (wholeBy s (openOf s l a b w)) e;
+      taking = λ s l a b w st count next e. ap (wholeBy s (openOf s l a b w)) e;
+    }
 
 pub open-is-front : OpenIsFront
 unfolding OpenIsFront

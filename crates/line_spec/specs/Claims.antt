@@ -4,6 +4,8 @@
 --     PiecesAreLent     so is what `open`, `resume` on piece after piece, and `conclude` say
 --     EndsArePieces     the same where `after_piece` is asked of each piece, as the program does
 --     OpenLeaves        what `open` leaves, by its ways
+--     ResumeLeaves      what `resume` leaves is what Feed leaves
+--     LineLeaves        what `line` leaves, by what `open` answers
 --     OpenIsFront       it is the front of the input
 --     OpenStarts        its record stands on the list and before the events, with a work area of zeros
 --     PiecesAreWhole    an input in pieces gives the line of the whole
@@ -15,15 +17,15 @@ use mathlib.Core.Path.{_≡_}
 use mathlib.Core.Bool.{true}
 use mathlib.Core.Logic.{_⊎_}
 use mathlib.Core.List.{List, [], _∷_, _++_, flatten}
-use lib.ListN.{length}
+use lib.ListN.{length, take, drop}
 use Rattle.monitor_spec.specs.State.{State, Monitor}
 use Rattle.monitor_spec.specs.Feed.{feedOf}
 use Rattle.table.specs.Table.{fixed, Term, stop, prefix, choice, par, one}
 use Rattle.table.specs.Writing.{numbersOf}
-use Rattle.line_spec.specs.Line.{Line, runs, fails, refused, lineOf}
-use Rattle.line_spec.specs.Pieces.{going, over, fed, pieceOf, frontOf, piecesOf}
-use Rattle.line_spec.specs.Opening.{lent, started, openOf, openCourse, OpenWay, Began}
-use Rattle.line_spec.specs.Whole.{wholeOf}
+use Rattle.line_spec.specs.Line.{runs, fails, refused, lineOf}
+use Rattle.line_spec.specs.Pieces.{going, over, fed, concludeOf, pieceOf, frontOf, piecesOf}
+use Rattle.line_spec.specs.Opening.{lent, started, refuses, openOf, openCourse, OpenWay, Began}
+use Rattle.line_spec.specs.Whole.{resumeOf, wholeOf}
 use Rattle.line_spec.specs.Lent.{lentLine, lentPieces, lentEnds}
 
 -- 01, "The program and its lines", whatever stood in the lent buffers
@@ -44,6 +46,33 @@ EndsArePieces =
 
 unfoldable pub OpenLeaves : Type 0
 OpenLeaves = (s l a b w : List ℕ) → OpenWay s l a b w (openOf s l a b w)
+
+-- its answer as a course, and every lent word as Feed left it
+unfoldable pub ResumeLeaves : Type 0
+ResumeLeaves =
+    (l : List ℕ) (m : Monitor) (es w : List ℕ)
+    → let f = feedOf l m es w in
+    resumeOf l m es w ≡ record { course = fed l f; area0 = f .area0; area1 = f .area1; work = f .work }
+
+-- what `open` left, where it refuses; else the list as it left it, and the areas and work words as Feed on the table's
+-- numbers and the events leaves them
+pub record LineLeaves : Type 0 where
+  pub refusing : (s l a b w : List ℕ) (n p : ℕ) → openOf s l a b w .answer ≡ refuses n p
+      → let o = openOf s l a b w in
+      wholeOf s l a b w
+      ≡ record { line = refused n p; list = o .list; area0 = o .area0; area1 = o .area1; work = o .work }
+  pub taking : (s l a b w : List ℕ) (st : State) (count next : ℕ) → openOf s l a b w .answer ≡ started st count next
+      → let o = openOf s l a b w in
+      let m : Monitor = record { state = st; area0 = o .area0; area1 = o .area1 } in
+      let f = feedOf (take count (o .list)) m (drop next s) (o .work) in
+      wholeOf s l a b w
+      ≡ record {
+        line = concludeOf (fed (take count (o .list)) f);
+        list = o .list;
+        area0 = f .area0;
+        area1 = f .area1;
+        work = f .work;
+      }
 
 -- a fresh monitor on the list that was read, with the areas as they stand, or a refusal
 unfoldable pub OpenIsFront : Type 0
@@ -93,8 +122,8 @@ exceeding =
     })
 
 -- "The whole input `10`, table B, `00 01 00` prints `running 3 1`."; a place and the number taken; 11; 13 with 256
--- slots; the length number cut short, loose, over 16,384; no table; the table cut short, by Read; an alphabet of 65; the
--- table cut short "before Read", whatever it has
+-- slots; the length number cut short, loose, over 16,384; no table; the table cut short, by Read; an alphabet of 65;
+-- the table cut short "before Read", whatever it has
 unfoldable pub Rows : Type 0
 Rows =
     (lineOf (16 ∷ tableB ++ (0 ∷ 1 ∷ 0 ∷ [])) ≡ runs 3 1)

@@ -47,12 +47,17 @@ lentPieces s ess l a b w =
 
 -- ---- as the program goes: it asks `after_piece` of each piece, and reads no more once a line stands
 
--- a piece and those after it, of which the last is the input's last: what the last `after_piece` gives
+-- the same buffers with another course
+unfoldable pub withCourse : ResumeOutcome → Course → ResumeOutcome
+withCourse o c = record { course = c; area0 = o .area0; area1 = o .area1; work = o .work }
+
+-- a piece and those after it, of which the last is the input's last: what the last `after_piece` gives. Each piece is
+-- fed to what `after_piece` gave of the one before
 unfoldable pub endsAll : ResumeOutcome → List ℕ → List (List ℕ) → Course
 endsAll o es [] = afterPiece true (resumeNext o es .course)
 endsAll o es (fs ∷ ess) =
     elim (afterPiece false (resumeNext o es .course)) [
-      | going l m ↦ endsAll (resumeNext o es) fs ess
+      | going l m ↦ endsAll (withCourse (resumeNext o es) (going l m)) fs ess
       | over x ↦ over x
     ]
 

@@ -1,6 +1,6 @@
--- The program's line, in reading order: of a whole input; of an input in pieces; what the functions of crate `line` give
--- with every lent word, of the front, of a piece and of a whole input; the calls on an input, and the line to expect of
--- them; what is claimed, with the worked examples. Assumes nothing.
+-- The program's line, in reading order: of a whole input; of an input in pieces; what the functions of crate `line`
+-- give with every lent word, of the front, of a piece and of a whole input; the calls on an input, and the line to
+-- expect of them; what is claimed, with the worked examples. Assumes nothing.
 pub mod Line
 pub mod Pieces
 pub mod Opening

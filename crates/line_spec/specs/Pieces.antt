@@ -10,7 +10,7 @@ use mathlib.Core.Bool.{Bool, cond}
 use mathlib.Core.List.{List, [], _∷_}
 use Rattle.table.specs.Judge.{Judgement, accepted, declined, judgeBytes}
 use Rattle.table.specs.Operations.{zeros}
-use Rattle.monitor_spec.specs.State.{State, Monitor, Answer, given, stopped, Outcome}
+use Rattle.monitor_spec.specs.State.{Monitor, Answer, given, stopped, Outcome}
 use Rattle.monitor_spec.specs.State as state
 use Rattle.monitor_spec.specs.Feed.{feedOf}
 use Rattle.line_spec.specs.Line.{Head, parts, wrong, headOf, Line, refused, stateLine, fresh, monitorLeft}

@@ -29,7 +29,8 @@ use Rattle.monitor_spec.specs.History.Laws.{extends, measured, feed-refu
 use Rattle.monitor_spec.specs.History.Laws.{history-joined, one-goes}
 use Rattle.monitor_spec.specs.History.Begun.{fresh-began}
 use Rattle.monitor_spec.proofs.Verdicts.{start-formed, judged-running, judged-failed}
-use Rattle.monitor_spec.proofs.Endings.{T-true, true-T, false-T, none-answer, some-answer, stops-out, stops-range}
+use Rattle.monitor_spec.proofs.Endings.{T-true, true-T, false-T, none-answer, some-answer, stops-out}
+use Rattle.monitor_spec.proofs.Endings.{stops-range}
 
 -- ---- everything of the monitor that the list calls for
 

@@ -20,10 +20,11 @@ use Rattle.table.specs.Judge.{unlessMet, placed, judgeRead, judge, sized, judge
 use Rattle.table.specs.Memory.{digit, remember}
 use Rattle.table.specs.Member.{elem, rowIn, rowOf, inRow, recalled, member}
 use Rattle.meaning.specs.Figure1.{bodyCount}
-use Rattle.monitor_spec.specs.Residual.{pairs, resolveIn, resolveDef, resolve, afterLeaf, afterPair, after, afterAll}
+use Rattle.monitor_spec.specs.Residual.{pairs, resolveIn, resolveDef, resolve, afterLeaf, afterPair, after}
+use Rattle.monitor_spec.specs.Residual.{afterAll}
 use Rattle.monitor_spec.specs.Residual.{run}
 use Rattle.monitor_spec.specs.Residual.{fromDefinition, residualsOf}
-use Rattle.monitor_spec.specs.Slots.{pack, termOf, memoryOf, nodes, slotOf, compareWords, insertSorted, canon}
+use Rattle.monitor_spec.specs.Slots.{pack, termOfWord, memoryOf, nodes, slotOf, compareWords, insertSorted, canon}
 use Rattle.monitor_spec.specs.Slots.{slotsOf}
 use Rattle.monitor_spec.specs.Valid.{joinTrees, plant, plantWord, forest, oneTree, slotResidual, held, digitFits}
 use Rattle.monitor_spec.specs.Valid.{memoryFits, memoriesFit, reachAt, reachSum, validSlot}
@@ -51,7 +52,7 @@ unfolding flatMap size sizes bodyOf bodyNumber termIn termOfDefs termAt prefixes
     branchesWith branchesAt bodyIn nextBranches allBranches followerAbove bodyAbove tooManyBranches
     unlessMet placed judgeRead judge sized judgeList digit remember elem rowIn rowOf inRow recalled member bodyCount
     pairs resolveIn resolveDef resolve afterLeaf afterPair after afterAll run fromDefinition residualsOf
-    pack termOf memoryOf nodes slotOf compareWords insertSorted canon slotsOf
+    pack termOfWord memoryOf nodes slotOf compareWords insertSorted canon slotsOf
     joinTrees plant plantWord forest oneTree slotResidual held digitFits memoryFits memoriesFit reachAt reachSum
     validSlot
     areasMeasured workMeasured slotCount even choose chunks flatten fill
@@ -70,7 +71,7 @@ unfolding flatMap size sizes bodyOf bodyNumber termIn termOfDefs termAt prefixes
     branchesWith branchesAt bodyIn nextBranches allBranches followerAbove bodyAbove tooManyBranches
     unlessMet placed judgeRead judge sized judgeList digit remember elem rowIn rowOf inRow recalled member bodyCount
     pairs resolveIn resolveDef resolve afterLeaf afterPair after afterAll run fromDefinition residualsOf
-    pack termOf memoryOf nodes slotOf compareWords insertSorted canon slotsOf
+    pack termOfWord memoryOf nodes slotOf compareWords insertSorted canon slotsOf
     joinTrees plant plantWord forest oneTree slotResidual held digitFits memoryFits memoriesFit reachAt reachSum
     validSlot
     areasMeasured workMeasured slotCount even choose chunks flatten fill
@@ -90,7 +91,7 @@ unfolding flatMap size sizes bodyOf bodyNumber termIn termOfDefs termAt prefixes
     branchesWith branchesAt bodyIn nextBranches allBranches followerAbove bodyAbove tooManyBranches
     unlessMet placed judgeRead judge sized judgeList digit remember elem rowIn rowOf inRow recalled member bodyCount
     pairs resolveIn resolveDef resolve afterLeaf afterPair after afterAll run fromDefinition residualsOf
-    pack termOf memoryOf nodes slotOf compareWords insertSorted canon slotsOf
+    pack termOfWord memoryOf nodes slotOf compareWords insertSorted canon slotsOf
     joinTrees plant plantWord forest oneTree slotResidual held digitFits memoryFits memoriesFit reachAt reachSum
     validSlot
     areasMeasured workMeasured slotCount even choose chunks flatten fill

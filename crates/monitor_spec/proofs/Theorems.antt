@@ -37,7 +37,8 @@ use Rattle.monitor_spec.specs.Claims.{StartFits, OfferRefusedExactly, Of
 use Rattle.monitor_spec.specs.Claims.{Judges, Answers, Histories, OffersTraces, ViewsResiduals, FeedKeeps}
 use Rattle.monitor_spec.specs.Claims.{Examples, Cases, Buffers}
 use Rattle.monitor_spec.proofs.Endings.{T-true, true-T}
-use Rattle.monitor_spec.proofs.Starts.{start-refused, start-gives as started, start-work, start-keeps, start-zeroes}
+use Rattle.monitor_spec.proofs.Starts.{start-refused, start-gives as started, start-work, start-keeps}
+use Rattle.monitor_spec.proofs.Starts.{start-zeroes}
 use Rattle.monitor_spec.proofs.Feeds as feeds
 use Rattle.monitor_spec.proofs.Onward.{feed-stops, feed-gives}
 use Rattle.monitor_spec.proofs.Offering as offering

@@ -66,9 +66,6 @@ module _ (t : Table) (regular : Regular t) (H : Term → TraceSet) (model : Mode
   pub verdicts : (s : List ℕ) → Verdicts s (verdictOf t s)
   verdicts s = verdicts-by s (verdictOf t s) (verdictOf-says t s)
 
-  running-not-failed : {v : Verdict} (p : ℕ) → v ≡ failedAt p → v ≡ running → ⊥
-  running-not-failed p e f = let z : _≡_ {A = ℕ} 0 1 = cc in omega arith
-
   pub judged-running : (s : List ℕ) → (verdictOf t s ≡ running) ↔ H (start t) s
   judged-running s = (
     λ e. held-some s .1 (subst (Verdicts s) e (verdicts s)),

@@ -10,7 +10,8 @@ use lib.ListN.{replicate}
 use Rattle.table.specs.Table.{fixed, stop, fail, prefix, choice, par, one}
 use Rattle.table.specs.Writing.{numbersOf}
 use Rattle.table.specs.Operations.{zeros}
-use Rattle.monitor_spec.specs.State.{Verdict, running, failedAt, Monitor, Answer, given, refused, stopped, Outcome}
+use Rattle.monitor_spec.specs.State.{Verdict, running, failedAt, Monitor, Answer, given, refused, stopped}
+use Rattle.monitor_spec.specs.State.{Outcome}
 use Rattle.monitor_spec.specs.Feed.{counterMost, feedOf}
 use Rattle.monitor_spec.specs.Start.{startOf}
 use Rattle.monitor_spec.specs.Offer as Offer

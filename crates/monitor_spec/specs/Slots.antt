@@ -1,10 +1,10 @@
 -- Residuals as words (01, "Residuals").
---     pack, termOf, memoryOf    a node word, and what it holds
---     nodes, slotOf             a residual's node words; its slot
---     Order, compareWords       the order "by first differing word"
---     insertSorted, canon       one slot put in its place; a list of slots ascending, each once
---     slotsOf                   the slots of a list of residuals
---     Precedes, Sorted          that order as a relation; strictly ascending
+--     pack, termOfWord, memoryOf    a node word, and what it holds
+--     nodes, slotOf                 a residual's node words; its slot
+--     Order, compareWords           the order "by first differing word"
+--     insertSorted, canon           one slot put in its place; a list of slots ascending, each once
+--     slotsOf                       the slots of a list of residuals
+--     Precedes, Sorted              that order as a relation; strictly ascending
 -- The laws are in `Slots/`: `Packing`, `Comparison`, `Canonical`. Assumes nothing.
 use Prim.Native.Nat.{ℕ, _+_, _-_, _*_, _/_, _%_, _<_}
 use mathlib.Core.Path.{_≡_}
@@ -23,8 +23,8 @@ pub mod Canonical
 unfoldable pub pack : ℕ → Memory → ℕ
 pack n m = n * 16777216 + m .m0 * 262144 + m .m1 * 4096 + m .m2 * 64 + m .m3
 
-unfoldable pub termOf : ℕ → ℕ
-termOf w = w / 16777216
+unfoldable pub termOfWord : ℕ → ℕ
+termOfWord w = w / 16777216
 
 unfoldable pub memoryOf : ℕ → Memory
 memoryOf w = record { m0 = w / 262144 % 64; m1 = w / 4096 % 64; m2 = w / 64 % 64; m3 = w % 64 }

@@ -9,7 +9,8 @@ use Rattle.table.specs.Judge.{Judgement, accepted, declined, judgeList}
 use Rattle.table.specs.Operations.{zeros}
 use Rattle.monitor_spec.specs.Residual.{residualsOf}
 use Rattle.monitor_spec.specs.Slots.{slotsOf}
-use Rattle.monitor_spec.specs.State.{running, given, refused, Outcome, areasMeasured, workMeasured, slotCount, fill}
+use Rattle.monitor_spec.specs.State.{running, given, refused, Outcome, areasMeasured, workMeasured, slotCount}
+use Rattle.monitor_spec.specs.State.{fill}
 use Rattle.monitor_spec.specs.Feed.{nextVerdict}
 
 -- "Start settles the last definition into area 0, zeroes area 1, taken 0"; "An empty set means failed, at .. (0 at

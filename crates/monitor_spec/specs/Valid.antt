@@ -14,7 +14,7 @@ use Rattle.table.specs.Table.{Table, Term, stop, fail, prefix, choice, par, cal
 use Rattle.table.specs.Memory.{Memory}
 use Rattle.table.specs.Width.{reach}
 use Rattle.monitor_spec.specs.Residual.{Residual, leaf, pair}
-use Rattle.monitor_spec.specs.Slots.{Order, below, same, above, termOf, memoryOf, slotOf, compareWords}
+use Rattle.monitor_spec.specs.Slots.{Order, below, same, above, termOfWord, memoryOf, slotOf, compareWords}
 pub mod Laws
 pub mod Residuals
 
@@ -34,7 +34,7 @@ plant n m rs (par r p q) = joinTrees n m rs
 plant n m rs (call d) = none
 
 unfoldable pub plantWord : Table → ℕ → List Residual → Option (List Residual)
-plantWord t w rs = elim (termAt t (termOf w)) [ none ↦ none | some p ↦ plant (termOf w) (memoryOf w) rs p ]
+plantWord t w rs = elim (termAt t (termOfWord w)) [ none ↦ none | some p ↦ plant (termOfWord w) (memoryOf w) rs p ]
 
 -- "each parallel before its sides"
 unfoldable pub forest : Table → List ℕ → Option (List Residual)

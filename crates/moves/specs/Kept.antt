@@ -19,7 +19,7 @@ use Rattle.table.specs.Table.{Table}
 use Rattle.residual.specs.Words.{remember, termOfWord, memoryOfWord, kindAt, holdsAt}
 use Rattle.residual.specs.Residual.{Residual, words, resolved, leafAfter, nth, pushed}
 use Rattle.residual.specs.Residual.{pushAll, resolvedInto}
-use Rattle.residual.specs.Distinct.{sameWords, heldIn, kept, empty, slotAt, Indices}
+use Rattle.residual.specs.Distinct.{sameWords, isKept, kept, empty, slotAt, Indices}
 use Rattle.residual.specs.Distinct.Laws.{same-true, kept-held, kept-new, kept-below}
 use Rattle.walk.specs.Walk.{leafKept, leafResults, longest}
 use Rattle.walk.specs.Walk.Leaves.{results-yes, kept-yes, kept-not-kind, kept-not-held, words-short}
@@ -71,14 +71,14 @@ pub record Covered (f : ℕ → List ℕ) (ks s : List ℕ) : Type 0 where
   pub same : f (getD ks j 0) ≡ s
 
 held-by : (f : ℕ → List ℕ) (k : ℕ) (ks s : List ℕ) (b : Bool) → sameWords s (f k) ≡ b
-    → elim b as (λ x. Bool) [ true ↦ true | false ↦ heldIn f ks s ] ≡ true
-    → (heldIn f ks s ≡ true → Covered f ks s) → Covered f (k ∷ ks) s
+    → elim b as (λ x. Bool) [ true ↦ true | false ↦ isKept f ks s ] ≡ true
+    → (isKept f ks s ≡ true → Covered f ks s) → Covered f (k ∷ ks) s
 held-by f k ks s true e h ih = record { j = 0; inside = omega arith; same = sym (same-true s (f k) e) }
 held-by f k ks s false e h ih =
     let c = ih h in record { j = suc (c .j); inside = omega (arith, c .inside); same = c .same }
 
-held-covered : (f : ℕ → List ℕ) (ks s : List ℕ) → heldIn f ks s ≡ true → Covered f ks s
-unfolding heldIn
+held-covered : (f : ℕ → List ℕ) (ks s : List ℕ) → isKept f ks s ≡ true → Covered f ks s
+unfolding isKept
 held-covered f [] s h = absurd (let z : _≡_ {A = ℕ} 0 1 = cc in omega arith)
 held-covered f (k ∷ ks) s h = held-by f k ks s (sameWords s (f k)) refl h (held-covered f ks s)
 
@@ -98,7 +98,7 @@ covered-last f ks c =
       same = rw (getD-append-seam ks c [] 0);
     }
 
-covers-by : (f : ℕ → List ℕ) (c i : ℕ) (b : Bool) → heldIn f (kept f c) (f c) ≡ b → i < suc c
+covers-by : (f : ℕ → List ℕ) (c i : ℕ) (b : Bool) → isKept f (kept f c) (f c) ≡ b → i < suc c
     → (i < c → Covered f (kept f c) (f i)) → Dec (i ≡ c) → Covered f (kept f (suc c)) (f i)
 covers-by f c i true e h ih (yes z) =
     rw (kept-held f c (suc c) (omega arith) e, z) (held-covered f (kept f c) (f c) e)
@@ -149,7 +149,8 @@ pub results-not-kind : (t : Table) (e w : ℕ) → eqb (kindAt t w) 2 ≡ false 
 unfolding leafResults leafAfter kindAt
 results-not-kind t e w a = rw (a, leafAfter)
 
-pub results-not-held : (t : Table) (e w : ℕ) → eqb (kindAt t w) 2 ≡ true → holdsAt t e w ≡ false → leafResults t e w ≡ []
+pub results-not-held : (t : Table) (e w : ℕ) → eqb (kindAt t w) 2 ≡ true → holdsAt t e w ≡ false
+    → leafResults t e w ≡ []
 unfolding leafResults leafAfter kindAt holdsAt
 results-not-held t e w a b = rw (a, b, leafAfter)
 

@@ -50,7 +50,8 @@ Short t e (leaf n m) = longest (map words (leafAfter t e n m)) ≤ 15
 Short t e (pair n m l r) = Short t e l × Short t e r
 
 pairs-both : (n m : ℕ) (ls ls' rs rs' : List Residual) → SameMembers (map words ls) (map words ls')
-    → SameMembers (map words rs) (map words rs') → SameMembers (map words (pairs n m ls rs)) (map words (pairs n m ls' rs'))
+    → SameMembers (map words rs) (map words rs') → SameMembers (map words (pairs n m ls rs))
+    (map words (pairs n m ls' rs'))
 pairs-both n m ls ls' rs rs' f g =
     rw (words-pairs n m ls rs, words-pairs n m ls' rs') (
       sub-before (nodeWord n m) _ _
@@ -59,7 +60,8 @@ pairs-both n m ls ls' rs rs' f g =
           (sub-joins (map words ls') (map words ls) (map words rs') (map words rs) (f .1) (g .1)),
     )
 
-pub append-both : (a a' b b' : List Residual) → SameMembers (map words a) (map words a') → SameMembers (map words b) (map words b')
+pub append-both : (a a' b b' : List Residual) → SameMembers (map words a) (map words a')
+    → SameMembers (map words b) (map words b')
     → SameMembers (map words (a ++ b)) (map words (a' ++ b'))
 append-both a a' b b' f g =
     rw (map-append words a b, map-append words a' b')

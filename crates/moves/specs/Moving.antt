@@ -1,4 +1,5 @@
--- The results that moves say, held: one leaf that moves, in each residual that it comes to, and one leaf after the other.
+-- The results that moves say, held: one leaf that moves, in each residual that it comes to, and one leaf after the
+-- other.
 --     StepsLeaf, steppedLeaf         one leaf: what its step asks, and what it gives
 --     StepsMoves, steppedMoves       the leaves that moves say
 -- The laws are in `Moving/Leaves.antt` and `Moving/Moves.antt`. Assumes nothing.

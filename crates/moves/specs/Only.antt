@@ -1,5 +1,6 @@
 -- Residuals whose results after an event are known without a store: none, or those that moves say.
---     countWay, leafWay, pairMoves, joined     the way of a leaf, by its follower's branches; of a pair, by its sides'
+--     countWay, leafWay             the way of a leaf, by its follower's branches
+--     pairMoves, pairWay            of a pair, by its sides' ways
 --     wayOf                         the way of a residual: no result, those that moves say, perhaps more
 --     rebuilt                       node words, the marked leaves replaced by what follows
 --     moved                         the words of the results that moves say
@@ -10,8 +11,9 @@
 --     Follows, Landing, Lands       what `land` asks and says
 --     Carries, Rest, Rebuilds       what `carry`, `rebuild` and `extend` ask
 -- The laws are in `Only/Marks.antt` (marks and the words rebuilt), `Only/Moved.antt` (the words of several results),
--- `Only/Laws.antt` and `Only/Pair.antt` (the residuals after the event), `Only/Joined.antt` and `Only/Turns.antt` (the
--- functions of `only.rt`), `Only/Following.antt` and `Only/Rebuilding.antt` (those of `rebuilding.rt`). Assumes nothing.
+-- `Only/Laws.antt` and `Only/Pair.antt` (the residuals after the event), `Only/Ways.antt` and `Only/Turns.antt` (the
+-- functions of `only.rt`), `Only/Following.antt` and `Only/Rebuilding.antt` (those of `rebuilding.rt`). Assumes
+-- nothing.
 use Prim.Native.Nat.{ℕ, zero, suc, _+_, _*_, _/_, _%_, _<_, _≤_, _^_}
 use mathlib.Core.Path.{_≡_}
 use mathlib.Core.Bool.{Bool, true, false}
@@ -36,7 +38,7 @@ pub mod Marks
 pub mod Moved
 pub mod Laws
 pub mod Pair
-pub mod Joined
+pub mod Ways
 pub mod Turns
 pub mod Following
 pub mod Rebuilding
@@ -95,21 +97,21 @@ bothBy false false a b n = Many
 abbrev pub bothWay : Moves → Moves → ℕ → Way
 bothWay a b n = bothBy (a .lone) (b .lone) a b n
 
-abbrev pub joined : Way → Way → Bool → ℕ → Way
-joined Still Still h n = Still
-joined Still (Moving b) true n = Still
-joined Still (Moving b) false n = Moving (rightMoves b n)
-joined Still Many true n = Still
-joined Still Many false n = Many
-joined (Moving a) Still true n = Still
-joined (Moving a) Still false n = Moving (leftMoves a n)
-joined (Moving a) (Moving b) true n = bothWay a b n
-joined (Moving a) (Moving b) false n = eitherWay a b n
-joined (Moving a) Many h n = Many
-joined Many Still true n = Still
-joined Many Still false n = Many
-joined Many (Moving b) h n = Many
-joined Many Many h n = Many
+abbrev pub pairWay : Way → Way → Bool → ℕ → Way
+pairWay Still Still h n = Still
+pairWay Still (Moving b) true n = Still
+pairWay Still (Moving b) false n = Moving (rightMoves b n)
+pairWay Still Many true n = Still
+pairWay Still Many false n = Many
+pairWay (Moving a) Still true n = Still
+pairWay (Moving a) Still false n = Moving (leftMoves a n)
+pairWay (Moving a) (Moving b) true n = bothWay a b n
+pairWay (Moving a) (Moving b) false n = eitherWay a b n
+pairWay (Moving a) Many h n = Many
+pairWay Many Still true n = Still
+pairWay Many Still false n = Many
+pairWay Many (Moving b) h n = Many
+pairWay Many Many h n = Many
 
 -- the bits of a pair fit a word
 abbrev pub PairFits : Moves → Moves → ℕ → Type 0
@@ -118,7 +120,7 @@ PairFits a b n = (a .each + a .also) * 2 + (b .each + b .also) * 2 ^ n < 1844674
 unfoldable pub wayOf : Table → ℕ → Residual → Way
 wayOf t e (leaf n m) = leafWay t e (nodeWord n m)
 wayOf t e (pair n m l r) =
-    joined (wayOf t e l) (wayOf t e r) (holdsAt t e (nodeWord n m)) (length (words l) + 1)
+    pairWay (wayOf t e l) (wayOf t e r) (holdsAt t e (nodeWord n m)) (length (words l) + 1)
 
 -- ---- node words, the marked leaves replaced by what follows
 

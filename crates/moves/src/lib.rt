@@ -1,5 +1,5 @@
-// What becomes of one residual at an event, where bits for its nodes can say it (01, "Residuals"), and
-// whether it may take an event. The definitions are in `specs/`; `specs/Lib.antt` lists them in
+// What becomes of one residual at an event, where bits for its nodes can say it (01, "Residuals"),
+// and whether it may take an event. The definitions are in `specs/`; `specs/Lib.antt` lists them in
 // reading order.
 mod moves;
 mod only;

@@ -55,8 +55,8 @@ fn step_leaf(
     Held::Count(c)
 }
 
-// Holds a slot followed by each result that moves say of the n nodes from p on: leaf after leaf, the
-// nodes before it pushed on the slot; a leaf that has been stepped is a node like the others.
+// Holds a slot followed by each result that moves say of the n nodes from p on: leaf after leaf,
+// the nodes before it pushed on the slot; a leaf that has been stepped is a node like the others.
 pub fn step_moves(
     list: &[u16],
     work: &[u64],
@@ -72,7 +72,8 @@ pub fn step_moves(
     count: usize,
 ) -> Held
     requires { ⌜ Indexed (now list) (now work) ⌝ }
-    requires { ⌜ StepsMoves (tableIn (now list)) bound e (now src) p n each also slot (now dst) count ⌝ }
+    requires { ⌜ StepsMoves (tableIn (now list)) bound e (now src) p n each also slot (now dst)
+        count ⌝ }
     ensures { λ r.
         ⌜ Gave (steppedMoves (tableIn (now (list .entry))) e (now (src .entry)) p n each also slot
         (now (dst .entry)) count) r (now (dst .exit)) ⌝ }

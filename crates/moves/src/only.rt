@@ -7,13 +7,14 @@ ghost use mathlib.Core.Path.{_≡_};
 ghost use Prim.Native.Nat.{ℕ, _+_, _*_, _^_, _<_};
 ghost use Rattle.table.specs.Index.{tableIn, Indexed};
 ghost use Rattle.residual.specs.Words.{kindAt, KnownWord};
-ghost use Rattle.moves.specs.Only.{marksOf, leafMoves, leftMoves, rightMoves, eitherWay, bothWay};
-ghost use Rattle.moves.specs.Only.{joined, PairFits, leafWay, ShortTree, Only};
+ghost use Rattle.moves.specs.Only.{marksOf, leafMoves, leftMoves, rightMoves};
+ghost use Rattle.moves.specs.Only.{eitherWay, bothWay};
+ghost use Rattle.moves.specs.Only.{pairWay, PairFits, leafWay, ShortTree, Only};
 ghost use Rattle.moves.specs.Only.{Rooted, WayIn};
 
 // Several results of a tree, by bits for its nodes (the first node's is the lowest): one result for
-// each leaf of `each` and each residual that it comes to, the leaves of `also` moving with it, which
-// come to one residual each. `lone`: it is one result.
+// each leaf of `each` and each residual that it comes to, the leaves of `also` moving with it,
+// which come to one residual each. `lone`: it is one result.
 pub struct Moves {
     pub each: u64,
     pub also: u64,
@@ -129,7 +130,7 @@ fn both_way(a: Moves, b: Moves, n: usize) -> Way
 // side's first node is from the pair's.
 fn pair_way(left: Way, right: Way, held: bool, n: usize) -> Way
     requires { ⌜ (n < 64) × (marksOf left * 2 + marksOf right * 2 ^ n < 18446744073709551616) ⌝ }
-    ensures { λ r. ⌜ r ≡ joined left right held n ⌝ }
+    ensures { λ r. ⌜ r ≡ pairWay left right held n ⌝ }
 {
     match left {
         Way::Still => match right {

@@ -1,4 +1,5 @@
-// The words of a residual's results, rebuilt node by node. The definitions are in `specs/Only.antt`.
+// The words of a residual's results, rebuilt node by node. The definitions are in
+// `specs/Only.antt`.
 use residual::memory_of;
 use residual::node;
 use residual::push;
@@ -13,7 +14,8 @@ ghost use Rattle.residual.specs.Residual.{pushAll};
 ghost use Rattle.residual.specs.Distinct.{window, empty};
 ghost use Rattle.moves.specs.Only.{grown, rebuilt, Follows, Carries, Rebuilds, Lands};
 
-// A term with a memory, whose only residual is looked for: its calls name definitions below `bound`.
+// A term with a memory, whose only residual is looked for: its calls name definitions below
+// `bound`.
 pub struct Landed {
     pub term: usize,
     pub memory: u64,
@@ -21,8 +23,8 @@ pub struct Landed {
     pub kind: u64,
 }
 
-// Where the calls of a prefix's follower come to. The slot, which is not read, names in the contract
-// what the residual there is to follow.
+// Where the calls of a prefix's follower come to. The slot, which is not read, names in the
+// contract what the residual there is to follow.
 fn land(list: &[u16], work: &[u64], bound: usize, e: u64, w: u64, slot: &[u64]) -> Landed
     requires { ⌜ Indexed (now list) (now work) ⌝ }
     requires { ⌜ Follows (tableIn (now list)) bound e w (now slot) ⌝ }

@@ -11,7 +11,7 @@ ghost use Rattle.monitor_spec.specs.State.{areasMeasured};
 ghost use Rattle.monitor_spec.specs.Offer.{bitOf, bitsBelow, offerJudged, offerOf};
 ghost use Rattle.state.specs.Record.{monitorOf};
 ghost use Rattle.state.specs.Answers.{offeredOf, offerOutcome};
-ghost use Rattle.stepping.specs.Holds.{Holds, heldIn};
+ghost use Rattle.stepping.specs.Holds.{AreaHolds, heldIn};
 use state::Offered;
 use state::State;
 use state::Verdict;
@@ -24,7 +24,7 @@ use table::Refusal;
 // 1 where some of the residuals held may take event e, else 0.
 fn bit(list: &[u16], work: &[u64], area: &[u64], count: usize, e: u64) -> u64
     requires { ⌜ Indexed (now list) (now work) ⌝ }
-    requires { ⌜ Holds (tableIn (now list)) (now area) count ⌝ }
+    requires { ⌜ AreaHolds (tableIn (now list)) (now area) count ⌝ }
     requires { ⌜ e < tableIn (now list) .alphabet ⌝ }
     ensures { λ r.
         ⌜ r ≡ bitOf 0 (afterAll (tableIn (now (list .entry))) e
@@ -44,7 +44,7 @@ fn bit(list: &[u16], work: &[u64], area: &[u64], count: usize, e: u64) -> u64
 // The bits of all events, the last event's bit first.
 fn bits(list: &[u16], work: &[u64], area: &[u64], count: usize) -> u64
     requires { ⌜ Indexed (now list) (now work) ⌝ }
-    requires { ⌜ Holds (tableIn (now list)) (now area) count ⌝ }
+    requires { ⌜ AreaHolds (tableIn (now list)) (now area) count ⌝ }
     ensures { λ r.
         ⌜ r ≡ bitsBelow (tableIn (now (list .entry)))
         (heldIn (tableIn (now (list .entry))) (now (area .entry)) count)

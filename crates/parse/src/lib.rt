@@ -5,7 +5,6 @@ mod definitions;
 mod leaves;
 mod parser;
 mod references;
-mod rows;
 mod spots;
 mod terms;
 

@@ -1,6 +1,6 @@
 // Reading a whole table from a number list: refusals 3, 5 and 6.
 use crate::definitions::read_definitions;
-use crate::rows::read_sets;
+use event_sets::read_sets;
 use table::Judged;
 use table::Place;
 use table::Refusal;

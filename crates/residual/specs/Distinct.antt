@@ -2,7 +2,7 @@
 -- taken once, before pairs are formed with it.
 --     sameWords             whether two lists of words are equal
 --     window                some words of a list
---     heldIn, kept          whether one of the indices has this slot; the indices whose slots did not occur before
+--     isKept, kept          whether one of the indices has this slot; the indices whose slots did not occur before
 --     keyFrom               a number that equal lists of words share
 --     slotAt, Resolvable    the slot of the i-th residual of a term; what resolving all of a term's residuals asks
 --     Known, heldSlots      the keys of slots kept, and the first eight slots; one slot more
@@ -40,12 +40,12 @@ keyFrom k (w ∷ ws) = keyFrom (k % 288230376151711744 * 31 + w % 28823037615171
 unfoldable pub window : ℕ → ℕ → List ℕ → List ℕ
 window p n l = take n (drop p l)
 
-unfoldable pub heldIn : (ℕ → List ℕ) → List ℕ → List ℕ → Bool
-heldIn f [] s = false
-heldIn f (k ∷ ks) s = elim (sameWords s (f k)) [ true ↦ true | false ↦ heldIn f ks s ]
+unfoldable pub isKept : (ℕ → List ℕ) → List ℕ → List ℕ → Bool
+isKept f [] s = false
+isKept f (k ∷ ks) s = elim (sameWords s (f k)) [ true ↦ true | false ↦ isKept f ks s ]
 
 unfoldable pub keep : (ℕ → List ℕ) → List ℕ → ℕ → List ℕ
-keep f ks i = elim (heldIn f ks (f i)) [ true ↦ ks | false ↦ ks ++ (i ∷ []) ]
+keep f ks i = elim (isKept f ks (f i)) [ true ↦ ks | false ↦ ks ++ (i ∷ []) ]
 
 unfoldable pub kept : (ℕ → List ℕ) → ℕ → List ℕ
 kept f zero = []

@@ -8,7 +8,7 @@ ghost use Prim.Native.Nat.{_+_, _*_, _<_, _≤_};
 ghost use lib.ListN.{length};
 ghost use Rattle.table.specs.Index.{tableIn, Indexed};
 ghost use Rattle.residual.specs.Residual.{resolved};
-ghost use Rattle.residual.specs.Distinct.{sameWords, window, keyFrom, heldIn, kept};
+ghost use Rattle.residual.specs.Distinct.{sameWords, window, keyFrom, isKept, kept};
 ghost use Rattle.residual.specs.Distinct.{slotAt, Resolvable, Known, heldSlots, Stored};
 
 // Whether a slot's words stand in a list from p on.
@@ -85,10 +85,10 @@ fn found(
     requires { ⌜ Resolvable (tableIn (now list)) bound n m ⌝ }
     requires { ⌜ (at + k ≤ length (now indices)) × (k ≤ length (now keys)) ⌝ }
     requires { ⌜ (128 ≤ length (now slots)) × (length (now slot) ≡ 16) ⌝ }
-    requires { ⌜ Known (slotAt (tableIn (now list)) n m) (length (resolved (tableIn (now list)) n m))
-        (now indices) at k (now keys) (now slots) ⌝ }
+    requires { ⌜ Known (slotAt (tableIn (now list)) n m)
+        (length (resolved (tableIn (now list)) n m)) (now indices) at k (now keys) (now slots) ⌝ }
     ensures { λ r.
-        ⌜ r ≡ heldIn (slotAt (tableIn (now (list .entry))) n m)
+        ⌜ r ≡ isKept (slotAt (tableIn (now (list .entry))) n m)
         (window at k (now (indices .entry))) (now (slot .entry)) ⌝ }
 {
     let key = key_of(slot);

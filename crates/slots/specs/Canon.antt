@@ -1,15 +1,16 @@
 -- Slots put in their places in a list (01, "Residuals": "An area holds slots ascending by first differing word, then
 -- zeros").
 --     insertSlot, canonFrom     one slot in its place; several, one after the other: ascending, none twice
---     joined, areaOf            the words of slots; an area that holds them
+--     areaOf                    an area that holds slots
 --     Slots                     lists of sixteen words
 --     Mem, SameMembers          a slot is one of several; two lists have the same slots
 -- The laws are in `Canon/Compare.antt` (the order of slots), `Canon/Sets.antt` (what comes out is ascending, and
--- depends on the members only), `Canon/Members.antt`, `Canon/Places.antt` and `Canon/Laws.antt` (areas). Assumes nothing.
+-- depends on the members only), `Canon/Members.antt`, `Canon/Places.antt` and `Canon/Laws.antt` (areas). Assumes
+-- nothing.
 use Prim.Native.Nat.{ℕ, _-_, _*_}
 use mathlib.Core.Path.{_≡_}
 use mathlib.Core.Logic.{_⊎_}
-use mathlib.Core.List.{List, [], _∷_, _++_}
+use mathlib.Core.List.{List, [], _∷_, _++_, flatten}
 use lib.ListN.{length, replicate}
 use Rattle.slots.specs.Slots.{Order, below, same, above, order}
 pub mod Compare
@@ -32,13 +33,9 @@ unfoldable pub canonFrom : List (List ℕ) → List (List ℕ) → List (List �
 canonFrom xs [] = xs
 canonFrom xs (s ∷ ss) = canonFrom (insertSlot s xs) ss
 
-unfoldable pub joined : List (List ℕ) → List ℕ
-joined [] = []
-joined (x ∷ xs) = x ++ joined xs
-
 -- "An area holds slots ascending by first differing word, then zeros"
 unfoldable pub areaOf : ℕ → List (List ℕ) → List ℕ
-areaOf cap xs = joined xs ++ replicate ((cap - length xs) * 16) 0
+areaOf cap xs = flatten xs ++ replicate ((cap - length xs) * 16) 0
 
 abbrev pub Slots : List (List ℕ) → Type 0
 Slots [] = Unit

@@ -45,8 +45,8 @@ failing s = record { taken = s .taken; count = 0; verdict = failedBy (s .verdict
 unfoldable pub holding : State → ℕ → State
 holding s n = record { taken = s .taken; count = n; verdict = s .verdict }
 
--- r is the record that an event leaves in a monitor whose record is s, where n residuals stand after it; s itself, where
--- no event more can be counted
+-- r is the record that an event leaves in a monitor whose record is s, where n residuals stand after it; s itself,
+-- where no event more can be counted
 pub record Successor (s : State) (n : ℕ) (r : State) : Type 0 where
   pub event : (s .taken ≡ counterMost → ⊥) → (m : Monitor) (next : List (List ℕ)) → m .state ≡ s → length next ≡ n
       → r ≡ taking m next .state

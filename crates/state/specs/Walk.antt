@@ -1,6 +1,6 @@
 -- A slot's node words read from the last with a count of trees (ours): what the code keeps of the trees that
 -- `forest` spells (`specs/Valid.antt` of crate monitor_spec).
---     withLeaf, joined    a leaf in front; the first two trees under a parallel
+--     withLeaf, paired    a leaf in front; the first two trees under a parallel
 --     wordFits            a known term, with a memory that it allows
 --     planted, walked     a node word in front; all of a list of node words
 --     isWhole             one tree, of a reach that is not too large
@@ -16,7 +16,7 @@ use Rattle.table.specs.Node.{termOf as nodeTerm}
 use Rattle.table.specs.Width.{reach}
 use Rattle.state.specs.declared.valid.Forest.{Forest}
 use Rattle.state.specs.declared.valid.Forest.the-variants.{Broken, Trees}
-use Rattle.monitor_spec.specs.Slots.{termOf, memoryOf}
+use Rattle.monitor_spec.specs.Slots.{termOfWord, memoryOf}
 use Rattle.monitor_spec.specs.Valid.{memoryFits}
 pub mod Laws
 pub mod Words
@@ -31,13 +31,13 @@ unfoldable pub withLeaf : ℕ → Forest → Forest
 withLeaf r Broken = Broken
 withLeaf r (Trees n s) = Trees (n + 1) (r + s)
 
-unfoldable pub joined : Forest → Forest
-joined Broken = Broken
-joined (Trees n s) = elim (ltb n 2) [ true ↦ Broken | false ↦ Trees (n - 1) s ]
+unfoldable pub paired : Forest → Forest
+paired Broken = Broken
+paired (Trees n s) = elim (ltb n 2) [ true ↦ Broken | false ↦ Trees (n - 1) s ]
 
 unfoldable pub wordFits : Table → ℕ → Bool
 wordFits t w =
-    ltb (termOf w) (termCount t) && memoryFits (t .alphabet) (enclosing t (termOf w)) (memoryOf w)
+    ltb (termOfWord w) (termCount t) && memoryFits (t .alphabet) (enclosing t (termOfWord w)) (memoryOf w)
 
 -- "known STOP, prefix and parallel terms": by the term of a node word, whose reach is r
 unfoldable pub plantedBy : ℕ → Forest → Term → Forest
@@ -45,13 +45,13 @@ plantedBy r f stop = withLeaf r f
 plantedBy r f fail = Broken
 plantedBy r f (prefix s p) = withLeaf r f
 plantedBy r f (choice p q) = Broken
-plantedBy r f (par s p q) = joined f
+plantedBy r f (par s p q) = paired f
 plantedBy r f (call d) = Broken
 
 unfoldable pub planted : Table → ℕ → Forest → Forest
 planted t w f =
     elim (wordFits t w) [
-      | true ↦ plantedBy (reach t (nodeTerm t (termOf w))) f (nodeTerm t (termOf w))
+      | true ↦ plantedBy (reach t (nodeTerm t (termOfWord w))) f (nodeTerm t (termOfWord w))
       | false ↦ Broken
     ]
 

@@ -1,6 +1,6 @@
 // The state that a caller keeps between calls: the record, the two areas, whether they are
-// consistent, View, and what the operations answer (document 01, "Operations"). What each comes to is defined in crate
-// monitor_spec; `specs/Lib.antt` lists what the code says in those terms.
+// consistent, View, and what the operations answer (document 01, "Operations"). What each comes to
+// is defined in crate monitor_spec; `specs/Lib.antt` lists what the code says in those terms.
 mod answer;
 mod clear;
 mod consistency;

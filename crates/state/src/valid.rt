@@ -10,7 +10,7 @@ ghost use Rattle.table.specs.Index.{tableIn, Indexed};
 ghost use Rattle.monitor_spec.specs.Slots.{memoryOf, compareWords};
 ghost use Rattle.monitor_spec.specs.Valid.{digitFits, memoryFits, isBelow, validSlot};
 ghost use Rattle.monitor_spec.specs.Consistent.{allZero};
-ghost use Rattle.state.specs.Walk.{Few, withLeaf, joined, isWhole};
+ghost use Rattle.state.specs.Walk.{Few, withLeaf, paired, isWhole};
 ghost use Rattle.state.specs.Walk.{wordFits, planted, walked};
 use crate::words::digit;
 use crate::words::term_of;
@@ -94,7 +94,7 @@ impl Forest {
 
     // The first two trees under a parallel.
     fn join(self) -> Self
-        ensures { λ r. ⌜ r ≡ joined self ⌝ }
+        ensures { λ r. ⌜ r ≡ paired self ⌝ }
     {
         let Forest::Trees(count, sum) = self else {
             return Forest::Broken;

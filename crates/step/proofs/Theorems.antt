@@ -38,6 +38,7 @@ examples = tt
 pub way-examples : WayExamples
 unfolding WayExamples wayHolds wayOf leafWay nth sameWords kindAt holdsAt termOfWord memoryOfWord branches allBranches
     branchesWith nextBranches branchesAt grow resolved resolvedBelow resolve pairs words nodeWord termOf nodeAt nodesOf
-    nodesFrom nodes definitionsAt size sizes bodyIn bodyNumber kindOf refOf digitOf elem rowIn rowOf inRow inSet remember
+    nodesFrom nodes definitionsAt size sizes bodyIn bodyNumber kindOf refOf digitOf elem rowIn rowOf inRow inSet
+    remember
     refNumbers termNumbers definitionNumbers rowNumbers setNumbers
 way-examples = tt

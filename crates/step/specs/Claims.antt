@@ -15,13 +15,13 @@ use Rattle.slots.specs.Holding.{said, putAll}
 use Rattle.residual.specs.Residual.{Residual}
 use Rattle.slots.specs.Canon.{areaOf, SameMembers}
 use Rattle.step.specs.Stepped.{gathered, Source}
-use Rattle.step.specs.Successors.{Holds, allAfter, canon}
+use Rattle.step.specs.Successors.{SlotsHold, allAfter, canon}
 
 -- 01, "Residuals": "The set after a list is the union, event by event"; "A residual already held is not held twice";
 -- "An area holds slots ascending by first differing word, then zeros"
 unfoldable pub StepHolds : Type 0
 StepHolds =
-    (t : Table) (e : ℕ) (src : List ℕ) (rs : List Residual) → Holds t src 0 rs → Source t e src (length rs)
+    (t : Table) (e : ℕ) (src : List ℕ) (rs : List Residual) → SlotsHold t src 0 rs → Source t e src (length rs)
     → (most : ℕ) (xs : List (List ℕ)) → SameMembers xs (gathered t e src (length rs) 0)
     → length (canon (allAfter t e rs)) ≤ most
     → putAll (replicate (most * 16) 0) 0 xs
@@ -30,7 +30,7 @@ StepHolds =
 -- 01, "When the monitor declines": "crowded", exactly where they are more
 unfoldable pub StepExceeds : Type 0
 StepExceeds =
-    (t : Table) (e : ℕ) (src : List ℕ) (rs : List Residual) → Holds t src 0 rs → Source t e src (length rs)
+    (t : Table) (e : ℕ) (src : List ℕ) (rs : List Residual) → SlotsHold t src 0 rs → Source t e src (length rs)
     → (most : ℕ) (xs : List (List ℕ)) → SameMembers xs (gathered t e src (length rs) 0)
     → most < length (canon (allAfter t e rs))
     → (putAll (replicate (most * 16) 0) 0 xs) .held ≡ Exceeded

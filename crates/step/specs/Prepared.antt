@@ -1,11 +1,11 @@
 -- A store filled for one residual; a tree that cannot take the event is passed over whole.
---     Sound              the residual in a store: a known tree whose results fit a slot
---     Filled, Blanked    one node is filled; some nodes have no results
---     PreparedAll        trees one after the other are prepared
---     Left, UpTo         the trees that are left from a node on, of one residual; what holds there
---     Fills              the promise of `prepare`
--- The laws are in `Prepared/`: `Below` (what lies below a place), `Nodes` (one node), `Still` (a tree that cannot take the
--- event), `Turns` (the loop of `prepare`). Assumes nothing.
+--     Sound                  the residual in a store: a known tree whose results fit a slot
+--     NodeFilled, Blanked    one node is filled; some nodes have no results
+--     PreparedAll            trees one after the other are prepared
+--     Left, UpTo             the trees that are left from a node on, of one residual; what holds there
+--     Fills                  the promise of `prepare`
+-- The laws are in `Prepared/`: `Below` (what lies below a place), `Nodes` (one node), `Still` (a tree that cannot
+-- take the event), `Turns` (the loop of `prepare`). Assumes nothing.
 use Prim.Native.Nat.{ℕ, _+_, _*_, _<_, _≤_}
 use mathlib.Core.Path.{_≡_}
 use mathlib.Core.List.{List, [], _∷_}
@@ -31,7 +31,7 @@ pub record Sound (t : Table) (bound e : ℕ) (store : List ℕ) : Type 0 where
   pub room : room t e (nodesFrom store 1) ≤ 15
 
 -- node k is filled; nothing before its part is touched
-pub record Filled (t : Table) (e : ℕ) (old new : List ℕ) (k : ℕ) : Type 0 where
+pub record NodeFilled (t : Table) (e : ℕ) (old new : List ℕ) (k : ℕ) : Type 0 where
   pub before : take (k * 257) new ≡ take (k * 257) old
   pub node : Node t e new k (getD new k 0)
 

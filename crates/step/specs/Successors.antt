@@ -1,7 +1,6 @@
 -- The residuals after an event, of all residuals of a set (01, "Residuals": "The set after a list is the union, event
--- by
--- event").
---     Holds                the slots of an area, from the i-th on, are those of residuals
+-- by event").
+--     SlotsHold            the slots of an area, from the i-th on, are those of residuals
 --     allAfter, allKept    the residuals after an event, of all; with each leaf's repeats dropped
 --     slotsOf, canon       the slots of residuals; ascending, none twice
 -- The laws are in `Successors/Laws.antt`. Assumes nothing.
@@ -18,9 +17,9 @@ use Rattle.slots.specs.Canon.{canonFrom}
 pub mod Laws
 
 -- the slots of an area, from the i-th on, are those of residuals
-abbrev pub Holds : Table → List ℕ → ℕ → List Residual → Type 0
-Holds t src i [] = Unit
-Holds t src i (r ∷ rs) = (slotNodes src i ≡ words r) × Valid t r × Holds t src (i + 1) rs
+abbrev pub SlotsHold : Table → List ℕ → ℕ → List Residual → Type 0
+SlotsHold t src i [] = Unit
+SlotsHold t src i (r ∷ rs) = (slotNodes src i ≡ words r) × Valid t r × SlotsHold t src (i + 1) rs
 
 unfoldable pub allAfter : Table → ℕ → List Residual → List Residual
 allAfter t e [] = []

@@ -1,6 +1,6 @@
-// The results of one residual's leaves, prepared in a store. A tree that cannot take the event is known
-// before the results of any of its leaves are looked for, and is passed over. The definitions are in
-// `specs/Prepared.antt`.
+// The results of one residual's leaves, prepared in a store. A tree that cannot take the event is
+// known before the results of any of its leaves are looked for, and is passed over. The definitions
+// are in `specs/Prepared.antt`.
 use moves::takes_at;
 use residual::distinct;
 use residual::holds_at;
@@ -12,7 +12,7 @@ ghost use Prim.Native.Nat.{_+_, _*_, _≤_};
 ghost use lib.ListN.{length};
 ghost use Rattle.table.specs.Index.{tableIn, Indexed};
 ghost use Rattle.walk.specs.Course.{nodeCount};
-ghost use Rattle.step.specs.Prepared.{Sound, Filled, Blanked, Fills};
+ghost use Rattle.step.specs.Prepared.{Sound, NodeFilled, Blanked, Fills};
 
 // Fills node k's part of the store: the number of its results and their indices.
 fn prepare_node(list: &[u16], work: &[u64], bound: usize, e: u64, store: &mut [u64], k: usize)
@@ -20,7 +20,7 @@ fn prepare_node(list: &[u16], work: &[u64], bound: usize, e: u64, store: &mut [u
     requires { ⌜ Sound (tableIn (now list)) bound e (now store) ⌝ }
     requires { ⌜ (1 ≤ k) × (k ≤ nodeCount (now store)) ⌝ }
     ensures { λ _.
-        ⌜ Filled (tableIn (now (list .entry))) e (now (store .entry))
+        ⌜ NodeFilled (tableIn (now (list .entry))) e (now (store .entry))
         (now (store .exit)) k ⌝ }
 {
     let w = store[k];

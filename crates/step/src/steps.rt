@@ -44,16 +44,16 @@ fn step_many(
     requires { ⌜ Indexed (now list) (now work) ⌝ }
     requires { ⌜ StepsOne (tableIn (now list)) bound e (now src) i (now store) (now dst) c ⌝ }
     ensures { λ r.
-        ⌜ Gave (steppedOne (tableIn (now (list .entry))) e (now (src .entry)) i (now (dst .entry)) c)
-        r (now (dst .exit)) ⌝ }
+        ⌜ Gave (steppedOne (tableIn (now (list .entry))) e (now (src .entry)) i (now (dst .entry))
+        c) r (now (dst .exit)) ⌝ }
 {
     load(src, i * 16, store);
     prepare(list, work, bound, e, store);
     walk(list, work, store, bound, e, 1, 1, [0u64; 16], dst, c)
 }
 
-// Holds all results of the i-th residual of an area in another; only where its moves do not say them
-// is the store needed.
+// Holds all results of the i-th residual of an area in another; only where its moves do not say
+// them is the store needed.
 fn step_one(
     list: &[u16],
     work: &[u64],

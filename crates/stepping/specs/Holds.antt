@@ -1,7 +1,7 @@
 -- An area as the operations read it (01, "Residuals": "An area holds slots ascending by first differing word, then
 -- zeros").
---     Holds     an area that holds the slots of proper residuals, so many
---     heldIn    the residuals that so many slots of an area hold
+--     AreaHolds     an area that holds the slots of proper residuals, so many
+--     heldIn        the residuals that so many slots of an area hold
 -- The laws are in `Holds/Laws.antt`. Assumes nothing.
 use Prim.Native.Nat.{ℕ, _≤_}
 use mathlib.Core.Path.{_≡_}
@@ -16,7 +16,7 @@ use Rattle.monitor_spec.specs.State.{chunks, fill}
 use Rattle.monitor_spec.specs.Proper.{Proper}
 pub mod Laws
 
-pub record Holds (t : Table) (area : List ℕ) (count : ℕ) : Type 0 where
+pub record AreaHolds (t : Table) (area : List ℕ) (count : ℕ) : Type 0 where
   pub residuals : List Residual
   -- how many the area has room for
   pub slots : ℕ

@@ -14,6 +14,7 @@ use Rattle.table.specs.Resolve.Laws as residuals
 use Rattle.table.specs.Judge.Laws.{AcceptedList, list-out, list-in, AcceptedBytes, bytes-out, bytes-in}
 use Rattle.table.specs.Marks.Written.{table-numbers}
 use Rattle.table.specs.Refusals.AtNumbers.{refused-out, refused-in}
+use Rattle.table.specs.Refusals.Terms.{many-at}
 use Rattle.table.specs.Marks.Exact.{marks-out, marks-in}
 use Rattle.table.specs.BytesRefused.Exact.{refused-bytes-out}
 use Rattle.table.specs.BytesRefused.Given.{refused-bytes-in}
@@ -23,7 +24,7 @@ use Rattle.table.specs.Examples.Laws.{reads-hold, writes-hold}
 use Rattle.table.specs.Operations.Laws as operations
 use Rattle.table.specs.Claims.{NumberReadsBack, NumberCanonical, TableReadsBack, TableCanonical}
 use Rattle.table.specs.Claims.{AcceptedExactly, AcceptedBytesExactly, AcceptedWritesBack, WrittenReadsBack}
-use Rattle.table.specs.Claims.{RefusedExactly, RefusedBytesExactly, FieldsAreMarks}
+use Rattle.table.specs.Claims.{RefusedExactly, RefusedBytesExactly, ManyAtTerm, FieldsAreMarks}
 use Rattle.table.specs.Claims.{BranchesOfCall, ResolvedCall, WidthOfLevel, ResolvedCount, ReadFills, Examples}
 use Rattle.table.specs.Claims.{ResolvedReach, ReachMost, CappedBranches}
 
@@ -67,6 +68,10 @@ refused-exactly l n at = (refused-out l n at, refused-in l n at)
 pub refused-bytes-exactly : RefusedBytesExactly
 unfolding RefusedBytesExactly
 refused-bytes-exactly s n at w = (λ h. refused-bytes-out s n at h w, refused-bytes-in s n at w)
+
+pub many-at-term : ManyAtTerm
+unfolding ManyAtTerm
+many-at-term = many-at
 
 pub fields-are-marks : FieldsAreMarks
 unfolding FieldsAreMarks

@@ -6,6 +6,7 @@
 --     AcceptedBytesExactly                the bytes that are accepted
 --     RefusedExactly                      the number lists that are refused, with which number and place
 --     RefusedBytesExactly                 the bytes that are refused, with which number and place
+--     ManyAtTerm                          refusal 9's place is the number of a body or a follower with over 256 branches
 --     FieldsAreMarks                      the field rules hold where each number keeps its own bound
 --     AcceptedWritesBack                  what Read accepts, Write writes back byte for byte
 --     WrittenReadsBack                    what Write writes, Read reads back number for number
@@ -17,10 +18,11 @@
 -- Assumes nothing.
 use Prim.Native.Nat.{ℕ, _+_, _≤_, _<_, _-_}
 use mathlib.Core.Path.{_≡_}
+use mathlib.Core.Bool.{true, false}
 use mathlib.Core.Logic.{_↔_}
 use mathlib.Core.List.{List, _++_}
 use mathlib.Core.Option.{none}
-use lib.ListN.{length, take, drop}
+use lib.ListN.{length, take, drop, getD}
 use lib.Dec.{T}
 use Rattle.numbers.specs.Every.{All}
 use Rattle.table.specs.Table.{Term, call, Table}
@@ -34,7 +36,7 @@ use Rattle.table.specs.Context.{Each}
 use Rattle.table.specs.Fields.{Fields}
 use Rattle.table.specs.References.{firstWrong}
 use Rattle.table.specs.Width.{widthWith, widest, levelWidth, reach}
-use Rattle.table.specs.Branches.{branchesAt, branches, bodyIn}
+use Rattle.table.specs.Branches.{branchesAt, allBranches, branches, bodyIn}
 use Rattle.table.specs.Branches.Capped.{capped, cappedWith, allCapped}
 use Rattle.table.specs.Resolve.{Memory, noMemory, resolve, reachSum}
 use Rattle.table.specs.Equations.{callCount}
@@ -42,7 +44,7 @@ use Rattle.table.specs.Examples.{every, numberRows, tableRows, countRows
 use Rattle.table.specs.Rules.{Rules}
 use Rattle.table.specs.Marks.{tableMarks, Shape}
 use Rattle.table.specs.Parser.Mark.{Mark, numbers, Pass}
-use Rattle.table.specs.Refusals.{Refused}
+use Rattle.table.specs.Refusals.{Refused, fewTerms, ManyAt}
 use Rattle.table.specs.BytesRefused.{RefusedBytes}
 use Rattle.table.specs.Judge.{accepted, declined, judgeList, judgeBytes}
 use Rattle.table.specs.Operations.{Answer, done, Outcome, zeros, readOf, writeOf}
@@ -80,6 +82,12 @@ RefusedExactly = (l : List ℕ) (n at : ℕ) → (judgeList l ≡ declined n at)
 -- the same of bytes: "2; 3 to 5 at each number from the left; 6; 7 from the left; 8; 9"
 unfoldable pub RefusedBytesExactly : Type 0
 RefusedBytesExactly = (s : List ℕ) (n at : ℕ) → Bytes s → (judgeBytes s ≡ declined n at) ↔ RefusedBytes s n at
+
+-- "lowest such term": where `fewTerms` fails, the term of that number is a body or a prefix's follower
+unfoldable pub ManyAtTerm : Type 0
+ManyAtTerm =
+    (t : Table) (n : ℕ) → getD (fewTerms t) n true ≡ false
+    → ManyAt (branchesAt (allBranches (t .definitions))) (t .definitions) n
 
 unfoldable pub FieldsAreMarks : Type 0
 FieldsAreMarks = (t : Table) → (Fields t ↔ (Shape t × Pass (tableMarks t))) × (numbers (tableMarks t) ≡ numbersOf t)

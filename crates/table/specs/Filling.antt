@@ -109,9 +109,6 @@ pub record LevelDone (t : Table) (w w' : List ℕ) (level r : ℕ) : Type 0 wher
 abbrev pub BranchesKnown : Table → List ℕ → ℕ → Type 0
 BranchesKnown t w n = getD w (6144 + n) 0 ≡ capped (branches t (termOf t n))
 
-abbrev pub CallNamed : Table → ℕ → Type 0
-CallNamed t n = (d : ℕ) → termOf t n ≡ call d → d < length (t .definitions)
-
 abbrev pub prefixesAt : Table → ℕ → ℕ
 prefixesAt t n = nodeAt t n .spot .prefixes
 

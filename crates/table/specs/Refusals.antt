@@ -2,20 +2,22 @@
 -- parser.
 --     links           for each number of a table's writing: whether it keeps the rules on references
 --     fewTerms        for each term, in reading order: whether it is no body or follower, or has at most 256 branches
+--     ManyAt          a body or a follower, by its number, with over 256 branches
 --     narrowLevels    for each level: whether its width is at most 8
 --     Truncated, OutOfRange, TrailingInput                conditions 3, 5 and 6
 --     BadReference, TooWide, TooManyBranches, TooLong     conditions 7, 8, 9 and 2
 --     Refused         all of them
--- The laws are in `Refusals/Laws.antt`, `Exact.antt` and `AtNumbers.antt`. Assumes nothing.
+-- The laws are in `Refusals/`: `Laws`, `Judged`, `Stops`, `Exact`, `AtNumbers`, `Terms`. Assumes nothing.
 use Prim.Native.Nat.{ℕ, suc, _+_, _≤_, _<_}
 use mathlib.Core.Path.{_≡_}
 use mathlib.Core.Bool.{Bool, true, false}
 use mathlib.Core.List.{List, [], _∷_, _++_, flatMap, map}
-use lib.ListN.{length, replicate}
+use mathlib.Core.Option.{some}
+use lib.ListN.{length, take, replicate}
 use lib.Dec.{leb}
 use Rattle.table.specs.First.{FirstAt, AllPass}
 use Rattle.table.specs.Table.{SetRef, fixed, family, Term, stop, fail, prefix, choice, par, call, Definition}
-use Rattle.table.specs.Table.{Table}
+use Rattle.table.specs.Table.{Table, sizes, termOfDefs}
 use Rattle.numbers.specs.Number.{listBytes}
 use Rattle.table.specs.Context.{Context, outermost, underPrefix, underParallel}
 use Rattle.table.specs.Writing.{setNumbers, numbersOf}
@@ -70,6 +72,17 @@ fewFrom calls (d ∷ ds) = (leb (branchesWith calls (d .body)) 256 ∷ fewIn cal
 
 unfoldable pub fewTerms : Table → List Bool
 fewTerms t = fewFrom (branchesAt (allBranches (t .definitions))) (t .definitions)
+
+-- a body, or the follower of the prefix whose number is one less
+pub data BodyOrFollower (ds : List Definition) (n : ℕ) (p : Term) : Type 0 where
+  a-body : (d : ℕ) → d < length ds → n ≡ sizes (take d ds) → BodyOrFollower ds n p
+  a-follower : (m : ℕ) (r : SetRef) → n ≡ suc m → termOfDefs ds m ≡ some (prefix r p) → BodyOrFollower ds n p
+
+pub record ManyAt (calls : ℕ → ℕ) (ds : List Definition) (n : ℕ) : Type 0 where
+  pub term : Term
+  pub here : termOfDefs ds n ≡ some term
+  pub many : 256 < branchesWith calls term
+  pub place : BodyOrFollower ds n term
 
 unfoldable pub narrowLevels : Table → List Bool
 narrowLevels t = map (λ n. leb n 8) (allWidths (t .definitions))

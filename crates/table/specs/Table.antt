@@ -3,13 +3,13 @@
 --     SetDef, Table       a set; the alphabet, the sets and the definitions
 --     size, bodyNumber    terms are numbered in reading order: the number of each body
 --     termAt              the term of a number
---     enclosing, homeOf   of a term number: how many prefixes are around it, and its definition
+--     enclosing           of a term number: how many prefixes are around it
 -- Assumes nothing.
-use Prim.Native.Nat.{ℕ, zero, suc, _+_, _-_}
-use mathlib.Core.Bool.{Bool, true, false, cond}
+use Prim.Native.Nat.{ℕ, suc, _+_, _-_}
+use mathlib.Core.Bool.{true, false}
 use mathlib.Core.List.{List, [], _∷_}
 use mathlib.Core.Option.{Option, none, some}
-use lib.ListN.{length, getD, take}
+use lib.ListN.{getD, take}
 use lib.Dec.{eqb, ltb}
 
 -- "A set reference is a set number and, for a kind 1 set, a parameter k"
@@ -119,11 +119,3 @@ enclosingIn (d ∷ ds) n =
 
 unfoldable pub enclosing : Table → ℕ → ℕ
 enclosing t n = enclosingIn (t .definitions) n
-
--- the definition in which the term of a number stands
-unfoldable pub homeIn : List Definition → ℕ → ℕ
-homeIn [] n = 0
-homeIn (d ∷ ds) n = elim (ltb n (size (d .body))) [ true ↦ 0 | false ↦ suc (homeIn ds (n - size (d .body))) ]
-
-unfoldable pub homeOf : Table → ℕ → ℕ
-homeOf t n = homeIn (t .definitions) n

@@ -3,8 +3,8 @@
 --     afterKept    the residuals after an event, each leaf's repeats dropped
 --     mayMove      whether a residual may take an event: false only where there is no residual after it
 --     Forest       node words that are those of trees, one after the other
--- The laws are in `Forest/Words.antt` (node words), `Forest/Results.antt` (results are afterKept), `Forest/Still.antt` (a
--- tree that cannot take the event) and `Forest/Heads.antt` (the first tree). Assumes nothing.
+-- The laws are in `Forest/Words.antt` (node words), `Forest/Results.antt` (results are afterKept),
+-- `Forest/Still.antt` (a tree that cannot take the event) and `Forest/Heads.antt` (the first tree). Assumes nothing.
 use Prim.Native.Nat.{ℕ, _+_, _<_}
 use mathlib.Core.Path.{_≡_}
 use mathlib.Core.Bool.{Bool, true, false}

@@ -155,7 +155,8 @@ pub record ViewCall : Type 0 where
 abbrev pub viewSaid : ℕ → ℕ → ViewCall
 viewSaid n k = record { count = n; area = k }
 
--- "The present area is taken mod 2"; "the empty beginning of area 0", and ours: any part without words is said of area 0
+-- "The present area is taken mod 2"; "the empty beginning of area 0", and ours: any part without words is said of
+-- area 0
 unfoldable pub areaOf : ℕ → ℕ → ℕ
 areaOf count taken = elim (eqb count 0) [ true ↦ 0 | false ↦ taken % 2 ]
 

@@ -35,7 +35,7 @@ unfoldable pub valueOf : Answer → ℕ
 valueOf (done n) = n
 valueOf (refusal n at) = at
 
--- the promise of `tell`
+-- the promise of `tell_table`
 pub record Told (x : Answer) (n v : ℕ) : Type 0 where
   pub number : n ≡ numberOf x
   pub value : v ≡ valueOf x

@@ -7,8 +7,8 @@ use crate::record::store;
 use state::Answer;
 use state::Offered;
 
-// Of Start and Feed. The number to return; the place goes into place, and the record, if there is one,
-// into record.
+// Of Start and Feed. The number to return; the place goes into place, and the record, if there is
+// one, into record.
 pub fn tell(answer: Answer, record: &mut [u64], place: &mut u64) -> u32
     requires { ⌜ length (now «record») ≡ 4 ⌝ }
     ensures { λ r.

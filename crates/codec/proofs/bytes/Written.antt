@@ -1,5 +1,5 @@
 -- The bytes of a list, written number by number: what holds at each turn of `encode`.
---     Filled                       the bytes of the numbers before i stand in the output, the rest of which is kept
+--     OutputFilled                 the bytes of the numbers before i stand in the output, the rest of which is kept
 --     filled-none, filled-more     with none written; with one more
 --     filled-room, filled-done     there is room for the next; all are written
 -- Assumes nothing.
@@ -15,12 +15,12 @@ use Rattle.numbers.specs.Position.Laws.{next-stored, full-kept}
 use Rattle.numbers.specs.declared.Written.the-variants.{Next, Full}
 use Rattle.table.specs.BytesRefused.Listed.{bytes-more, length-more}
 
-pub record Filled (l out₀ out : List ℕ) (i p : ℕ) : Type 0 where
+pub record OutputFilled (l out₀ out : List ℕ) (i p : ℕ) : Type 0 where
   pub output : out ≡ listBytes (take i l) ++ drop p out₀
   pub place : p ≡ length (listBytes (take i l))
   pub within : i ≤ length l
 
-pub filled-none : (l out : List ℕ) → Filled l out out 0 0
+pub filled-none : (l out : List ℕ) → OutputFilled l out out 0 0
 unfolding listBytes
 filled-none l out = record { output = refl; place = refl; within = omega arith }
 
@@ -35,7 +35,7 @@ front-few (x ∷ l) (suc i) =
     let c = front-few l i in
     omega arith
 
-module _ (l out₀ out : List ℕ) (i p : ℕ) (f : Filled l out₀ out i p) (h : i < length l) where
+module _ (l out₀ out : List ℕ) (i p : ℕ) (f : OutputFilled l out₀ out i p) (h : i < length l) where
   pub filled-room : length (listBytes l) ≤ length out → Full ≡ endAt out p (getD l i 0) → ⊥
   filled-room r e =
       let k = full-kept out p (getD l i 0) e in
@@ -46,7 +46,7 @@ module _ (l out₀ out : List ℕ) (i p : ℕ) (f : Filled l out₀ out i p) (h 
       omega arith
 
   pub filled-more : (q : ℕ) (out' : List ℕ) → Next q ≡ endAt out p (getD l i 0) → out' ≡ storedAt out p (getD l i 0)
-      → Filled l out₀ out' (i + 1) q
+      → OutputFilled l out₀ out' (i + 1) q
   filled-more q out' e o =
       let k = next-stored out p (getD l i 0) q e in
       let a = k .next in
@@ -70,7 +70,7 @@ module _ (l out₀ out : List ℕ) (i p : ℕ) (f : Filled l out₀ out i p) (h 
         within = omega arith;
       }
 
-pub filled-done : (l out₀ out : List ℕ) (i p : ℕ) → Filled l out₀ out i p → length l ≤ i
+pub filled-done : (l out₀ out : List ℕ) (i p : ℕ) → OutputFilled l out₀ out i p → length l ≤ i
     → out ≡ listBytes l ++ drop (length (listBytes l)) out₀
 filled-done l out₀ out i p f h =
     let t : take i l ≡ l = take-all i l h in

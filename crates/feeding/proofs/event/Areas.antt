@@ -59,7 +59,8 @@ module _ (t : Table) (rules : Rules t) (e : ℕ) (known : e < t .alphabet) (p o 
   next = slotsOf (afterAll t e rs)
 
   pub holding-source : Source t e p c
-  holding-source = rw (h .held .words, h .held .number) (step-source t rules rs (h .held .proper) n (h .held .room) e known)
+  holding-source =
+      rw (h .held .words, h .held .number) (step-source t rules rs (h .held .proper) n (h .held .room) e known)
 
   sixteen : All Sixteen (slotsOf rs)
   sixteen = slots-all t (regular t rules) Sixteen (slot-sixteen t (regular t rules)) rs (h .held .proper)

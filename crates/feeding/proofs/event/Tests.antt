@@ -16,7 +16,7 @@ use Rattle.monitor_spec.specs.Feed.{nextSlots, taking, takeEvent}
 use Rattle.state.specs.declared.record.State.{State}
 use Rattle.feeding.specs.declared.event.Taken.the-variants.{Went, Stopped}
 use Rattle.state.specs.Record.{stateOf, monitorOf, Successor}
-use Rattle.feeding.specs.Feeding.{Filled, Kept, Moved, TakenBy}
+use Rattle.feeding.specs.Feeding.{AreasFilled, Kept, Moved, TakenBy}
 
 module _ (t : Table) (e : ℕ) (s : State) (a b : List ℕ) where
   abbrev m : Monitor
@@ -52,7 +52,7 @@ module _ (t : Table) (e : ℕ) (s : State) (a b : List ℕ) where
       unfolding takeEvent Moved
       taken-went c q s' f =
           let next = nextSlots t m e in
-          let k : Filled (slotCount a) next (taking m next .area0) (taking m next .area1) c a' b' = rw q at g in
+          let k : AreasFilled (slotCount a) next (taking m next .area0) (taking m next .area1) c a' b' = rw q at g in
           let x = f .event counts m next refl (sym (k .count)) in
           let y : monitorOf s' a' b' ≡ taking m next =
           λ i. record { state = x i; area0 = k .first i; area1 = k .second i } in

@@ -1,7 +1,7 @@
 -- Bytes added to a text.
 --     add-first, add-next, add-done     the loop of `add`
 --     number-added                      a space and a number
---     none-shown, spelled-shown         `spell`
+--     spelled-shown                     `spell`
 -- Assumes nothing.
 use Prim.Native.Nat.{ℕ, suc, _+_, _≤_, _<_}
 use native.Mathlib.Omega.{arith}

@@ -12,7 +12,7 @@ use Rattle.line_spec.specs.Pieces.{Course, going, over, concludeOf, afte
 use Rattle.line_spec.specs.Opening.{OpenAnswer, started, refuses, OpenOutcome, openOf, courseBy, openCourse}
 use Rattle.line_spec.specs.Whole.{ResumeOutcome}
 use Rattle.line_spec.specs.Lent.{resumeFirst, frontEvents, nextBy, resumeNext, resumeAll, lentPieces}
-use Rattle.line_spec.specs.Lent.{endsAll, endsBy, lentEnds}
+use Rattle.line_spec.specs.Lent.{withCourse, endsAll, endsBy, lentEnds}
 
 next-stays : (o : ResumeOutcome) (es : List ℕ) (x : Line) → o .course ≡ over x → resumeNext o es ≡ o
 unfolding resumeNext nextBy
@@ -25,8 +25,11 @@ stays o (es ∷ ess) x e = ap (λ (y : ResumeOutcome). resumeAll y ess .course) 
 
 -- by the course after a piece that is not the last
 more : (o : ResumeOutcome) (fs : List ℕ) (ess : List (List ℕ)) (c : Course) → o .course ≡ c
-    → endsAll o fs ess ≡ over (concludeOf (resumeAll o (fs ∷ ess) .course))
-    → elim (afterPiece false c) as (λ y. Course) [ going l m ↦ endsAll o fs ess | over x ↦ over x ]
+    → endsAll (withCourse o c) fs ess ≡ over (concludeOf (resumeAll o (fs ∷ ess) .course))
+    → elim (afterPiece false c) as (λ y. Course) [
+      | going l m ↦ endsAll (withCourse o (going l m)) fs ess
+      | over x ↦ over x
+    ]
     ≡ over (concludeOf (resumeAll o (fs ∷ ess) .course))
 unfolding afterPiece concludeOf
 more o fs ess (going l m) e i = i
@@ -34,9 +37,10 @@ more o fs ess (over x) e i = rw (stays o (fs ∷ ess) x e)
 
 ends-all : (o : ResumeOutcome) (es : List ℕ) (ess : List (List ℕ))
     → endsAll o es ess ≡ over (concludeOf (resumeAll o (es ∷ ess) .course))
-unfolding endsAll resumeAll afterPiece concludeOf
+unfolding endsAll resumeAll afterPiece concludeOf withCourse
 ends-all o es [] = refl
-ends-all o es (fs ∷ ess) = more (resumeNext o es) fs ess (resumeNext o es .course) refl (ends-all (resumeNext o es) fs ess)
+ends-all o es (fs ∷ ess) =
+    more (resumeNext o es) fs ess (resumeNext o es .course) refl (ends-all (resumeNext o es) fs ess)
 
 first-refused : (o : OpenOutcome) (n p : ℕ) → o .answer ≡ refuses n p → resumeFirst o .course ≡ over (refused n p)
 unfolding resumeFirst openCourse courseBy
@@ -47,7 +51,8 @@ by-answer : (s : List ℕ) (o : OpenOutcome) (ess : List (List ℕ)) (x : OpenAn
 unfolding endsBy frontEvents concludeOf
 by-answer s o ess (started st count next) e = ends-all (resumeFirst o) (drop next s) ess
 by-answer s o ess (refuses n p) e =
-    sym (ap (λ (c : Course). over (concludeOf c)) (stays (resumeFirst o) ([] ∷ ess) (refused n p) (first-refused o n p e)))
+    sym (ap (λ (c : Course). over (concludeOf c))
+    (stays (resumeFirst o) ([] ∷ ess) (refused n p) (first-refused o n p e)))
 
 pub ends-pieces : (s : List ℕ) (ess : List (List ℕ)) (l a b w : List ℕ) → lentEnds s ess l a b w
     ≡ over (lentPieces s ess l a b w)

@@ -16,7 +16,8 @@ use Rattle.monitor_spec.specs.Fold.{through}
 use Rattle.monitor_spec.specs.State.{State, Monitor, Outcome, areasMeasured, workMeasured}
 use Rattle.monitor_spec.specs.Feed.{takeEvent, endingOf, refusing, feedAccepted, feedJudged, feedOf}
 use Rattle.line_spec.specs.Line.{Line, refused, lineOf}
-use Rattle.line_spec.specs.Pieces.{Course, going, over, fed, fedBy, pieceOf, Front, frontOf, feedFront, concludeOf}
+use Rattle.line_spec.specs.Pieces.{Course, going, over, fed, fedBy, pieceOf, Front, frontOf, feedFront}
+use Rattle.line_spec.specs.Pieces.{concludeOf}
 use Rattle.line_spec.specs.Pieces.{throughPieces, piecesOf}
 use Rattle.line_spec.specs.Pieces.Joined.{over-stays, pieces-whole}
 use Rattle.line_spec.specs.Opening.{lent, OpenAnswer, started, refuses, OpenOutcome, openRefused, openOf}

@@ -23,7 +23,8 @@ use Rattle.monitor_spec.specs.History.Begun.{start-never}
 use Rattle.line_spec.specs.Line.{Head, parts, wrong, headOf, fresh, monitorLeft}
 use Rattle.line_spec.specs.Pieces.{Course, fed, fedBy, frontBy, frontHead, frontOf}
 use Rattle.line_spec.specs.Line.Laws.{head-events}
-use Rattle.line_spec.specs.Opening.{lentFit, lent, started, refuses, OpenOutcome, openRefused, startAnswer, startedOn}
+use Rattle.line_spec.specs.Opening.{lentFit, lent, started, refuses, OpenOutcome, openRefused, startAnswer}
+use Rattle.line_spec.specs.Opening.{startedOn}
 use Rattle.line_spec.specs.Opening.{openHead, openOf, courseBy, openCourse, OpenWay, lengthsWrong, headWrong}
 use Rattle.line_spec.specs.Opening.{tableDeclined, tableAccepted, Began}
 use Rattle.line_spec.specs.Opening.Laws.{fed-fresh, start-work, zeros-length, table-accepted, table-declined}

@@ -30,9 +30,11 @@ use Rattle.monitor_spec.specs.Expected.{monitorAfter}
 use Rattle.monitor_spec.specs.History.{Fresh}
 use Rattle.monitor_spec.specs.History.Laws.{extends}
 use Rattle.monitor_spec.specs.History.Begun.{Began, fresh-began, start-declined, start-unmeasured, start-never}
-use Rattle.line_spec.specs.Line.{Head, parts, wrong, headOf, Line, refused, stateLine, answerLine, fresh, monitorLeft}
+use Rattle.line_spec.specs.Line.{Head, parts, wrong, headOf, Line, refused, stateLine, answerLine, fresh}
+use Rattle.line_spec.specs.Line.{monitorLeft}
 use Rattle.line_spec.specs.Line.{startedBy, startedLine, readLine, headLine, lineOf}
-use Rattle.line_spec.specs.Pieces.{Course, going, over, fed, fedBy, pieceOf, frontBy, frontHead, frontOf, feedFront}
+use Rattle.line_spec.specs.Pieces.{Course, going, over, fed, fedBy, pieceOf, frontBy, frontHead, frontOf}
+use Rattle.line_spec.specs.Pieces.{feedFront}
 use Rattle.line_spec.specs.Pieces.{concludeOf, throughPieces, piecesOf}
 use Rattle.line_spec.specs.Pieces.Laws.{Good, courseBy, course, good-feed, piece-course, piece-more}
 use Rattle.line_spec.specs.Pieces.Whole.{widenHead, head-more}

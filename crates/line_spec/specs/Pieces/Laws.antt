@@ -1,6 +1,6 @@
 -- An input in pieces gives the line of the whole.
 --     fold-stopped         a fold that stopped does not see what follows
---     course, feed-course  what a fold of events leaves of a running monitor
+--     course, piece-course  what a fold of events leaves of a running monitor
 --     piece-more           two pieces are one
 -- Assumes nothing.
 use Prim.Native.Nat.{ℕ, suc, _+_, _≤_}

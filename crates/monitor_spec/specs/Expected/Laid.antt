@@ -24,7 +24,8 @@ use Rattle.monitor_spec.specs.Consistent.{every, allZero, ascendsFrom, a
 use Rattle.monitor_spec.specs.Consistent.{consistent}
 use Rattle.monitor_spec.specs.Feed.{presentSlots, nextSlots, nextVerdict, taking}
 use Rattle.monitor_spec.specs.State.Areas.{Sixteen, both-true, choose-twice, choose-flip, choose-same, choose-ap}
-use Rattle.monitor_spec.specs.State.Areas.{even-suc, length-fill, slotCount-fill, chunks-fill, zero-after, zero-fill}
+use Rattle.monitor_spec.specs.State.Areas.{even-suc, length-fill, slotCount-fill, chunks-fill, zero-after}
+use Rattle.monitor_spec.specs.State.Areas.{zero-fill}
 use Rattle.monitor_spec.specs.Sensible.{Agrees, Sensible}
 use Rattle.monitor_spec.specs.Expected.Verdicts.{slots-none, slots-some}
 

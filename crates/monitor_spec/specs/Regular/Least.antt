@@ -1,5 +1,5 @@
--- A level that has a body has some width (01, "Hands of a term": every STOP and FAIL counts 1, and so does a call to its own
--- level; a lower level has some width itself). Assumes nothing.
+-- A level that has a body has some width (01, "Hands of a term": every STOP and FAIL counts 1, and so does a call to
+-- its own level; a lower level has some width itself). Assumes nothing.
 use Prim.Native.Nat.{ℕ, zero, suc, _+_, max, _≤_, _<_}
 use native.Mathlib.Omega.{arith}
 use native.Mathlib.Decide.{ℕ-discrete}
@@ -49,16 +49,19 @@ module _ (t : Table) (rules : Rules t) where
   unfolding bodyOf levelIn
   body-some f d h k =
       some-term f (levelIn ds d) d k outermost (bodyOf t d)
-      (from-at (λ own x. Throughout (Linked ds (x .level) own) outermost (x .body)) _ 0 ds (linked t rules) d d (omega arith) h)
+      (from-at (λ own x. Throughout (Linked ds (x .level) own) outermost (x .body)) _ 0 ds (linked t rules) d d
+      (omega arith) h)
 
-  widest-at : (f : Term → ℕ) (l : ℕ) (xs : List Definition) (z : Definition) (d : ℕ) → d < length xs → getD xs d z .level ≡ l
+  widest-at : (f : Term → ℕ) (l : ℕ) (xs : List Definition) (z : Definition) (d : ℕ) → d < length xs
+      → getD xs d z .level ≡ l
       → f (getD xs d z .body) ≤ widest f l xs
   unfolding widest
   widest-at f l [] z d h e = absurd (omega arith)
   widest-at f l (x ∷ xs) z zero h e = simp (eq-eqb _ _ e) (omega arith)
   widest-at f l (x ∷ xs) z (suc d) h e =
       let more = widest-at f l xs z d (omega arith) e in
-      cond-cases (λ (n : ℕ). f (getD xs d z .body) ≤ n) (eqb (x .level) l) (max (f (x .body)) (widest f l xs)) (widest f l xs)
+      cond-cases (λ (n : ℕ). f (getD xs d z .body) ≤ n) (eqb (x .level) l) (max (f (x .body)) (widest f l xs))
+      (widest f l xs)
       (λ _. omega arith) (λ _. more)
 
   level-widest : (f : Term → ℕ) (d : ℕ) → d < length ds → f (bodyOf t d) ≤ widest f (levelIn ds d) ds

@@ -23,7 +23,8 @@ use Rattle.monitor_spec.specs.Regular.{Regular}
 use Rattle.monitor_spec.specs.Meaning.{joinAt, denote, IsLeaf, IsPar, Sound}
 use Rattle.monitor_spec.specs.Residual.Resolve.{map-flat, denote-leaf, denote-pair, denote-join}
 use Rattle.monitor_spec.specs.Residual.Resolve.{pairs-denote, resolveIn-denote, resolve-at, pairs-sound}
-use Rattle.monitor_spec.specs.Residual.Resolve.{resolveIn-sound, number-scoped, resolveDef-denote, resolveDef-sound}
+use Rattle.monitor_spec.specs.Residual.Resolve.{resolveIn-sound, number-scoped, resolveDef-denote}
+use Rattle.monitor_spec.specs.Residual.Resolve.{resolveDef-sound}
 
 module _ (t : Table) where
   module _ (regular : Regular t) where

@@ -22,7 +22,8 @@ use Rattle.monitor_spec.specs.Part.Numbers.{number-at}
 use Rattle.table.specs.Memory.{Memory}
 use Rattle.meaning.specs.Closing.{close}
 use Rattle.meaning.specs.Closing.Laws.{guarded-close}
-use Rattle.monitor_spec.specs.Residual.{Residual, leaf, pair, resolveDef, resolve, run, fromDefinition, residualsOf}
+use Rattle.monitor_spec.specs.Residual.{Residual, leaf, pair, resolveDef, resolve, run, fromDefinition}
+use Rattle.monitor_spec.specs.Residual.{residualsOf}
 use Rattle.monitor_spec.specs.Regular.{Regular}
 use Rattle.monitor_spec.specs.Meaning.{joinAt, denote, IsLeaf, IsPar, Sound, Some}
 use Rattle.monitor_spec.specs.Residual.Resolve.{some-map, denote-leaf, denote-join, number-guarded}

@@ -10,7 +10,7 @@ use Rattle.table.specs.Table.{Table, Term, stop, fail, prefix, choice, par, cal
 use Rattle.table.specs.Memory.{Memory}
 use Rattle.monitor_spec.specs.Residual.{Residual, leaf, pair}
 use Rattle.monitor_spec.specs.Meaning.{IsLeaf, IsPar, Sound}
-use Rattle.monitor_spec.specs.Slots.{pack, termOf, memoryOf, nodes, slotOf}
+use Rattle.monitor_spec.specs.Slots.{pack, termOfWord, memoryOf, nodes, slotOf}
 use Rattle.monitor_spec.specs.Valid.{joinTrees, plant, plantWord, forest, oneTree, slotResidual}
 
 -- each of the four digits has its six bits
@@ -20,9 +20,9 @@ pub record Six (m : Memory) : Type 0 where
   pub s2 : m .m2 < 64
   pub s3 : m .m3 < 64
 
-pub termOf-pack : (n : ℕ) (m : Memory) → Six m → termOf (pack n m) ≡ n
-unfolding termOf pack
-termOf-pack n m h = omega arith
+pub term-pack : (n : ℕ) (m : Memory) → Six m → termOfWord (pack n m) ≡ n
+unfolding termOfWord pack
+term-pack n m h = omega arith
 
 memory-path : (a b : Memory) → a .m0 ≡ b .m0 → a .m1 ≡ b .m1 → a .m2 ≡ b .m2 → a .m3 ≡ b .m3 → a ≡ b
 memory-path a b p q r s i = record { m0 = p i; m1 = q i; m2 = r i; m3 = s i }
@@ -40,9 +40,9 @@ module _ (t : Table) where
       → plantWord t (pack n m) rs ≡ plant n m rs x
   unfolding plantWord
   plant-at n m rs x h e =
-      let a : termOf (pack n m) ≡ n = termOf-pack n m h in
+      let a : termOfWord (pack n m) ≡ n = term-pack n m h in
       let b : memoryOf (pack n m) ≡ m = memoryOf-pack n m h in
-      let f : termAt t (termOf (pack n m)) ≡ some x = ap (termAt t) a ∙ e in
+      let f : termAt t (termOfWord (pack n m)) ≡ some x = ap (termAt t) a ∙ e in
       rw (f, plantWord) (ap₂ (λ (i : ℕ) (k : Memory). plant i k rs x) a b)
 
   plant-leaf : (n : ℕ) (m : Memory) (rs : List Residual) (x : Term) → IsLeaf x → plant n m rs x ≡ some (leaf n m ∷ rs)

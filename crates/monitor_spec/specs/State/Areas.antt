@@ -49,10 +49,6 @@ even-suc n = by (native.Mathlib.Decide.ℕ-discrete (n % 2) 0)
     by (yes h) = rw (eq-eqb (n % 2) 0 h) (ne-eqb (suc n % 2) 0 (λ k. omega arith))
     by (no h) = rw (ne-eqb (n % 2) 0 h) (eq-eqb (suc n % 2) 0 (omega arith))
 
-pub even-zero : even 0 ≡ true
-unfolding even
-even-zero = refl
-
 -- ---- lengths
 
 pub length-flatten : (ss : List (List ℕ)) → All Sixteen ss → length (flatten ss) ≡ length ss * 16

@@ -15,7 +15,7 @@ use Rattle.table.specs.Memory.{Memory, digit}
 use Rattle.monitor_spec.specs.Regular.{Regular}
 use Rattle.monitor_spec.specs.Residual.{Residual, leaf, pair}
 use Rattle.monitor_spec.specs.Meaning.{Sound}
-use Rattle.monitor_spec.specs.Slots.{Order, below, same, above, termOf, memoryOf, slotOf, compareWords}
+use Rattle.monitor_spec.specs.Slots.{Order, below, same, above, termOfWord, memoryOf, slotOf, compareWords}
 use Rattle.monitor_spec.specs.Slots.Comparison.{cmp-refl, same-eq}
 use Rattle.monitor_spec.specs.Valid.{joinTrees, plant, plantWord, forest, oneTree, slotResidual, digitFits}
 use Rattle.monitor_spec.specs.Valid.{memoryFits, memoriesFit, reachSum, isSame, validSlot}
@@ -135,12 +135,12 @@ module _ (t : Table) where
   plant-sound n m (par s x y) e rs qs h p = join-sound n m x x y s e rs qs h p
   plant-sound n m (call d) e rs qs h p = none-some qs p
 
-  pub plant-none : (w : ℕ) (rs : List Residual) → termAt t (termOf w) ≡ none → plantWord t w rs ≡ none
+  pub plant-none : (w : ℕ) (rs : List Residual) → termAt t (termOfWord w) ≡ none → plantWord t w rs ≡ none
   unfolding plantWord
   plant-none w rs e = rw (e, plantWord)
 
-  pub plant-some : (w : ℕ) (rs : List Residual) (x : Term) → termAt t (termOf w) ≡ some x
-      → plantWord t w rs ≡ plant (termOf w) (memoryOf w) rs x
+  pub plant-some : (w : ℕ) (rs : List Residual) (x : Term) → termAt t (termOfWord w) ≡ some x
+      → plantWord t w rs ≡ plant (termOfWord w) (memoryOf w) rs x
   unfolding plantWord
   plant-some w rs x e = rw (e, plantWord)
 
@@ -159,14 +159,14 @@ module _ (t : Table) where
   forest-sound (w ∷ ws) qs p = by (forest t ws) refl (forest-sound ws)
     where
       word : (rs : List Residual) → All (Sound t) rs → plantWord t w rs ≡ some qs → (o : Option Term)
-          → termAt t (termOf w) ≡ o → All (Sound t) qs
+          → termAt t (termOfWord w) ≡ o → All (Sound t) qs
       word rs h q none e = none-some qs (sym (plant-none w rs e) ∙ q)
-      word rs h q (some x) e = plant-sound (termOf w) (memoryOf w) x e rs qs h (sym (plant-some w rs x e) ∙ q)
+      word rs h q (some x) e = plant-sound (termOfWord w) (memoryOf w) x e rs qs h (sym (plant-some w rs x e) ∙ q)
 
       by : (o : Option (List Residual)) → forest t ws ≡ o
           → ((rs : List Residual) → forest t ws ≡ some rs → All (Sound t) rs) → All (Sound t) qs
       by none e ih = none-some qs (sym (forest-none w ws e) ∙ p)
-      by (some rs) e ih = word rs (ih rs e) (sym (forest-some w ws rs e) ∙ p) (termAt t (termOf w)) refl
+      by (some rs) e ih = word rs (ih rs e) (sym (forest-some w ws rs e) ∙ p) (termAt t (termOfWord w)) refl
 
   one-sound : (rs : List Residual) (r : Residual) → All (Sound t) rs → oneTree rs ≡ some r → Sound t r
   unfolding oneTree

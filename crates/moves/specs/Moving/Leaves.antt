@@ -37,7 +37,8 @@ unfoldable pub leafLeft : Table → ℕ → List ℕ → ℕ → ℕ → ℕ →
 leafLeft t e src p n also slot dst c i =
     putAll dst c
     (onto slot
-    (ending (rebuilt t e (window (p + 1) (n - 1) src) (also / 2)) (drop i (map words (leafResults t e (getD src p 0))))))
+    (ending (rebuilt t e (window (p + 1) (n - 1) src) (also / 2))
+    (drop i (map words (leafResults t e (getD src p 0))))))
 
 module _ {t : Table} {bound e : ℕ} {src : List ℕ} {p n also : ℕ} {slot dst : List ℕ} {c : ℕ}
     (s : StepsLeaf t bound e src p n also slot dst c) where
@@ -119,7 +120,12 @@ module _ {t : Table} {bound e : ℕ} {src : List ℕ} {p n also : ℕ} {slot dst
             inside = omega (arith, s .inside, s .some);
             rest = record {
               size = rw written (length-pushAll slot _ ∙ here .size);
-              room = rw written (omega (arith, fits, head-pushAll slot (words (nth (resolved t (k + 1) m) i)) (here .size)));
+              room =
+                  rw written (omega (
+                    arith,
+                    fits,
+                    head-pushAll slot (words (nth (resolved t (k + 1) m) i)) (here .size),
+                  ));
               marked = here .marked .1;
             };
           }

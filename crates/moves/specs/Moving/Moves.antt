@@ -47,7 +47,8 @@ module _ {t : Table} {bound e : ℕ} {src : List ℕ} {p n each also : ℕ} {slo
     (s : MovesLeft t e src p n each also slot dst c o) where
   pub left-end : each ≡ 0 → Gave o (Count c) dst
   unfolding steppedMoves onto
-  left-end z = record { same = put-none dst c ∙ rw (z, moved-none t e (window p n src) also) at (s .same); fits = s .held }
+  left-end z =
+      record { same = put-none dst c ∙ rw (z, moved-none t e (window p n src) also) at (s .same); fits = s .held }
 
   module _ (some : 0 < each) where
     abbrev first : ℕ

@@ -97,9 +97,6 @@ module _ {t : Table} {bound e w m : ℕ} {slot : List ℕ} (b : Carries t bound 
 
   module _ (law : Lawful t) (z : m % 2 ≡ 0 → ⊥) (n mm k : ℕ) (en : n ≡ termOfWord w) (emm : mm ≡ memoryOfWord w)
       (ek : k ≡ remember e mm) where
-    pub carry-active : termOfWord w < termCount t
-    carry-active = b .single z .active .within
-
     follows : Follows t bound e w slot
     follows = record {
       single = b .single z;

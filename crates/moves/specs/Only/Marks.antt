@@ -23,7 +23,7 @@ use Rattle.residual.specs.Words.{nodeWord, termOfWord, kindAt, holdsAt}
 use Rattle.residual.specs.Residual.{Residual, leaf, pair, words}
 use Rattle.walk.specs.Walk.{option}
 use Rattle.moves.specs.declared.only.Moves.{Moves}
-use Rattle.moves.specs.Only.{marksOf, countWay, leafWay, bitsOf, pairMoves, eitherBy, bothBy, joined, wayOf}
+use Rattle.moves.specs.Only.{marksOf, countWay, leafWay, bitsOf, pairMoves, eitherBy, bothBy, pairWay, wayOf}
 use Rattle.moves.specs.Only.{grown, rebuilt, Movable, Marked}
 
 -- ---- node words
@@ -53,7 +53,8 @@ module _ (t : Table) (e : ℕ) where
   -- the marks of one list above those of another
   pub above : (a b k : ℕ) → ((a + b * 2 ^ suc k) % 2 ≡ a % 2) × ((a + b * 2 ^ suc k) / 2 ≡ a / 2 + b * 2 ^ k)
   above a b k =
-      let z : b * 2 ^ suc k ≡ 2 * (b * 2 ^ k) = rw (pow-suc 2 k) (sym (mul-assoc b (2 ^ k) 2) ∙ mul-comm (b * 2 ^ k) 2) in
+      let z : b * 2 ^ suc k ≡ 2 * (b * 2 ^ k) =
+      rw (pow-suc 2 k) (sym (mul-assoc b (2 ^ k) 2) ∙ mul-comm (b * 2 ^ k) 2) in
       (omega (arith, z), omega (arith, z))
 
   pub half-small : (a k : ℕ) → a < 2 ^ suc k → a / 2 < 2 ^ k
@@ -115,24 +116,24 @@ module _ (a b : Moves) (p q : ℕ) (h : a .each + a .also < 2 ^ p) (k : b .each 
   both-small false true = pair-small (a .each) (a .also) 0 (b .each + b .also) p q false h (omega arith)
   both-small false false = none-small p q
 
-joined-small : (a b : Way) (h : Bool) (p q : ℕ) → marksOf a < 2 ^ p → marksOf b < 2 ^ q
-    → marksOf (joined a b h (p + 1)) < 2 ^ suc (p + q)
-joined-small Still Still h p q x y = none-small p q
-joined-small Still (Moving b) true p q x y = none-small p q
-joined-small Still (Moving b) false p q x y =
+ways-small : (a b : Way) (h : Bool) (p q : ℕ) → marksOf a < 2 ^ p → marksOf b < 2 ^ q
+    → marksOf (pairWay a b h (p + 1)) < 2 ^ suc (p + q)
+ways-small Still Still h p q x y = none-small p q
+ways-small Still (Moving b) true p q x y = none-small p q
+ways-small Still (Moving b) false p q x y =
     pair-small 0 0 (b .each) (b .also) p q (b .lone) (omega (arith, pow-pos p)) y
-joined-small Still Many true p q x y = none-small p q
-joined-small Still Many false p q x y = none-small p q
-joined-small (Moving a) Still true p q x y = none-small p q
-joined-small (Moving a) Still false p q x y =
+ways-small Still Many true p q x y = none-small p q
+ways-small Still Many false p q x y = none-small p q
+ways-small (Moving a) Still true p q x y = none-small p q
+ways-small (Moving a) Still false p q x y =
     pair-small (a .each) (a .also) 0 0 p q (a .lone) x (omega (arith, pow-pos q))
-joined-small (Moving a) (Moving b) true p q x y = both-small a b p q x y (a .lone) (b .lone)
-joined-small (Moving a) (Moving b) false p q x y = either-small a b p q x y (eqb (a .also + b .also) 0)
-joined-small (Moving a) Many h p q x y = none-small p q
-joined-small Many Still true p q x y = none-small p q
-joined-small Many Still false p q x y = none-small p q
-joined-small Many (Moving b) h p q x y = none-small p q
-joined-small Many Many h p q x y = none-small p q
+ways-small (Moving a) (Moving b) true p q x y = both-small a b p q x y (a .lone) (b .lone)
+ways-small (Moving a) (Moving b) false p q x y = either-small a b p q x y (eqb (a .also + b .also) 0)
+ways-small (Moving a) Many h p q x y = none-small p q
+ways-small Many Still true p q x y = none-small p q
+ways-small Many Still false p q x y = none-small p q
+ways-small Many (Moving b) h p q x y = none-small p q
+ways-small Many Many h p q x y = none-small p q
 
 leaf-small : (t : Table) (e w : ℕ) → marksOf (leafWay t e w) < 2
 unfolding leafWay
@@ -152,7 +153,7 @@ unfolding wayOf words
 marks-small t e (leaf n m) = leaf-small t e (nodeWord n m)
 marks-small t e (pair n m l r) =
     rw (length-append (words l) (words r))
-    (joined-small (wayOf t e l) (wayOf t e r) (holdsAt t e (nodeWord n m)) (length (words l)) (length (words r))
+    (ways-small (wayOf t e l) (wayOf t e r) (holdsAt t e (nodeWord n m)) (length (words l)) (length (words r))
     (marks-small t e l) (marks-small t e r))
 
 -- the marks of a pair fit a word

@@ -20,11 +20,13 @@ use Rattle.moves.specs.Only.Marks.{grown-kept, rebuilt-append, above, ha
 
 ending-append : (c d : List ℕ) (xs : List (List ℕ)) → ending (c ++ d) xs ≡ ending d (ending c xs)
 ending-append c d [] = refl
-ending-append c d (x ∷ xs) = ap₂ (λ (y : List ℕ) (l : List (List ℕ)). y ∷ l) (sym (append-assoc x c d)) (ending-append c d xs)
+ending-append c d (x ∷ xs) =
+    ap₂ (λ (y : List ℕ) (l : List (List ℕ)). y ∷ l) (sym (append-assoc x c d)) (ending-append c d xs)
 
 starting-append : (c d : List ℕ) (xs : List (List ℕ)) → starting (c ++ d) xs ≡ starting c (starting d xs)
 starting-append c d [] = refl
-starting-append c d (x ∷ xs) = ap₂ (λ (y : List ℕ) (l : List (List ℕ)). y ∷ l) (append-assoc c d x) (starting-append c d xs)
+starting-append c d (x ∷ xs) =
+    ap₂ (λ (y : List ℕ) (l : List (List ℕ)). y ∷ l) (append-assoc c d x) (starting-append c d xs)
 
 starting-ending : (o c : List ℕ) (xs : List (List ℕ)) → starting o (ending c xs) ≡ ending c (starting o xs)
 starting-ending o c [] = refl

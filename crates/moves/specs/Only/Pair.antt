@@ -24,7 +24,7 @@ use Rattle.walk.specs.Walk.{joins, before}
 use Rattle.walk.specs.Forest.{Valid}
 use Rattle.walk.specs.Forest.Words.{holds-of-node, words-pairs}
 use Rattle.walk.specs.Forest.Still.{pairs-nil}
-use Rattle.moves.specs.Only.{marksOf, bitsOf, pairMoves, eitherBy, bothBy, joined}
+use Rattle.moves.specs.Only.{marksOf, bitsOf, pairMoves, eitherBy, bothBy, pairWay}
 use Rattle.moves.specs.Only.{wayOf, rebuilt, ending, starting, moved, Movable, Marked}
 use Rattle.moves.specs.Only.Marks.{grown-kept, rebuilt-none, rebuilt-append, marked-none}
 use Rattle.moves.specs.Only.Marks.{marked-append, movable-none, movable-append, above, bits-sum, marks-small}
@@ -204,7 +204,7 @@ module _ (t : Table) (e n m : ℕ) (l r : Residual) (v : m < 16777216) where
     both-moves false false ep eq z = tt
 
   pair-became : (a b : Way) (h : Bool) → holdsAt t e (nodeWord n m) ≡ h → marksOf a < 2 ^ ll
-      → Became t e l a → Became t e r b → Became t e (pair n m l r) (joined a b h (ll + 1))
+      → Became t e l a → Became t e r b → Became t e (pair n m l r) (pairWay a b h (ll + 1))
   pair-became Still Still h z s x y = still-both h z x y
   pair-became Still (Moving b) true z s x y = still-left z x
   pair-became Still (Moving b) false z s x y = right-moves b y z x

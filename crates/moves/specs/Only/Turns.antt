@@ -1,5 +1,5 @@
 -- The way of a residual: one law per way out of its functions.
---     way-none, way-one, way-many        `leaf_way`
+--     way-none, way-one, way-several     `leaf_way`
 --     short-left, short-right            where the sides of a pair stand
 --     only-leaf, only-none, only-pair    `only_at`
 --     root-leaf, root-tree               `way_of`
@@ -25,7 +25,7 @@ use Rattle.walk.specs.Forest.Words.{kind-of-node}
 use Rattle.walk.specs.Forest.Words.{words-positive}
 use Rattle.moves.specs.Takes.Laws.{first-word, sides, skipped}
 use Rattle.moves.specs.Only.{marksOf, leafMoves, countWay, leafWay}
-use Rattle.moves.specs.Only.{joined, wayOf, ShortTree, Only, Rooted, WayIn}
+use Rattle.moves.specs.Only.{pairWay, wayOf, ShortTree, Only, Rooted, WayIn}
 use Rattle.moves.specs.Only.Marks.{marks-fit}
 use Rattle.moves.specs.Only.Laws.{way-not-kind, way-held}
 
@@ -123,7 +123,7 @@ module _ {t : Table} {area : List ℕ} (k : ℕ) (s : ShortTree t area k) where
             )
 
         pub only-pair : (h : Bool) → h ≡ holdsAt t e (getD area k 0) → (v : Way)
-            → v ≡ joined (a .way) (b .way) h (a .next - k) → Only t e area k (record { way = v; next = b .next })
+            → v ≡ pairWay (a .way) (b .way) h (a .next - k) → Only t e area k (record { way = v; next = b .next })
         unfolding words wayOf
         only-pair h eh v ev = record { of = told }
           where

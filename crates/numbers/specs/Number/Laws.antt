@@ -6,13 +6,13 @@
 use Prim.Native.Nat.{ℕ, _+_, _*_, _/_, _%_, _≤_, _<_}
 use native.Mathlib.Omega.{arith}
 use native.Mathlib.Decide.{decLt}
-use mathlib.Core.Path.{_≡_, refl, ap, _∙_, subst}
+use mathlib.Core.Path.{_≡_, refl, ap, _∙_}
 use mathlib.Core.List.{List, [], _∷_, _++_}
 use lib.ListN.{length}
 use borrow.Author.Tests.{le-ltb, lt-ltb}
 use Rattle.numbers.specs.Every.{All}
 use Rattle.numbers.specs.Number.{Bytes, groups, bytesOf, byteCount, value, readNumber, valueOf}
-use Rattle.numbers.specs.Number.Groups.{groups-short, groups-long, groups-some, groups-few, groups-bytes}
+use Rattle.numbers.specs.Number.Groups.{groups-short, groups-long, groups-some, groups-few}
 use Rattle.numbers.specs.Number.Groups.{limit-65536, scan-written, scan-is-written}
 
 -- ---- bytesOf, by cases
@@ -63,13 +63,6 @@ bytes-some v = groups-some 2 v
 pub bytes-few : (v : ℕ) → length (bytesOf v) ≤ 3
 unfolding bytesOf
 bytes-few v = groups-few 2 v
-
-pub byteCount-le : (v : ℕ) → byteCount v ≤ 3
-byteCount-le v = subst (λ (k : ℕ). k ≤ 3) (length-bytesOf v) (bytes-few v)
-
-pub bytes-of-bytes : (v : ℕ) → v ≤ 65535 → Bytes (bytesOf v)
-unfolding bytesOf
-bytes-of-bytes v h = groups-bytes 2 3 v (omega arith) (omega (arith, limit-65536))
 
 -- ---- what is written reads back
 pub read-written : (v : ℕ) (s : List ℕ) → v ≤ 65535 → readNumber (bytesOf v ++ s) ≡ value v (length (bytesOf v)) s

@@ -16,7 +16,7 @@ use Rattle.walk.specs.declared.nodes.Tree.{Tree}
 use Rattle.moves.specs.Takes.{Takes}
 use Rattle.monitor_spec.specs.Residual.{Residual, leaf, after, afterAll}
 use Rattle.monitor_spec.specs.Offer.{bitOf}
-use Rattle.stepping.specs.Holds.{Holds, heldIn}
+use Rattle.stepping.specs.Holds.{AreaHolds, heldIn}
 use Rattle.stepping.specs.Holds.Laws.{length-held, holds-takes}
 
 none-first : (l m : List Residual) → ltb 0 (length l) ≡ false → bitOf 0 m ≡ bitOf 0 (l ++ m)
@@ -58,7 +58,7 @@ module _ (t : Table) (e : ℕ) (rs : List Residual) (i : ℕ) where
   bit-end h = sym (ap (λ (l : List Residual). bitOf 0 (afterAll t e l)) (drop-of-length-le rs {i = i} h))
 
 -- the residuals that an area holds
-module _ {t : Table} (rules : Rules t) {a : List ℕ} {c : ℕ} (holds : Holds t a c) (e : ℕ) (i : ℕ) where
+module _ {t : Table} (rules : Rules t) {a : List ℕ} {c : ℕ} (holds : AreaHolds t a c) (e : ℕ) (i : ℕ) where
   module _ (h : i < c) (known : e < t .alphabet) (r : Tree) (takes : Takes t e a (i * 16 + 1) r) where
     pub bit-next : r .moves ≡ false → bitFrom t e (heldIn t a c) (i + 1) ≡ bitFrom t e (heldIn t a c) i
     bit-next q =

@@ -18,7 +18,7 @@ use Rattle.monitor_spec.specs.Feed.{presentSlots}
 use Rattle.monitor_spec.specs.Offer.{Offered, offers, refused, bitsBelow, offerBits, offering, offerJudged}
 use Rattle.state.specs.Record.{verdictOf, monitorOf}
 use Rattle.state.specs.Record.View.{present-even, present-odd}
-use Rattle.stepping.specs.Holds.{Holds, heldIn}
+use Rattle.stepping.specs.Holds.{AreaHolds, heldIn}
 use Rattle.stepping.specs.Holds.Laws.{present-holds}
 
 pub equal-lengths : (a b : List ℕ) → areasMeasured a b ≡ true → length a ≡ length b
@@ -69,11 +69,11 @@ module _ (l : List ℕ) (t : Table) (s : State) (a b w : List ℕ) where
 -- the area that holds the residuals
 module _ (t : Table) (rules : Rules t) (s : State) (a b : List ℕ) (m : areasMeasured a b ≡ true) (r : Bool)
     (agrees : r ≡ consistent t (monitorOf s a b)) (left : not r ≡ false) where
-  present : Holds t (choose (even (s .taken)) a b) (s .count)
+  present : AreaHolds t (choose (even (s .taken)) a b) (s .count)
   present = present-holds t rules (monitorOf s a b) m (sym agrees ∙ not-false r left)
 
-  pub even-holds : s .taken % 2 ≡ 0 → Holds t a (s .count)
-  even-holds e = subst (λ (x : List ℕ). Holds t x (s .count)) (present-even (s .taken) a b e) present
+  pub even-holds : s .taken % 2 ≡ 0 → AreaHolds t a (s .count)
+  even-holds e = subst (λ (x : List ℕ). AreaHolds t x (s .count)) (present-even (s .taken) a b e) present
 
-  pub odd-holds : (s .taken % 2 ≡ 0 → ⊥) → Holds t b (s .count)
-  odd-holds e = subst (λ (x : List ℕ). Holds t x (s .count)) (present-odd (s .taken) a b e) present
+  pub odd-holds : (s .taken % 2 ≡ 0 → ⊥) → AreaHolds t b (s .count)
+  odd-holds e = subst (λ (x : List ℕ). AreaHolds t x (s .count)) (present-odd (s .taken) a b e) present

@@ -12,44 +12,44 @@ use mathlib.Core.Bool.{Bool, true, false}
 use mathlib.Core.List.{List, [], _∷_, _++_}
 use lib.ListN.{length, getD, set, length-append, length-set}
 use lib.Seq.{take-set-le, getD-set-same, getD-set-other}
-use Rattle.residual.specs.Distinct.{sameWords, window, keyFrom, heldIn, keep, kept, Known, heldSlots, Stored}
+use Rattle.residual.specs.Distinct.{sameWords, window, keyFrom, isKept, keep, kept, Known, heldSlots, Stored}
 use Rattle.residual.specs.Distinct.Laws.{window-none, window-cons, kept-held, kept-new, snoc-window}
 use Rattle.residual.specs.Distinct.Words.{differ-by, window-all, hold-here, hold-kept}
 
 -- ---- found
 
-held-cons : (f : ℕ → List ℕ) (k : ℕ) (ks s : List ℕ) → sameWords s (f k) ≡ true → heldIn f (k ∷ ks) s ≡ true
-unfolding heldIn
-held-cons f k ks s e = rw (e, heldIn)
+held-cons : (f : ℕ → List ℕ) (k : ℕ) (ks s : List ℕ) → sameWords s (f k) ≡ true → isKept f (k ∷ ks) s ≡ true
+unfolding isKept
+held-cons f k ks s e = rw (e, isKept)
 
-held-skip : (f : ℕ → List ℕ) (k : ℕ) (ks s : List ℕ) → sameWords s (f k) ≡ false → heldIn f (k ∷ ks) s ≡ heldIn f ks s
-unfolding heldIn
-held-skip f k ks s e = rw (e, heldIn)
+held-skip : (f : ℕ → List ℕ) (k : ℕ) (ks s : List ℕ) → sameWords s (f k) ≡ false → isKept f (k ∷ ks) s ≡ isKept f ks s
+unfolding isKept
+held-skip f k ks s e = rw (e, isKept)
 
 pub held-first : (f : ℕ → List ℕ) (l s : List ℕ) (p q n k : ℕ) → q ≡ p → n ≡ k
-    → heldIn f (window q n l) s ≡ heldIn f (window p k l) s
+    → isKept f (window q n l) s ≡ isKept f (window p k l) s
 held-first f l s p q n k e d = rw (e, d)
 
-module _ (f : ℕ → List ℕ) (l s : List ℕ) (p n : ℕ) (x : Bool) (v : heldIn f (window p n l) s ≡ x) where
+module _ (f : ℕ → List ℕ) (l s : List ℕ) (p n : ℕ) (x : Bool) (v : isKept f (window p n l) s ≡ x) where
   pub held-none : n ≡ 0 → false ≡ x
-  unfolding heldIn
+  unfolding isKept
   held-none e = rw (e, window-none p l) at v
 
   module _ (h : p < length l) (w : 0 < n) where
-    whole : heldIn f (getD l p 0 ∷ window (p + 1) (n - 1) l) s ≡ x
+    whole : isKept f (getD l p 0 ∷ window (p + 1) (n - 1) l) s ≡ x
     whole = let e : n ≡ suc (n - 1) = omega arith in rw (e, window-cons p (n - 1) l h) at v
 
     pub held-here : (b : Bool) → b ≡ sameWords s (f (getD l p 0)) → b ≡ true → true ≡ x
     held-here b eb k = sym (held-cons f _ (window (p + 1) (n - 1) l) s (sym eb ∙ k)) ∙ whole
 
     pub held-on : (b : Bool) → b ≡ sameWords s (f (getD l p 0)) → b ≡ false → (q m : ℕ) → q ≡ p + 1 → n ≡ suc m
-        → heldIn f (window q m l) s ≡ x
+        → isKept f (window q m l) s ≡ x
     held-on b eb k q m eq em =
         let d : m ≡ n - 1 = omega arith in
         rw (eq, d) (sym (held-skip f _ (window (p + 1) (n - 1) l) s (sym eb ∙ k)) ∙ whole)
 
     pub held-off : (a : ℕ) → a ≡ keyFrom 0 (f (getD l p 0)) → (a ≡ keyFrom 0 s → ⊥) → (q m : ℕ) → q ≡ p + 1 → n ≡ suc m
-        → heldIn f (window q m l) s ≡ x
+        → isKept f (window q m l) s ≡ x
     held-off a ea ne =
         held-on false (sym (differ-by s (f (getD l p 0)) _ refl (λ g. ne (ea ∙ sym g)))) refl
 
@@ -74,8 +74,8 @@ head-first f bound old at keys slots =
 
 module _ (f : ℕ → List ℕ) (bound : ℕ) (old new : List ℕ) (at k i : ℕ) (keys slots : List ℕ)
     (h : Head f bound old new at k i keys slots) (s : List ℕ) (es : s ≡ f i) (b : Bool)
-    (eb : b ≡ heldIn f (window at k new) s) where
-  judged : heldIn f (kept f i) (f i) ≡ b
+    (eb : b ≡ isKept f (window at k new) s) where
+  judged : isKept f (kept f i) (f i) ≡ b
   judged = rw (← es, ← (h .indices .here)) (sym eb)
 
   pub head-held : b ≡ true → Head f bound old new at k (i + 1) keys slots
@@ -140,7 +140,7 @@ kept-none f old at c e = rw e (head-first f 0 old at old old .indices)
 
 pub kept-one : (f : ℕ → List ℕ) (old : List ℕ) (at c : ℕ) → c ≡ 1 → at < length old
     → Stored old (set old at 0) at 1 (kept f c)
-unfolding kept keep heldIn
+unfolding kept keep isKept
 kept-one f old at c e h =
     let z : at + 0 ≡ at = omega arith in
     rw e
@@ -160,18 +160,18 @@ module _ (f : ℕ → List ℕ) (old : List ℕ) (at c : ℕ) (e : c ≡ 2) (h :
   one = kept-one f old at 1 refl (omega arith)
 
   only : kept f 1 ≡ 0 ∷ []
-  unfolding kept keep heldIn
+  unfolding kept keep isKept
   only = refl
 
   pub kept-same : b ≡ true → Stored old (set old at 0) at 1 (kept f c)
   kept-same k =
-      let g : heldIn f (kept f 1) (f 1) ≡ true = rw only (held-cons f 0 [] (f 1) (compared ∙ k)) in
+      let g : isKept f (kept f 1) (f 1) ≡ true = rw only (held-cons f 0 [] (f 1) (compared ∙ k)) in
       rw (e, kept-held f 1 2 refl g) one
 
   pub kept-both : b ≡ false → Stored old (set (set old at 0) (at + 1) 1) at 2 (kept f c)
-  unfolding heldIn
+  unfolding isKept
   kept-both k =
-      let g : heldIn f (kept f 1) (f 1) ≡ false = rw only (held-skip f 0 [] (f 1) (compared ∙ k)) in
+      let g : isKept f (kept f 1) (f 1) ≡ false = rw only (held-skip f 0 [] (f 1) (compared ∙ k)) in
       rw (e, kept-new f 1 2 refl g)
       (record {
         before = take-set-le at (set old at 0) (at + 1) 1 (omega arith) ∙ one .before;

@@ -20,7 +20,7 @@ use Rattle.table.specs.Branches.Capped.{capped}
 use Rattle.table.specs.Node.{termOf}
 use Rattle.residual.specs.Residual.Resolved.{length-resolved}
 use Rattle.residual.specs.Residual.{resolved, Resolves}
-use Rattle.residual.specs.Distinct.{sameWords, window, heldIn, keep, kept, empty, Resolvable, Indices}
+use Rattle.residual.specs.Distinct.{sameWords, window, isKept, keep, kept, empty, Resolvable, Indices}
 
 -- ---- sameWords
 
@@ -66,24 +66,24 @@ window-cons p n l h = rw (drop-cons l p 0 h, add-one)
 
 -- ---- kept
 
-keep-held : (f : ℕ → List ℕ) (ks : List ℕ) (i : ℕ) → heldIn f ks (f i) ≡ true → keep f ks i ≡ ks
+keep-held : (f : ℕ → List ℕ) (ks : List ℕ) (i : ℕ) → isKept f ks (f i) ≡ true → keep f ks i ≡ ks
 unfolding keep
 keep-held f ks i e = rw (e, keep)
 
-keep-new : (f : ℕ → List ℕ) (ks : List ℕ) (i : ℕ) → heldIn f ks (f i) ≡ false → keep f ks i ≡ ks ++ (i ∷ [])
+keep-new : (f : ℕ → List ℕ) (ks : List ℕ) (i : ℕ) → isKept f ks (f i) ≡ false → keep f ks i ≡ ks ++ (i ∷ [])
 unfolding keep
 keep-new f ks i e = rw (e, keep)
 
-pub kept-held : (f : ℕ → List ℕ) (i j : ℕ) → j ≡ i + 1 → heldIn f (kept f i) (f i) ≡ true → kept f j ≡ kept f i
+pub kept-held : (f : ℕ → List ℕ) (i j : ℕ) → j ≡ i + 1 → isKept f (kept f i) (f i) ≡ true → kept f j ≡ kept f i
 unfolding kept
 kept-held f i j ej e = rw (ej, add-one) (keep-held f (kept f i) i e)
 
-pub kept-new : (f : ℕ → List ℕ) (i j : ℕ) → j ≡ i + 1 → heldIn f (kept f i) (f i) ≡ false → kept f j
+pub kept-new : (f : ℕ → List ℕ) (i j : ℕ) → j ≡ i + 1 → isKept f (kept f i) (f i) ≡ false → kept f j
     ≡ kept f i ++ (i ∷ [])
 unfolding kept
 kept-new f i j ej e = rw (ej, add-one) (keep-new f (kept f i) i e)
 
-by-held : (f : ℕ → List ℕ) (i : ℕ) (b : Bool) → heldIn f (kept f i) (f i) ≡ b → (P : List ℕ → Type 0) → P (kept f i)
+by-held : (f : ℕ → List ℕ) (i : ℕ) (b : Bool) → isKept f (kept f i) (f i) ≡ b → (P : List ℕ → Type 0) → P (kept f i)
     → P (kept f i ++ (i ∷ [])) → P (kept f (suc i))
 by-held f i true e P x y = rw (kept-held f i (suc i) (omega arith) e) x
 by-held f i false e P x y = rw (kept-new f i (suc i) (omega arith) e) y
@@ -103,22 +103,22 @@ pub kept-below : (f : ℕ → List ℕ) (i : ℕ) → Indices (kept f i) i
 unfolding kept
 kept-below f zero = record { at = λ j h. absurd (omega arith) }
 kept-below f (suc i) =
-    by-held f i (heldIn f (kept f i) (f i)) refl (λ l. Indices l (suc i)) (more (kept f i) i (kept-below f i))
+    by-held f i (isKept f (kept f i) (f i)) refl (λ l. Indices l (suc i)) (more (kept f i) i (kept-below f i))
     (snoc-below (kept f i) i (kept-below f i))
 
 pub kept-few : (f : ℕ → List ℕ) (i : ℕ) → length (kept f i) ≤ i
 unfolding kept
 kept-few f zero = omega arith
 kept-few f (suc i) =
-    by-held f i (heldIn f (kept f i) (f i)) refl (λ l. length l ≤ suc i) (omega (arith, kept-few f i))
+    by-held f i (isKept f (kept f i) (f i)) refl (λ l. length l ≤ suc i) (omega (arith, kept-few f i))
     (omega (arith, kept-few f i, length-append (kept f i) (i ∷ [])))
 
 -- the first one is
 pub kept-some : (f : ℕ → List ℕ) (i : ℕ) → 0 < length (kept f (suc i))
-unfolding kept heldIn
+unfolding kept isKept
 kept-some f zero = rw (kept-new f 0 1 refl refl) (omega arith)
 kept-some f (suc i) =
-    by-held f (suc i) (heldIn f (kept f (suc i)) (f (suc i))) refl (λ l. 0 < length l) (kept-some f i)
+    by-held f (suc i) (isKept f (kept f (suc i)) (f (suc i))) refl (λ l. 0 < length l) (kept-some f i)
     (omega (arith, length-append (kept f (suc i)) (suc i ∷ [])))
 
 -- ---- the store

@@ -76,7 +76,8 @@ module _ {t : Table} {n₀ m₀ i₀ : ℕ} {slot : List ℕ} {b n m j k : ℕ} 
         left-less =
             let q = go-left t b n m j slot (l .resolves) k (l .kind) _ c refl three ec lt in omega (arith, q .lower)
 
-        pub left-next : (k' : ℕ) → (k' ≡ kindOf (termOf t (n + 1))) × (k' ≤ 5) → Descent t n₀ m₀ i₀ slot b (n + 1) m j k'
+        pub left-next : (k' : ℕ) → (k' ≡ kindOf (termOf t (n + 1))) × (k' ≤ 5)
+            → Descent t n₀ m₀ i₀ slot b (n + 1) m j k'
         left-next k' ek =
             let q = go-left t b n m j slot (l .resolves) k (l .kind) _ c refl three ec lt in
             record { resolves = q .resolves; same = q .same ∙ l .same; kind = ek .0; most = ek .1 }

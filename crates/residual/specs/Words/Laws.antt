@@ -1,7 +1,7 @@
 -- The events of a memory, one law per parameter.
 --     digit-fixed, -first, -second, -third, -last     what a parameter recalls
 --     digits-below                                    four events below a number are all
---     digits-remember, remember-small                 of a memory with one event more
+--     remember-small                                  of a memory with one event more
 -- Assumes nothing.
 use Prim.Native.Nat.{ℕ, zero, suc, _/_, _%_, _<_, _≤_}
 use native.Mathlib.Omega.{arith}
@@ -44,11 +44,3 @@ digits-below a m h p q r s (suc (suc (suc (suc k)))) = s
 pub remember-small : (e m : ℕ) → e < 64 → m < 16777216 → remember e m < 16777216
 unfolding remember
 remember-small e m h k = omega arith
-
-pub digits-remember : (a e m : ℕ) → a ≤ 64 → e < a → m < 16777216 → DigitsBelow a m → DigitsBelow a (remember e m)
-unfolding digitOf remember
-digits-remember a e m h k s d zero = omega arith
-digits-remember a e m h k s d (suc zero) = omega arith
-digits-remember a e m h k s d (suc (suc zero)) = omega (arith, d 1)
-digits-remember a e m h k s d (suc (suc (suc zero))) = omega (arith, d 2)
-digits-remember a e m h k s d (suc (suc (suc (suc n)))) = omega (arith, d 3)

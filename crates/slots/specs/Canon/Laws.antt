@@ -7,7 +7,7 @@ use native.Mathlib.Omega.{arith}
 use native.Mathlib.Decide.{decLt}
 use mathlib.Core.Path.{_≡_, refl, ap, sym, _∙_}
 use mathlib.Core.Bool.{true, false}
-use mathlib.Core.List.{List, [], _∷_, _++_, append-assoc}
+use mathlib.Core.List.{List, [], _∷_, _++_, append-assoc, flatten}
 use lib.ListN.{length, take, drop, replicate, length-append, length-replicate}
 use lib.ListN.{replicate-append-replicate}
 use lib.Seq.{length-take-le, take-take, drop-drop, take-at, drop-at, take-append-le, take-all}
@@ -21,31 +21,31 @@ use Rattle.slots.specs.declared.slots.Inserted.the-variants as ins
 use Rattle.slots.specs.declared.slots.Held.{Held}
 use Rattle.slots.specs.declared.slots.Held.the-variants.{Count, Exceeded}
 use Rattle.slots.specs.Holding.{Outcome, said, putOne, chain, putAll}
-use Rattle.slots.specs.Canon.{byOrder, insertSlot, canonFrom, joined, areaOf, Slots}
+use Rattle.slots.specs.Canon.{byOrder, insertSlot, canonFrom, areaOf, Slots}
 use Rattle.slots.specs.Canon.Sets.{Sorted, insert-slots, insert-sorted}
 use Rattle.slots.specs.Canon.Places.{placeAmong, place-in, Split, split-place, held-same}
 
 -- ---- the words of an area
 
-joined-append : (a b : List (List ℕ)) → joined (a ++ b) ≡ joined a ++ joined b
-unfolding joined
-joined-append [] b = refl
-joined-append (x ∷ a) b = rw (joined-append a b) (sym (append-assoc x (joined a) (joined b)))
+flatten-append : (a b : List (List ℕ)) → flatten (a ++ b) ≡ flatten a ++ flatten b
+unfolding flatten
+flatten-append [] b = refl
+flatten-append (x ∷ a) b = rw (flatten-append a b) (sym (append-assoc x (flatten a) (flatten b)))
 
 slots-append : (a b : List (List ℕ)) → Slots (a ++ b) → Slots a × Slots b
 slots-append [] b v = (tt, v)
 slots-append (x ∷ a) b v = let r = slots-append a b (v .1) in ((v .0, r .0), r .1)
 
-length-joined : (xs : List (List ℕ)) → Slots xs → length (joined xs) ≡ length xs * 16
-unfolding joined
-length-joined [] v = omega arith
-length-joined (x ∷ xs) v = length-append x (joined xs) ∙ omega (arith, v .0, length-joined xs (v .1))
+length-flatten : (xs : List (List ℕ)) → Slots xs → length (flatten xs) ≡ length xs * 16
+unfolding flatten
+length-flatten [] v = omega arith
+length-flatten (x ∷ xs) v = length-append x (flatten xs) ∙ omega (arith, v .0, length-flatten xs (v .1))
 
 length-area : (cap : ℕ) (xs : List (List ℕ)) → Slots xs → length xs ≤ cap → length (areaOf cap xs) ≡ cap * 16
 unfolding areaOf
 length-area most xs v h =
-    length-append (joined xs) _
-    ∙ omega (arith, length-joined xs v, length-replicate {A = ℕ} ((most - length xs) * 16) 0)
+    length-append (flatten xs) _
+    ∙ omega (arith, length-flatten xs v, length-replicate {A = ℕ} ((most - length xs) * 16) 0)
 
 zeros-less : (n : ℕ) → drop {A = ℕ} 16 (replicate (n + 16) 0) ≡ replicate n 0
 zeros-less n =
@@ -126,33 +126,33 @@ module _ (most : ℕ) (xs : List (List ℕ)) (s : List ℕ) (v : Slots xs) (u : 
 
     module _ (w : length xs < most) where
       area-before : areaOf most xs
-          ≡ joined (d .a) ++ (joined (d .b) ++ replicate ((most - length xs - 1) * 16 + 16) 0)
+          ≡ flatten (d .a) ++ (flatten (d .b) ++ replicate ((most - length xs - 1) * 16 + 16) 0)
       unfolding areaOf
       area-before =
           let z : (most - length xs) * 16 ≡ (most - length xs - 1) * 16 + 16 = omega arith in
-          ap (λ (k : ℕ). joined xs ++ replicate k 0) z
+          ap (λ (k : ℕ). flatten xs ++ replicate k 0) z
           ∙ ap (λ (l : List ℕ). l ++ replicate ((most - length xs - 1) * 16 + 16) 0)
-          (ap joined (d .whole) ∙ joined-append (d .a) (d .b))
-          ∙ append-assoc (joined (d .a)) (joined (d .b)) _
+          (ap flatten (d .whole) ∙ flatten-append (d .a) (d .b))
+          ∙ append-assoc (flatten (d .a)) (flatten (d .b)) _
 
       area-after : areaOf most (insertSlot s xs)
-          ≡ joined (d .a) ++ (s ++ (joined (d .b) ++ replicate ((most - length xs - 1) * 16) 0))
-      unfolding areaOf joined
+          ≡ flatten (d .a) ++ (s ++ (flatten (d .b) ++ replicate ((most - length xs - 1) * 16) 0))
+      unfolding areaOf flatten
       area-after =
           let z : (most - length (insertSlot s xs)) * 16 ≡ (most - length xs - 1) * 16 = omega (arith, longer) in
-          ap (λ (k : ℕ). joined (insertSlot s xs) ++ replicate k 0) z
+          ap (λ (k : ℕ). flatten (insertSlot s xs) ++ replicate k 0) z
           ∙ ap (λ (l : List ℕ). l ++ replicate ((most - length xs - 1) * 16) 0)
-          (ap joined (d .put) ∙ joined-append (d .a) (s ∷ d .b))
-          ∙ append-assoc (joined (d .a)) (s ++ joined (d .b)) _
-          ∙ ap (λ (l : List ℕ). joined (d .a) ++ l) (append-assoc s (joined (d .b)) _)
+          (ap flatten (d .put) ∙ flatten-append (d .a) (s ∷ d .b))
+          ∙ append-assoc (flatten (d .a)) (s ++ flatten (d .b)) _
+          ∙ ap (λ (l : List ℕ). flatten (d .a) ++ l) (append-assoc s (flatten (d .b)) _)
 
       inserted : stored (gapped (areaOf most xs) (i * 16) (length xs * 16)) (i * 16) s 16
           ≡ areaOf most (insertSlot s xs)
       inserted =
           ap (λ (l : List ℕ). stored (gapped l (i * 16) (length xs * 16)) (i * 16) s 16) area-before
-          ∙ opened (joined (d .a)) (joined (d .b)) s ((most - length xs - 1) * 16) (i * 16) (length xs * 16)
-          (length-joined (d .a) (parts .0) ∙ omega (arith, d .count))
-          (omega (arith, length-joined (d .a) (parts .0), length-joined (d .b) (parts .1), lengths)) es
+          ∙ opened (flatten (d .a)) (flatten (d .b)) s ((most - length xs - 1) * 16) (i * 16) (length xs * 16)
+          (length-flatten (d .a) (parts .0) ∙ omega (arith, d .count))
+          (omega (arith, length-flatten (d .a) (parts .0), length-flatten (d .b) (parts .1), lengths)) es
           ∙ sym area-after
 
       put-new-slot : putOne (areaOf most xs) (length xs) s

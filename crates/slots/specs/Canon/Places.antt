@@ -7,14 +7,14 @@
 use Prim.Native.Nat.{ℕ, zero, suc, _+_, _*_, _≤_, _<_}
 use native.Mathlib.Omega.{arith}
 use mathlib.Core.Path.{_≡_, refl, ap, sym, _∙_}
-use mathlib.Core.List.{List, [], _∷_, _++_, append-assoc}
+use mathlib.Core.List.{List, [], _∷_, _++_, append-assoc, flatten}
 use lib.ListN.{length, getD, length-append, List·getD-append}
 use lib.Seq.{getD-append-add}
 use Rattle.slots.specs.Slots.{Order, below, same, above, order, seek, placeBy, isAbove, placeIn}
 use Rattle.slots.specs.Slots.Narrow.{Ascends, above-of, place-seek}
 use Rattle.slots.specs.declared.slots.Place.{Place}
 use Rattle.slots.specs.declared.slots.Place.the-variants as place
-use Rattle.slots.specs.Canon.{insertSlot, joined, Slots}
+use Rattle.slots.specs.Canon.{insertSlot, Slots}
 use Rattle.slots.specs.Canon.Compare.{stepOrder, order-step, cmp, order-cmp, cmp-trans}
 use Rattle.slots.specs.Canon.Sets.{AllAbove, Sorted}
 
@@ -41,27 +41,27 @@ placeAmong [] s i = place.At i
 placeAmong (y ∷ ys) s i = placeBy (order 16 y 0 s 0) (place.At i) (placeAmong ys s (i + 1))
 
 -- slots in an area, past the first words `pre`
-past : (y : List ℕ) (ys : List (List ℕ)) (pre zs : List ℕ) → pre ++ (joined (y ∷ ys) ++ zs)
-    ≡ (pre ++ y) ++ (joined ys ++ zs)
-unfolding joined
+past : (y : List ℕ) (ys : List (List ℕ)) (pre zs : List ℕ) → pre ++ (flatten (y ∷ ys) ++ zs)
+    ≡ (pre ++ y) ++ (flatten ys ++ zs)
+unfolding flatten
 past y ys pre zs =
-    ap (λ (l : List ℕ). pre ++ l) (append-assoc y (joined ys) zs) ∙ sym (append-assoc pre y (joined ys ++ zs))
+    ap (λ (l : List ℕ). pre ++ l) (append-assoc y (flatten ys) zs) ∙ sym (append-assoc pre y (flatten ys ++ zs))
 
 order-first : (y : List ℕ) (ys : List (List ℕ)) (pre zs s : List ℕ) (i : ℕ) → length pre ≡ i * 16 → length y ≡ 16
-    → order 16 (pre ++ (joined (y ∷ ys) ++ zs)) (i * 16) s 0 ≡ order 16 y 0 s 0
-unfolding joined
+    → order 16 (pre ++ (flatten (y ∷ ys) ++ zs)) (i * 16) s 0 ≡ order 16 y 0 s 0
+unfolding flatten
 order-first y ys pre zs s i h w =
     let z : i * 16 ≡ length pre + 0 = omega arith in
-    ap (λ (l : List ℕ). order 16 (pre ++ l) (i * 16) s 0) (append-assoc y (joined ys) zs)
-    ∙ ap (λ (k : ℕ). order 16 (pre ++ (y ++ (joined ys ++ zs))) k s 0) z
-    ∙ order-within 16 pre y (joined ys ++ zs) s 0 0 (omega (arith, w))
+    ap (λ (l : List ℕ). order 16 (pre ++ l) (i * 16) s 0) (append-assoc y (flatten ys) zs)
+    ∙ ap (λ (k : ℕ). order 16 (pre ++ (y ++ (flatten ys ++ zs))) k s 0) z
+    ∙ order-within 16 pre y (flatten ys ++ zs) s 0 0 (omega (arith, w))
 
 seek-in : (ys : List (List ℕ)) (pre zs s : List ℕ) (i : ℕ) → length pre ≡ i * 16 → Slots ys
-    → seek (length ys) (pre ++ (joined ys ++ zs)) s i ≡ placeAmong ys s i
+    → seek (length ys) (pre ++ (flatten ys ++ zs)) s i ≡ placeAmong ys s i
 unfolding seek placeAmong
 seek-in [] pre zs s i h v = refl
 seek-in (y ∷ ys) pre zs s i h v =
-    let r : seek (length ys) (pre ++ (joined (y ∷ ys) ++ zs)) s (i + 1) ≡ placeAmong ys s (i + 1) =
+    let r : seek (length ys) (pre ++ (flatten (y ∷ ys) ++ zs)) s (i + 1) ≡ placeAmong ys s (i + 1) =
     ap (λ (l : List ℕ). seek (length ys) l s (i + 1)) (past y ys pre zs)
     ∙ seek-in ys (pre ++ y) zs s (i + 1) (length-append pre y ∙ omega (arith, v .0)) (v .1) in
     rw (order-first y ys pre zs s i h (v .0), r)
@@ -130,14 +130,14 @@ slot-at (y ∷ ys) zero v h = v .0
 slot-at (y ∷ ys) (suc i) v h = slot-at ys i (v .1) (omega arith)
 
 order-at : (ys : List (List ℕ)) (pre zs s : List ℕ) (k i : ℕ) → length pre ≡ k * 16 → Slots ys → i < length ys
-    → order 16 (pre ++ (joined ys ++ zs)) ((k + i) * 16) s 0 ≡ order 16 (slotAt ys i) 0 s 0
+    → order 16 (pre ++ (flatten ys ++ zs)) ((k + i) * 16) s 0 ≡ order 16 (slotAt ys i) 0 s 0
 order-at [] pre zs s k i h v l = absurd (omega arith)
 order-at (y ∷ ys) pre zs s k zero h v l =
     let z : (k + 0) * 16 ≡ k * 16 = omega arith in
-    ap (λ (n : ℕ). order 16 (pre ++ (joined (y ∷ ys) ++ zs)) n s 0) z ∙ order-first y ys pre zs s k h (v .0)
+    ap (λ (n : ℕ). order 16 (pre ++ (flatten (y ∷ ys) ++ zs)) n s 0) z ∙ order-first y ys pre zs s k h (v .0)
 order-at (y ∷ ys) pre zs s k (suc i) h v l =
     let z : (k + suc i) * 16 ≡ (k + 1 + i) * 16 = omega arith in
-    ap (λ (n : ℕ). order 16 (pre ++ (joined (y ∷ ys) ++ zs)) n s 0) z
+    ap (λ (n : ℕ). order 16 (pre ++ (flatten (y ∷ ys) ++ zs)) n s 0) z
     ∙ ap (λ (w : List ℕ). order 16 w ((k + 1 + i) * 16) s 0) (past y ys pre zs)
     ∙ order-at ys (pre ++ y) zs s (k + 1) i (length-append pre y ∙ omega (arith, v .0)) (v .1) (omega arith)
 
@@ -157,18 +157,18 @@ above-earlier (y ∷ ys) s (suc i) zero u h l e = absurd (omega arith)
 above-earlier (y ∷ ys) s (suc i) (suc j) u h l e = above-earlier ys s i j (u .1) (omega arith) (omega arith) e
 
 module _ (s : List ℕ) (es : length s ≡ 16) (xs : List (List ℕ)) (zs : List ℕ) (v : Slots xs) where
-  cmp-at : (i : ℕ) → i < length xs → order 16 (joined xs ++ zs) (i * 16) s 0 ≡ cmp (slotAt xs i) s
+  cmp-at : (i : ℕ) → i < length xs → order 16 (flatten xs ++ zs) (i * 16) s 0 ≡ cmp (slotAt xs i) s
   cmp-at i h =
       let z : i * 16 ≡ (0 + i) * 16 = omega arith in
-      ap (λ (k : ℕ). order 16 (joined xs ++ zs) k s 0) z ∙ order-at xs [] zs s 0 i refl v h
+      ap (λ (k : ℕ). order 16 (flatten xs ++ zs) k s 0) z ∙ order-at xs [] zs s 0 i refl v h
       ∙ order-cmp 16 (slotAt xs i) s (slot-at xs i v h) es
 
-  ascends : Sorted xs → Ascends (joined xs ++ zs) s (length xs)
+  ascends : Sorted xs → Ascends (flatten xs ++ zs) s (length xs)
   ascends u i j h l e =
       ap isAbove (cmp-at i (omega arith)
       ∙ above-earlier xs s i j u h l (sym (cmp-at j l) ∙ above-of _ e))
 
   -- among ascending slots in an area
-  pub place-in : Sorted xs → placeIn (length xs) (joined xs ++ zs) s ≡ placeAmong xs s 0
+  pub place-in : Sorted xs → placeIn (length xs) (flatten xs ++ zs) s ≡ placeAmong xs s 0
   place-in u =
-      place-seek (joined xs ++ zs) s (length xs) (ascends u) ∙ seek-in xs [] zs s 0 refl v
+      place-seek (flatten xs ++ zs) s (length xs) (ascends u) ∙ seek-in xs [] zs s 0 refl v

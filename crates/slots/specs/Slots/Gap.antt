@@ -1,12 +1,12 @@
 -- Loops that store one word a turn: words that move up by sixteen, from the last on, and a slot over an area.
---     gap-none, gap-step, gap-length     of `gapped`
+--     gap-none, gap-step     of `gapped`
 --     stored-none, stored-step           of `stored`
 -- Assumes nothing.
 use Prim.Native.Nat.{ℕ, suc, _+_, _≤_, _<_}
 use native.Mathlib.Omega.{arith}
 use mathlib.Core.Path.{_≡_, _∙_}
-use mathlib.Core.List.{List, [], _∷_, _++_}
-use lib.ListN.{length, getD, set, take, drop, length-append, length-take, length-drop, List·getD-append}
+use mathlib.Core.List.{List, _∷_, _++_}
+use lib.ListN.{length, getD, set, take, drop, length-take, List·getD-append}
 use lib.ListN.{take-append-drop}
 use lib.Seq.{slice, slice-empty, slice-cons, take-suc, append-snoc, set-at, getD-take, length-take-le, paste-zero}
 use lib.Seq.{paste-suc}
@@ -16,10 +16,6 @@ module _ (l : List ℕ) (n : ℕ) (room : n + 16 ≤ length l) where
   pub gap-none : l ≡ gapped l n n
   unfolding gapped
   gap-none = simp (slice-empty, take-append-drop)
-
-  pub gap-length : (p : ℕ) → p ≤ n → length (gapped l p n) ≡ length l
-  unfolding gapped
-  gap-length p h = simp (length-append, length-take, length-drop) (omega arith)
 
   module _ (m : ℕ) (h : m < n) where
     read : getD (gapped l (suc m) n) m 0 ≡ getD l m 0

@@ -139,7 +139,8 @@ module _ {l w : List ℕ} (x : Indexed l w) (d n : ℕ) (en : n ≡ length (tabl
       started-given n er s f =
           let room = start-room n er in
           let o = start-gave ∙ start-holds (tableIn l) (indexed-rules x) (slotCount a) room in
-          let number : length (slotsOf (residualsOf (tableIn l) [])) ≡ n = ap (λ (x : Outcome). countOf (x .held)) (sym o)
+          let number : length (slotsOf (residualsOf (tableIn l) [])) ≡ n =
+          ap (λ (x : Outcome). countOf (x .held)) (sym o)
           ∙ ap countOf er in
           let state = f .same (slotsOf (residualsOf (tableIn l) [])) number in
           record {

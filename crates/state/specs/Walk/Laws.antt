@@ -11,10 +11,10 @@ use Rattle.table.specs.Node.{termOf as nodeTerm, kindOf}
 use Rattle.table.specs.Width.{reach}
 use Rattle.state.specs.declared.valid.Forest.{Forest}
 use Rattle.state.specs.declared.valid.Forest.the-variants.{Broken, Trees}
-use Rattle.monitor_spec.specs.Slots.{termOf, memoryOf}
+use Rattle.monitor_spec.specs.Slots.{termOfWord, memoryOf}
 use Rattle.monitor_spec.specs.Valid.{memoryFits}
 use Rattle.monitor_spec.specs.Valid.Laws.{and-split}
-use Rattle.state.specs.Walk.{Few, withLeaf, joined, wordFits, plantedBy, planted}
+use Rattle.state.specs.Walk.{Few, withLeaf, paired, wordFits, plantedBy, planted}
 
 -- ---- few trees
 
@@ -27,10 +27,10 @@ unfolding withLeaf
 few-leaf r Broken k h x = tt
 few-leaf r (Trees n s) k h (a, b) = (omega arith, omega arith)
 
-few-joined : (f : Forest) (k : ℕ) → Few f k → Few (joined f) (suc k)
-unfolding joined
-few-joined Broken k x = tt
-few-joined (Trees n s) k (a, b) = by (ltb n 2)
+few-paired : (f : Forest) (k : ℕ) → Few f k → Few (paired f) (suc k)
+unfolding paired
+few-paired Broken k x = tt
+few-paired (Trees n s) k (a, b) = by (ltb n 2)
   where
     by : (z : Bool) → Few (elim z [ true ↦ Broken | false ↦ Trees (n - 1) s ]) (suc k)
     by true = tt
@@ -42,40 +42,41 @@ few-by r f k stop h x = few-leaf r f k h x
 few-by r f k fail h x = tt
 few-by r f k (prefix s p) h x = few-leaf r f k h x
 few-by r f k (choice p q) h x = tt
-few-by r f k (par s p q) h x = few-joined f k x
+few-by r f k (par s p q) h x = few-paired f k x
 few-by r f k (call d) h x = tt
 
 -- ---- joining
 
-pub joined-few : (n s : ℕ) → n < 2 → Broken ≡ joined (Trees n s)
-unfolding joined
-joined-few n s h = rw (lt-ltb n 2 h, joined)
+pub paired-few : (n s : ℕ) → n < 2 → Broken ≡ paired (Trees n s)
+unfolding paired
+paired-few n s h = rw (lt-ltb n 2 h, paired)
 
-pub joined-two : (n s : ℕ) → 2 ≤ n → Trees (n - 1) s ≡ joined (Trees n s)
-unfolding joined
-joined-two n s h = rw (le-ltb n 2 h, joined)
+pub paired-two : (n s : ℕ) → 2 ≤ n → Trees (n - 1) s ≡ paired (Trees n s)
+unfolding paired
+paired-two n s h = rw (le-ltb n 2 h, paired)
 
 -- ---- a node word
 
-pub unknown-term : (t : Table) (w n : ℕ) → n ≡ termOf w → termCount t ≤ n → false ≡ wordFits t w
+pub unknown-term : (t : Table) (w n : ℕ) → n ≡ termOfWord w → termCount t ≤ n → false ≡ wordFits t w
 unfolding wordFits
 unknown-term t w n e h =
-    let k : termCount t ≤ termOf w = omega arith in
-    rw (le-ltb (termOf w) (termCount t) k)
+    let k : termCount t ≤ termOfWord w = omega arith in
+    rw (le-ltb (termOfWord w) (termCount t) k)
 
-pub known-term : (t : Table) (w n : ℕ) (r : Bool) → n ≡ termOf w → n < termCount t
+pub known-term : (t : Table) (w n : ℕ) (r : Bool) → n ≡ termOfWord w → n < termCount t
     → r ≡ memoryFits (t .alphabet) (enclosing t n) (memoryOf w) → r ≡ wordFits t w
 unfolding wordFits
 known-term t w n r e h q =
-    let k : termOf w < termCount t = omega arith in
-    rw (lt-ltb (termOf w) (termCount t) k)
+    let k : termOfWord w < termCount t = omega arith in
+    rw (lt-ltb (termOfWord w) (termCount t) k)
     (q ∙ ap (λ (i : ℕ). memoryFits (t .alphabet) (enclosing t i) (memoryOf w)) e)
 
-pub term-known : (t : Table) (w n : ℕ) → n ≡ termOf w → wordFits t w ≡ true → n < termCount t
+pub term-known : (t : Table) (w n : ℕ) → n ≡ termOfWord w → wordFits t w ≡ true → n < termCount t
 unfolding wordFits
 term-known t w n e h =
-    let k = ltb-true (termOf w) (termCount t)
-    (and-split (ltb (termOf w) (termCount t)) (memoryFits (t .alphabet) (enclosing t (termOf w)) (memoryOf w)) h .0) in
+    let k = ltb-true (termOfWord w) (termCount t)
+    (and-split (ltb (termOfWord w) (termCount t)) (memoryFits (t .alphabet) (enclosing t (termOfWord w)) (memoryOf w))
+    h .0) in
     omega arith
 
 by-leaf : (r : ℕ) (f : Forest) (p : Term) → (kindOf p ≡ 0) ⊎ (kindOf p ≡ 2) → withLeaf r f ≡ plantedBy r f p
@@ -87,7 +88,7 @@ by-leaf r f (choice p q) h = absurd (⊎-elim (λ e. omega arith) (λ e. omega a
 by-leaf r f (par s p q) h = absurd (⊎-elim (λ e. omega arith) (λ e. omega arith) h)
 by-leaf r f (call d) h = absurd (⊎-elim (λ e. omega arith) (λ e. omega arith) h)
 
-by-par : (r : ℕ) (f : Forest) (p : Term) → kindOf p ≡ 4 → joined f ≡ plantedBy r f p
+by-par : (r : ℕ) (f : Forest) (p : Term) → kindOf p ≡ 4 → paired f ≡ plantedBy r f p
 unfolding plantedBy kindOf
 by-par r f stop h = absurd (omega arith)
 by-par r f fail h = absurd (omega arith)
@@ -112,7 +113,7 @@ module _ (t : Table) (w : ℕ) (f : Forest) where
   planted-unfit e = rw (e, planted)
 
   pub planted-fit : wordFits t w ≡ true
-      → planted t w f ≡ plantedBy (reach t (nodeTerm t (termOf w))) f (nodeTerm t (termOf w))
+      → planted t w f ≡ plantedBy (reach t (nodeTerm t (termOfWord w))) f (nodeTerm t (termOfWord w))
   unfolding planted
   planted-fit e = rw (e, planted)
 
@@ -122,11 +123,11 @@ module _ (t : Table) (w : ℕ) (f : Forest) where
     where
       by : (z : Bool) → wordFits t w ≡ z → Few (planted t w f) (suc k)
       by true e = rw (planted-fit e)
-          (few-by (reach t (nodeTerm t (termOf w))) f k (nodeTerm t (termOf w))
-          (g (termOf w) (term-known t w (termOf w) refl e)) x)
+          (few-by (reach t (nodeTerm t (termOfWord w))) f k (nodeTerm t (termOfWord w))
+          (g (termOfWord w) (term-known t w (termOfWord w) refl e)) x)
       by false e = rw (← planted-unfit e) tt
 
-  module _ (n k : ℕ) (r : Forest) (h : wordFits t w ≡ true) (e : n ≡ termOf w) (q : k ≡ kindOf (nodeTerm t n)) where
+  module _ (n k : ℕ) (r : Forest) (h : wordFits t w ≡ true) (e : n ≡ termOfWord w) (q : k ≡ kindOf (nodeTerm t n)) where
     same : planted t w f ≡ plantedBy (reach t (nodeTerm t n)) f (nodeTerm t n)
     same = planted-fit h ∙ ap (λ (i : ℕ). plantedBy (reach t (nodeTerm t i)) f (nodeTerm t i)) (sym e)
 
@@ -136,7 +137,7 @@ module _ (t : Table) (w : ℕ) (f : Forest) where
         ∙ by-leaf (reach t (nodeTerm t n)) f (nodeTerm t n) (subst (λ (i : ℕ). (i ≡ 0) ⊎ (i ≡ 2)) q o)
         ∙ sym same
 
-    pub planted-par : k ≡ 4 → r ≡ joined f → r ≡ planted t w f
+    pub planted-par : k ≡ 4 → r ≡ paired f → r ≡ planted t w f
     planted-par o s = s ∙ by-par (reach t (nodeTerm t n)) f (nodeTerm t n) (sym q ∙ o) ∙ sym same
 
     pub planted-none : ((k ≡ 0) ⊎ (k ≡ 2) → ⊥) → (k ≡ 4 → ⊥) → Broken ≡ planted t w f

@@ -21,12 +21,12 @@ use Rattle.state.specs.declared.valid.Forest.the-variants.{Broken, Trees
 use Rattle.monitor_spec.specs.Part.Numbers.{number-at, number-below}
 use Rattle.monitor_spec.specs.Proper.Laws.{reachAt-at}
 use Rattle.monitor_spec.specs.Residual.{Residual, leaf, pair}
-use Rattle.monitor_spec.specs.Slots.{termOf, memoryOf}
+use Rattle.monitor_spec.specs.Slots.{termOfWord, memoryOf}
 use Rattle.monitor_spec.specs.Valid.{joinTrees, plant, plantWord, forest, memoryFits, memoriesFit, reachSum}
 use Rattle.monitor_spec.specs.Valid.Laws.{plant-none, plant-some, forest-none, forest-some}
 use Rattle.monitor_spec.specs.Consistent.{every}
-use Rattle.state.specs.Walk.{withLeaf, joined, wordFits, plantedBy, planted, walked}
-use Rattle.state.specs.Walk.Laws.{joined-few, joined-two, planted-unfit, planted-fit, unknown-term, known-term}
+use Rattle.state.specs.Walk.{withLeaf, paired, wordFits, plantedBy, planted, walked}
+use Rattle.state.specs.Walk.Laws.{paired-few, paired-two, planted-unfit, planted-fit, unknown-term, known-term}
 
 and-assoc : (a b c : Bool) → ((a && b) && c) ≡ (a && (b && c))
 and-assoc true b c = refl
@@ -34,7 +34,7 @@ and-assoc false b c = refl
 
 -- the Broken forest stays so
 by-broken : (r : ℕ) (p : Term) → plantedBy r Broken p ≡ Broken
-unfolding plantedBy withLeaf joined
+unfolding plantedBy withLeaf paired
 by-broken r stop = refl
 by-broken r fail = refl
 by-broken r (prefix s p) = refl
@@ -90,14 +90,14 @@ module _ (t : Table) where
         ∙ ap (λ (b : Bool). countedIf (b && every (memoriesFit t) rs) (leaf n m ∷ rs)) (sym f)
 
     join-by : (b : Bool) (x y : Residual) (rs : List Residual)
-        → joined (countedIf b (x ∷ y ∷ rs)) ≡ countedIf b (pair n m x y ∷ rs)
+        → paired (countedIf b (x ∷ y ∷ rs)) ≡ countedIf b (pair n m x y ∷ rs)
     unfolding countedIf reachAll reachSum
     join-by true x y rs =
         let s : ℕ = reachSum t x + (reachSum t y + reachAll rs) in
         let c : suc (suc (length rs)) - 1 ≡ suc (length rs) = omega arith in
         let d : s ≡ reachSum t x + reachSum t y + reachAll rs = omega arith in
-        sym (joined-two (suc (suc (length rs))) s (omega arith)) ∙ ap₂ Trees c d
-    join-by false x y rs = unfold joined in refl
+        sym (paired-two (suc (suc (length rs))) s (omega arith)) ∙ ap₂ Trees c d
+    join-by false x y rs = unfold paired in refl
 
     pair-fits : (x y : Residual) (rs : List Residual) → fit ≡ true
         → every (memoriesFit t) (x ∷ y ∷ rs) ≡ every (memoriesFit t) (pair n m x y ∷ rs)
@@ -106,14 +106,14 @@ module _ (t : Table) where
         sym (and-assoc (memoriesFit t x) (memoriesFit t y) (every (memoriesFit t) rs))
         ∙ ap (λ (b : Bool). (b && (memoriesFit t x && memoriesFit t y)) && every (memoriesFit t) rs) (sym f)
 
-    none-one : (b : Bool) (x : Residual) → joined (countedIf b (x ∷ [])) ≡ Broken
+    none-one : (b : Bool) (x : Residual) → paired (countedIf b (x ∷ [])) ≡ Broken
     unfolding countedIf
-    none-one true x = sym (joined-few 1 (reachAll (x ∷ [])) (omega arith))
-    none-one false x = unfold joined in refl
+    none-one true x = sym (paired-few 1 (reachAll (x ∷ [])) (omega arith))
+    none-one false x = unfold paired in refl
 
-    join-fit : fit ≡ true → (rs : List Residual) → joined (kept (some rs)) ≡ kept (joinTrees n m rs)
+    join-fit : fit ≡ true → (rs : List Residual) → paired (kept (some rs)) ≡ kept (joinTrees n m rs)
     unfolding kept joinTrees
-    join-fit f [] = unfold every countedIf in sym (joined-few 0 (reachAll []) (omega arith))
+    join-fit f [] = unfold every countedIf in sym (paired-few 0 (reachAll []) (omega arith))
     join-fit f (x ∷ []) = none-one (every (memoriesFit t) (x ∷ [])) x
     join-fit f (x ∷ y ∷ rs) =
         join-by (every (memoriesFit t) (x ∷ y ∷ rs)) x y rs
@@ -149,28 +149,28 @@ module _ (t : Table) where
       by (some p) e = absurd (omega (arith, number-below t (number-at t n p e .stands)))
 
   word-kept : (w : ℕ) (rs : List Residual) → planted t w (kept (some rs)) ≡ kept (plantWord t w rs)
-  word-kept w rs = by (decLt (termOf w) (termCount t))
+  word-kept w rs = by (decLt (termOfWord w) (termCount t))
     where
-      at-fit : (h : termOf w < termCount t) (b : Bool)
-          → memoryFits (t .alphabet) (enclosing t (termOf w)) (memoryOf w) ≡ b
+      at-fit : (h : termOfWord w < termCount t) (b : Bool)
+          → memoryFits (t .alphabet) (enclosing t (termOfWord w)) (memoryOf w) ≡ b
           → planted t w (kept (some rs)) ≡ kept (plantWord t w rs)
       at-fit h true f =
-          let e = term-at t (termOf w) h in
-          planted-fit t w (kept (some rs)) (sym (known-term t w (termOf w) true refl h (sym f)))
-          ∙ plant-fit (termOf w) (memoryOf w) (nodeTerm t (termOf w)) e f rs
-          ∙ ap kept (sym (plant-some t w rs (nodeTerm t (termOf w)) e))
+          let e = term-at t (termOfWord w) h in
+          planted-fit t w (kept (some rs)) (sym (known-term t w (termOfWord w) true refl h (sym f)))
+          ∙ plant-fit (termOfWord w) (memoryOf w) (nodeTerm t (termOfWord w)) e f rs
+          ∙ ap kept (sym (plant-some t w rs (nodeTerm t (termOfWord w)) e))
       at-fit h false f =
-          let e = term-at t (termOf w) h in
-          sym (planted-unfit t w (kept (some rs)) (sym (known-term t w (termOf w) false refl h (sym f))))
-          ∙ plant-unfit (termOf w) (memoryOf w) (nodeTerm t (termOf w)) e f rs
-          ∙ ap kept (sym (plant-some t w rs (nodeTerm t (termOf w)) e))
+          let e = term-at t (termOfWord w) h in
+          sym (planted-unfit t w (kept (some rs)) (sym (known-term t w (termOfWord w) false refl h (sym f))))
+          ∙ plant-unfit (termOfWord w) (memoryOf w) (nodeTerm t (termOfWord w)) e f rs
+          ∙ ap kept (sym (plant-some t w rs (nodeTerm t (termOfWord w)) e))
 
-      by : Dec (termOf w < termCount t) → planted t w (kept (some rs)) ≡ kept (plantWord t w rs)
-      by (yes h) = at-fit h (memoryFits (t .alphabet) (enclosing t (termOf w)) (memoryOf w)) refl
+      by : Dec (termOfWord w < termCount t) → planted t w (kept (some rs)) ≡ kept (plantWord t w rs)
+      by (yes h) = at-fit h (memoryFits (t .alphabet) (enclosing t (termOfWord w)) (memoryOf w)) refl
       by (no h) =
-          sym (planted-unfit t w (kept (some rs)) (sym (unknown-term t w (termOf w) refl (omega arith))))
+          sym (planted-unfit t w (kept (some rs)) (sym (unknown-term t w (termOfWord w) refl (omega arith))))
           ∙ sym kept-none
-          ∙ ap kept (sym (plant-none t w rs (past-none (termOf w) (omega arith))))
+          ∙ ap kept (sym (plant-none t w rs (past-none (termOfWord w) (omega arith))))
 
   -- ---- all of them
 
@@ -178,7 +178,7 @@ module _ (t : Table) where
   broken-stays w = by (wordFits t w) refl
     where
       by : (b : Bool) → wordFits t w ≡ b → planted t w Broken ≡ Broken
-      by true e = planted-fit t w Broken e ∙ by-broken (reach t (nodeTerm t (termOf w))) (nodeTerm t (termOf w))
+      by true e = planted-fit t w Broken e ∙ by-broken (reach t (nodeTerm t (termOfWord w))) (nodeTerm t (termOfWord w))
       by false e = sym (planted-unfit t w Broken e)
 
   -- The walk is what is kept of the trees that the words spell.

@@ -11,12 +11,12 @@ use mathlib.Core.Option.{Option, none, some}
 use Rattle.table.specs.Table.{Table, Term, stop, fail, prefix, choice, par, call, termAt}
 use Rattle.table.specs.Memory.{Memory}
 use Rattle.monitor_spec.specs.Residual.{Residual, leaf, pair}
-use Rattle.monitor_spec.specs.Slots.{pack, termOf, memoryOf, nodes}
+use Rattle.monitor_spec.specs.Slots.{pack, termOfWord, memoryOf, nodes}
 use Rattle.monitor_spec.specs.Valid.{joinTrees, plant, plantWord, forest}
 use Rattle.monitor_spec.specs.Valid.Laws.{some-same, none-some, plant-none, plant-some, forest-none, forest-some}
 
-pub pack-word : (w : ℕ) → pack (termOf w) (memoryOf w) ≡ w
-unfolding pack termOf memoryOf
+pub pack-word : (w : ℕ) → pack (termOfWord w) (memoryOf w) ≡ w
+unfolding pack termOfWord memoryOf
 pack-word w =
     let a : w / 64 / 64 ≡ w / 4096 = div-div-eq-div-mul w 64 64 in
     let b : w / 4096 / 64 ≡ w / 262144 = div-div-eq-div-mul w 4096 64 in
@@ -58,16 +58,16 @@ module _ (t : Table) where
   spelled (w ∷ ws) rs e = by (forest t ws) refl (spelled ws)
     where
       word : (qs : List Residual) → nodesAll qs ≡ ws → plantWord t w qs ≡ some rs → (o : Option Term)
-          → termAt t (termOf w) ≡ o → nodesAll rs ≡ w ∷ ws
+          → termAt t (termOfWord w) ≡ o → nodesAll rs ≡ w ∷ ws
       word qs q h none k = none-some rs (sym (plant-none t w qs k) ∙ h)
       word qs q h (some p) k =
-          plant-words (termOf w) (memoryOf w) p qs rs (sym (plant-some t w qs p k) ∙ h)
+          plant-words (termOfWord w) (memoryOf w) p qs rs (sym (plant-some t w qs p k) ∙ h)
           ∙ ap₂ _∷_ (pack-word w) q
 
       by : (o : Option (List Residual)) → forest t ws ≡ o
           → ((qs : List Residual) → forest t ws ≡ some qs → nodesAll qs ≡ ws) → nodesAll rs ≡ w ∷ ws
       by none k ih = none-some rs (sym (forest-none t w ws k) ∙ e)
-      by (some qs) k ih = word qs (ih qs k) (sym (forest-some t w ws qs k) ∙ e) (termAt t (termOf w)) refl
+      by (some qs) k ih = word qs (ih qs k) (sym (forest-some t w ws qs k) ∙ e) (termAt t (termOfWord w)) refl
 
   pub one-words : (ws : List ℕ) (r : Residual) → forest t ws ≡ some (r ∷ []) → nodes r ≡ ws
   unfolding nodesAll

@@ -24,7 +24,7 @@ use Rattle.walk.specs.Walk.Leaves.{results-yes, kept-yes, kept-not-kind, kept-n
 use Rattle.walk.specs.Forest.{Valid}
 use Rattle.walk.specs.Forest.Words.{known-node}
 use Rattle.walk.specs.Course.{nodeCount, nodesFrom}
-use Rattle.step.specs.Prepared.{Sound, Filled}
+use Rattle.step.specs.Prepared.{Sound, NodeFilled}
 use Rattle.step.specs.Prepared.Below.{getD-below, take-below}
 
 -- ---- each node of a tree is a known term, and its results have room
@@ -118,7 +118,7 @@ module _ (t : Table) (bound e : ℕ) (store : List ℕ) (s : Sound t bound e sto
   pub node-few : Lawful t → length (leafKept t e (getD store k 0)) ≤ 256
   node-few law = few-by law _ _ refl refl
 
-  pub fill-none : leafKept t e (getD store k 0) ≡ [] → Filled t e store (set store (k * 257) 0) k
+  pub fill-none : leafKept t e (getD store k 0) ≡ [] → NodeFilled t e store (set store (k * 257) 0) k
   fill-none z =
       let f : take (k * 257) (set store (k * 257) 0) ≡ take (k * 257) store = take-set-le (k * 257) store (k * 257) 0
       (omega arith) in
@@ -132,11 +132,11 @@ module _ (t : Table) (bound e : ℕ) (store : List ℕ) (s : Sound t bound e sto
         };
       }
 
-  pub fill-not-kind : (kindAt t (getD store k 0) ≡ 2 → ⊥) → Filled t e store (set store (k * 257) 0) k
+  pub fill-not-kind : (kindAt t (getD store k 0) ≡ 2 → ⊥) → NodeFilled t e store (set store (k * 257) 0) k
   fill-not-kind q = fill-none (kept-not-kind t e _ (ne-eqb _ _ q))
 
   pub fill-not-held : kindAt t (getD store k 0) ≡ 2 → holdsAt t e (getD store k 0) ≡ false
-      → Filled t e store (set store (k * 257) 0) k
+      → NodeFilled t e store (set store (k * 257) 0) k
   fill-not-held q h = fill-none (kept-not-held t e _ (eq-eqb _ _ q) h)
 
   module _ (law : Lawful t) (q : kindAt t (getD store k 0) ≡ 2) (h : holdsAt t e (getD store k 0) ≡ true) (n mm m : ℕ)
@@ -146,7 +146,7 @@ module _ (t : Table) (bound e : ℕ) (store : List ℕ) (s : Sound t bound e sto
 
     pub fill-yes : (x : List ℕ) (r : ℕ) → length x ≡ length store
         → Stored store x (k * 257 + 1) r (kept (slotAt t (n + 1) m) (length (resolved t (n + 1) m)))
-        → Filled t e store (set x (k * 257) r) k
+        → NodeFilled t e store (set x (k * 257) r) k
     fill-yes x r lx st =
         let l : leafKept t e (getD store k 0) ≡ kept (slotAt t (n + 1) m) (length (resolved t (n + 1) m))
         = rw (em, en, emm) (kept-yes t e (getD store k 0) (eq-eqb _ _ q) h) in

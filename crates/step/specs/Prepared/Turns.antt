@@ -22,7 +22,7 @@ use Rattle.walk.specs.Course.Nodes.{nodes-none, nodes-cons, nodes-skip}
 use Rattle.walk.specs.declared.nodes.Tree.{Tree}
 use Rattle.moves.specs.Takes.{TreeAt, Takes}
 use Rattle.moves.specs.Takes.Counts.{may-after}
-use Rattle.step.specs.Prepared.{Sound, Filled, Blanked, PreparedAll, Left, UpTo, Fills}
+use Rattle.step.specs.Prepared.{Sound, NodeFilled, Blanked, PreparedAll, Left, UpTo, Fills}
 use Rattle.step.specs.Prepared.Below.{getD-below, take-below, nodes-same, node-kept, nodes-drop}
 use Rattle.step.specs.Prepared.Below.{nodes-length}
 use Rattle.step.specs.Prepared.Still.{still-prepared}
@@ -165,7 +165,7 @@ module _ (t : Table) (bound e : ℕ) (old : List ℕ) (s : Sound t bound e old) 
 
         -- ---- a node of a tree that takes it
 
-        module _ (yes : c .moves ≡ true) (law : Lawful t) (new : List ℕ) (f : Filled t e now new k) where
+        module _ (yes : c .moves ≡ true) (law : Lawful t) (new : List ℕ) (f : NodeFilled t e now new k) where
           move-slot : take 257 new ≡ take 257 now
           move-slot = take-below (k * 257) 257 new now (f .before) (omega arith)
 

@@ -81,7 +81,8 @@ module _ {t : Table} {bound e : ℕ} {src : List ℕ} {i : ℕ} {store dst : Lis
 
   after-held : (r : Held) (l : List ℕ) → Gave (putAll dst c (onto empty (map words (after t e (s .slot .tree))))) r l
       → SteppedOne t e src i dst c r l
-  after-held r l g = record { slots = onto empty (map words (after t e (s .slot .tree))); members = after-members; gave = g }
+  after-held r l g =
+      record { slots = onto empty (map words (after t e (s .slot .tree))); members = after-members; gave = g }
 
   -- ---- by way
 

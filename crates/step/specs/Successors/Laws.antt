@@ -7,7 +7,7 @@
 use Prim.Native.Nat.{ℕ, _+_, _-_, _*_, _<_, _≤_}
 use native.Mathlib.Omega.{arith}
 use mathlib.Core.Path.{_≡_, refl, ap, sym, _∙_}
-use mathlib.Core.List.{List, [], _∷_, map, append-nil, map-append}
+use mathlib.Core.List.{List, [], _∷_, map, append-nil, map-append, flatten}
 use lib.ListN.{length, replicate, length-replicate}
 use Rattle.table.specs.Table.{Table}
 use Rattle.slots.specs.declared.slots.Held.the-variants.{Count, Exceeded}
@@ -20,12 +20,12 @@ use Rattle.walk.specs.Walk.Results.{onto-append}
 use Rattle.walk.specs.Forest.{Valid, afterKept}
 use Rattle.walk.specs.Forest.Results.{results-moved}
 use Rattle.step.specs.Stepped.{gathered, SoundSlot, Source}
-use Rattle.slots.specs.Canon.{canonFrom, joined, areaOf, Slots, SameMembers}
+use Rattle.slots.specs.Canon.{canonFrom, areaOf, Slots, SameMembers}
 use Rattle.slots.specs.Canon.Laws.{put-canon, put-exceeded-canon}
 use Rattle.slots.specs.Canon.Sets.{canon-members}
 use Rattle.slots.specs.Canon.Members.{sub-map, slots-in}
 use Rattle.moves.specs.Members.{Short, short-of, same-after, append-both}
-use Rattle.step.specs.Successors.{Holds, allAfter, allKept, slotsOf, canon}
+use Rattle.step.specs.Successors.{SlotsHold, allAfter, allKept, slotsOf, canon}
 
 joins-unit : (a : List (List ℕ)) → joins a ([] ∷ []) ≡ a
 unfolding joins
@@ -39,7 +39,8 @@ results-of t e r v =
     ap (λ (l : List ℕ). results t e l 1) (sym (append-nil (words r))) ∙ results-moved t e r v [] 0
     ∙ joins-unit (map words (afterKept t e r))
 
-pub gathered-of : (t : Table) (e : ℕ) (src : List ℕ) (i n : ℕ) (rs : List Residual) → n ≡ length rs → Holds t src i rs
+pub gathered-of : (t : Table) (e : ℕ) (src : List ℕ) (i n : ℕ) (rs : List Residual) → n ≡ length rs
+    → SlotsHold t src i rs
     → gathered t e src n i ≡ slotsOf (allKept t e rs)
 unfolding gathered slotsOf allKept onto
 gathered-of t e src i n [] en h = rw en
@@ -59,7 +60,7 @@ slots-of-slots rs = all-slots (map words rs)
 
 -- the area with no slot is all zero
 pub no-slots : (most : ℕ) → areaOf most [] ≡ replicate (most * 16) 0
-unfolding areaOf joined
+unfolding areaOf flatten
 no-slots most = let z : (most - 0) * 16 ≡ most * 16 = omega arith in rw z
 
 -- ---- the same with the repeats
@@ -68,7 +69,7 @@ abbrev pub AllShort : Table → ℕ → List Residual → Type 0
 AllShort t e [] = Unit
 AllShort t e (r ∷ rs) = Short t e r × AllShort t e rs
 
-same-all : (t : Table) (e : ℕ) (src : List ℕ) (i : ℕ) (rs : List Residual) → Holds t src i rs → AllShort t e rs
+same-all : (t : Table) (e : ℕ) (src : List ℕ) (i : ℕ) (rs : List Residual) → SlotsHold t src i rs → AllShort t e rs
     → SameMembers (map words (allKept t e rs)) (map words (allAfter t e rs))
 unfolding allKept allAfter
 same-all t e src i [] h s = (λ z m. m, λ z m. m)
@@ -76,7 +77,7 @@ same-all t e src i (r ∷ rs) h s =
     append-both (afterKept t e r) (after t e r) (allKept t e rs) (allAfter t e rs) (same-after t e r (h .1) (s .0))
     (same-all t e src (i + 1) rs (h .2) (s .1))
 
-canon-same : (t : Table) (e : ℕ) (src : List ℕ) (rs : List Residual) → Holds t src 0 rs → AllShort t e rs
+canon-same : (t : Table) (e : ℕ) (src : List ℕ) (rs : List Residual) → SlotsHold t src 0 rs → AllShort t e rs
     → canonFrom [] (slotsOf (allKept t e rs)) ≡ canon (allAfter t e rs)
 unfolding canon slotsOf onto
 canon-same t e src rs h s =
@@ -86,7 +87,7 @@ canon-same t e src rs h s =
     (sub-map (λ c. pushAll empty c) (map words (allKept t e rs)) (map words (allAfter t e rs)) (b .0))
     (sub-map (λ c. pushAll empty c) (map words (allAfter t e rs)) (map words (allKept t e rs)) (b .1))
 
-all-short : (t : Table) (e : ℕ) (src : List ℕ) (i : ℕ) (rs : List Residual) → Holds t src i rs
+all-short : (t : Table) (e : ℕ) (src : List ℕ) (i : ℕ) (rs : List Residual) → SlotsHold t src i rs
     → ((j : ℕ) → i ≤ j → j < i + length rs → SoundSlot t e src j) → AllShort t e rs
 all-short t e src i [] h s = tt
 all-short t e src i (r ∷ rs) h s = (
@@ -95,7 +96,7 @@ all-short t e src i (r ∷ rs) h s = (
       (λ j a b. s j (omega arith) (omega arith)),
 )
 
-module _ (t : Table) (e : ℕ) (src : List ℕ) (rs : List Residual) (h : Holds t src 0 rs)
+module _ (t : Table) (e : ℕ) (src : List ℕ) (rs : List Residual) (h : SlotsHold t src 0 rs)
     (source : Source t e src (length rs)) (most : ℕ) where
   short : AllShort t e rs
   short = all-short t e src 0 rs h (λ j a b. source .slots j (omega arith))

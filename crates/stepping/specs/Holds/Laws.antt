@@ -29,7 +29,7 @@ use Rattle.monitor_spec.specs.Consistent.Reading.{consistent-laid}
 use Rattle.monitor_spec.specs.Regular.Laws.{regular}
 use Rattle.monitor_spec.specs.Sensible.{Laid}
 use Rattle.stepping.specs.Stepping.{tree-at, takes-some}
-use Rattle.stepping.specs.Holds.{Holds, heldIn}
+use Rattle.stepping.specs.Holds.{AreaHolds, heldIn}
 
 -- each slot of a list is read as one residual
 length-read : (t : Table) (l : List (List ℕ)) → All (SlotOf t) l → length (held t l) ≡ length l
@@ -40,7 +40,7 @@ length-read t (w ∷ l) h =
     let k = length-read t l (h .1) in
     omega arith
 
-module _ {t : Table} (rules : Rules t) {a : List ℕ} {c : ℕ} (h : Holds t a c) where
+module _ {t : Table} (rules : Rules t) {a : List ℕ} {c : ℕ} (h : AreaHolds t a c) where
   sixteen : All Sixteen (slotsOf (h .residuals))
   sixteen =
       slots-all t (regular t rules) Sixteen (slot-sixteen t (regular t rules)) (h .residuals) (h .proper)
@@ -85,7 +85,7 @@ module _ (t : Table) (rules : Rules t) (m : Monitor) where
   abbrev present : Monitor → List ℕ
   present x = choose (even (x .state .taken)) (x .area0) (x .area1)
 
-  laid-holds : (n : ℕ) → Laid t n m → Holds t (present m) (m .state .count)
+  laid-holds : (n : ℕ) → Laid t n m → AreaHolds t (present m) (m .state .count)
   unfolding laid
   laid-holds n l =
       record {
@@ -100,6 +100,6 @@ module _ (t : Table) (rules : Rules t) (m : Monitor) where
       }
 
   pub present-holds : areasMeasured (m .area0) (m .area1) ≡ true → consistent t m ≡ true
-      → Holds t (choose (even (m .state .taken)) (m .area0) (m .area1)) (m .state .count)
+      → AreaHolds t (choose (even (m .state .taken)) (m .area0) (m .area1)) (m .state .count)
   present-holds a e =
       laid-holds (slotCount (m .area0)) (consistent-laid t (regular t rules) m a e)

@@ -18,7 +18,7 @@ use Rattle.table.specs.Rules.{Rules}
 use Rattle.residual.specs.Residual.{words}
 use Rattle.residual.specs.Distinct.{window}
 use Rattle.step.specs.Stepped.{slotNodes}
-use Rattle.step.specs.Successors.{Holds}
+use Rattle.step.specs.Successors.{SlotsHold}
 use Rattle.monitor_spec.specs.Regular.Laws.{regular}
 use Rattle.monitor_spec.specs.Residual.{Residual, leaf}
 use Rattle.monitor_spec.specs.Slots.{nodes, slotOf, slotsOf}
@@ -89,7 +89,7 @@ module _ (t : Table) (rules : Rules t) where
         slots-at rs (h .1) (p + 16) (after-slot r rs (h .0) p (p + 16) refl e) i j (omega arith) (omega arith)
 
     slots-hold : (rs : List Residual) → All (Proper t) rs → (i : ℕ)
-        → drop (i * 16) area ≡ flatten (map slotOf rs) ++ tail → Holds t area i (map low rs)
+        → drop (i * 16) area ≡ flatten (map slotOf rs) ++ tail → SlotsHold t area i (map low rs)
     unfolding flatten
     slots-hold [] h i e = tt
     slots-hold (r ∷ rs) h i e =
@@ -130,7 +130,7 @@ module _ (t : Table) (rules : Rules t) where
         slots-at (fill n (slotsOf rs)) (zeros ((n - length (slotsOf rs)) * 16)) (held t (slotsOf rs)) held-all 0
         (area-is n) i (i * 16) (omega arith) (omega (arith, held-length))
 
-    pub holds-low : (n : ℕ) → Holds t (fill n (slotsOf rs)) 0 (map low (held t (slotsOf rs)))
+    pub holds-low : (n : ℕ) → SlotsHold t (fill n (slotsOf rs)) 0 (map low (held t (slotsOf rs)))
     holds-low n =
         slots-hold (fill n (slotsOf rs)) (zeros ((n - length (slotsOf rs)) * 16)) (held t (slotsOf rs)) held-all 0
         (area-is n)

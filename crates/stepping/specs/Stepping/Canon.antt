@@ -16,7 +16,7 @@ use Rattle.table.specs.Table.{Table}
 use Rattle.table.specs.Rules.{Rules}
 use Rattle.slots.specs.Slots as slots
 use Rattle.walk.specs.Walk.{onto}
-use Rattle.slots.specs.Canon.{byOrder, insertSlot, canonFrom, joined, areaOf}
+use Rattle.slots.specs.Canon.{byOrder, insertSlot, canonFrom, areaOf}
 use Rattle.slots.specs.Canon.Compare.{stepOrder, order-step, order-tail}
 use Rattle.step.specs.Successors as words
 use Rattle.monitor_spec.specs.Regular.Laws.{regular}
@@ -116,11 +116,6 @@ module _ (t : Table) (rules : Rules t) where
 
 -- ---- an area
 
-joined-low : (xs : List (List ℕ)) → joined xs ≡ flatten xs
-unfolding joined flatten
-joined-low [] = refl
-joined-low (x ∷ xs) = ap (x ++_) (joined-low xs)
-
 pub area-low : (n : ℕ) (xs : List (List ℕ)) → areaOf n xs ≡ fill n xs
 unfolding areaOf fill
-area-low n xs = ap (_++ replicate ((n - length xs) * 16) 0) (joined-low xs)
+area-low n xs = refl

@@ -18,7 +18,7 @@ use Rattle.residual.specs.Residual.{resolvedBelow}
 use Rattle.slots.specs.Canon.{SameMembers}
 use Rattle.step.specs.Stepped.{gathered, Source}
 use Rattle.slots.specs.Canon.Laws.{put-canon, put-exceeded-canon}
-use Rattle.step.specs.Successors.{Holds, allAfter}
+use Rattle.step.specs.Successors.{SlotsHold, allAfter}
 use Rattle.step.specs.Successors as words
 use Rattle.step.specs.Successors.Laws.{stepped, exceeded, slots-of-slots}
 use Rattle.monitor_spec.specs.Regular.Laws.{regular}
@@ -42,7 +42,7 @@ zeroed n = let z : (n - 0) * 16 ≡ n * 16 = omega arith in rw z
 module _ (t : Table) (rules : Rules t) (rs : List Residual) (proper : All (Proper t) rs) where
   -- ---- one event
   module _ (n e : ℕ) (small : e < t .alphabet)
-      (holds : Holds t (fill n (slotsOf rs)) 0 (map low (held t (slotsOf rs))))
+      (holds : SlotsHold t (fill n (slotsOf rs)) 0 (map low (held t (slotsOf rs))))
       (source : Source t e (fill n (slotsOf rs)) (length (slotsOf rs))) where
     abbrev hs : List Residual
     hs = held t (slotsOf rs)
@@ -50,7 +50,8 @@ module _ (t : Table) (rules : Rules t) (rs : List Residual) (proper : All (Prope
     same-slots : words.canon (allAfter t e (map low hs)) ≡ slotsOf (afterAll t e rs)
     same-slots =
         ap words.canon (allAfter-low t rules hs (held-all t rules rs proper) e small)
-        ∙ canon-low t rules (afterAll t e hs) (afterAll-proper t (regular t rules) e small hs (held-all t rules rs proper))
+        ∙ canon-low t rules (afterAll t e hs) (afterAll-proper t (regular t rules) e small hs
+        (held-all t rules rs proper))
         ∙ slots-after t (regular t rules) e rs proper
 
     same-length : length (map low hs) ≡ length (slotsOf rs)

@@ -4,14 +4,14 @@
 --     nextCapped, allCapped     a definition's; of each definition
 --     capped-few, capped-term   the test against 256; a term of a table
 -- Assumes nothing.
-use Prim.Native.Nat.{ℕ, zero, suc, _+_, _*_, _≤_, _<_, min}
+use Prim.Native.Nat.{ℕ, zero, suc, _+_, _*_, _≤_, min}
 use native.Mathlib.Omega.{arith}
 use native.Mathlib.Decide.{decLe}
 use native.Mathlib.Nat.{mul-le-mul, zero-mul, mul-zero}
 use mathlib.Core.Path.{_≡_, refl, sym, ap, _∙_}
 use mathlib.Core.Logic.{_↔_}
 use mathlib.Core.List.{List, [], _∷_, _++_, map, map-append}
-use lib.ListN.{length, getD, length-map, List·getD-map}
+use lib.ListN.{length, length-map}
 use Rattle.table.specs.Grow.{grow}
 use Rattle.table.specs.Table.{Term, stop, fail, prefix, choice, par, call, Definition, Table}
 use Rattle.table.specs.Branches.{branchesWith, branchesAt, bodyIn, nextBranches, allBranches, branches}
@@ -36,10 +36,6 @@ allCapped ds = grow (nextCapped ds) (length ds)
 pub capped-few : (n : ℕ) → (capped n ≤ 256) ↔ (n ≤ 256)
 unfolding capped
 capped-few n = (λ h. omega arith, λ h. omega arith)
-
-pub capped-zero : (n : ℕ) → (capped n ≡ 0) ↔ (n ≡ 0)
-unfolding capped
-capped-zero n = (λ h. omega arith, λ h. omega arith)
 
 pub capped-add : (a b : ℕ) → capped (a + b) ≡ capped (capped a + capped b)
 unfolding capped

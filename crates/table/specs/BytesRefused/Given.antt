@@ -5,9 +5,9 @@
 use Prim.Native.Nat.{ℕ, _+_, _≤_, _<_}
 use native.Mathlib.Omega.{arith}
 use mathlib.Core.Path.{_≡_, refl, sym, ap, _∙_, subst}
-use mathlib.Core.Bool.{Bool, true, false}
+use mathlib.Core.Bool.{false}
 use mathlib.Core.List.{List, [], _∷_, _++_, append-nil}
-use mathlib.Core.Option.{Option, none, some}
+use mathlib.Core.Option.{some}
 use mathlib.Core.Logic.{_⊎_, inl, inr}
 use lib.ListN.{length, length-append}
 use lib.Dec.{ltb}
@@ -19,8 +19,8 @@ use Rattle.table.specs.First.Laws.{pass-in, first-short}
 use Rattle.table.specs.Table.{Table}
 use Rattle.table.specs.Tokens.{Tokens, token, ended, broken, listTokens, byteTokensWith, byteTokens, trailing}
 use Rattle.table.specs.Tokens.{placeOf}
-use Rattle.table.specs.Parser.{Result, got, refused}
-use Rattle.table.specs.Parser.Local.{Placed, prepend, values, Parted, parted, refusalOf}
+use Rattle.table.specs.Parser.{Result, refused}
+use Rattle.table.specs.Parser.Local.{Placed, prepend, values, parted, refusalOf}
 use Rattle.table.specs.Grammar.{table}
 use Rattle.table.specs.Fields.{Fields}
 use Rattle.table.specs.Writing.{numbersOf}
@@ -105,17 +105,6 @@ module _ (s ns tail : List ℕ) (d : Decoded s ns tail) (w₀ : Bytes s) (fits :
       let p = place-bytes 0 ns (seen .E) i (omega arith) in
       let z : placeOf (prepend (bytePlaces 0 ns) (seen .E)) i ≡ bytePlace ns i = omega arith in
       judged-as ∙ judge-no _ 5 _ e ∙ ap (λ (k : ℕ). declined 5 k) z
-
-  got-in : (t : Table) (more : List ℕ) → Fields t → ns ≡ numbersOf t ++ more
-      → (two : List Placed) × (values two ≡ more)
-      × (table (prepend (bytePlaces 0 ns) (seen .E)) ≡ got t (prepend two (seen .E)))
-  got-in t more f w =
-      let r = parted (bytePlaces 0 ns) (numbersOf t) more (val ∙ w) in (
-        r .two,
-        r .second,
-        stream-got (bytePlaces 0 ns) (seen .E) (ends-end tail _ (seen .E) ends) t f (r .one) (r .two) (r .whole)
-            (r .first),
-      )
 
   -- a table and more numbers
   over-in : (i : ℕ) → TrailingInput ns i → judgeBytes s ≡ declined 6 (bytePlace ns i)

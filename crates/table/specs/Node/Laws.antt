@@ -3,7 +3,7 @@
 --     body-node, home-node                      a definition's body; the definition of a node
 --     SpotOf, spot-of                           what a table within its bounds says of where a node stands
 --     each-node                                 what every term of every body keeps, by number
--- That `termAt`, `enclosing` and `homeOf` are the node's is in `Node/Numbers.antt`. Assumes nothing.
+-- That `termAt` and `enclosing` are the node's is in `Node/Numbers.antt`. Assumes nothing.
 use Prim.Native.Nat.{ℕ, suc, _+_, _<_, _≤_}
 use native.Mathlib.Omega.{arith}
 use mathlib.Core.Path.{_≡_, ap}
@@ -23,7 +23,7 @@ use Rattle.table.specs.Node.Parts as parts
 use Rattle.table.specs.Node.Homes.{Stands, length-nodesFrom, stands-in, stands-out}
 use Rattle.table.specs.Node.Homes.{stands-at, stands-part, stands-fits}
 use Rattle.table.specs.Node.Homes.{stands-own, stands-within, within-one, stands-home}
-use Rattle.table.specs.Node.Homes.{sizes-next, sizes-inside, sizes-all, stands-body}
+use Rattle.table.specs.Node.Homes.{sizes-next, sizes-inside, stands-body}
 
 pub length-nodes : (s : Spot) (i : ℕ) (p : Term) → length (nodes s i p) ≡ size p
 length-nodes s i p = parts.length-nodes s i p
@@ -116,11 +116,6 @@ body-node t d h =
       spot = ap (λ (x : Node). x .spot) (in-is t y);
       term = ap (λ (x : Node). x .term) (in-is t y);
     }
-
--- the body after the last definition's stands where the terms end
-pub last-body : (t : Table) → bodyNumber t (length (t .definitions)) ≡ termCount t
-unfolding bodyNumber termCount
-last-body t = sizes-all (t .definitions)
 
 -- node n stands in the definition that it names, and its whole term does
 pub record HomeNode (t : Table) (n : ℕ) : Type 0 where

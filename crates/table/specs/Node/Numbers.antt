@@ -1,5 +1,5 @@
 -- The node of a number has the term that `termAt` finds, with the prefixes and the definition around it.
---     term-at, enclosing-at, home-at    `termAt`, `enclosing`, `homeOf` of a table's numbers
+--     term-at, enclosing-at    `termAt`, `enclosing` of a table's numbers
 -- Assumes nothing.
 use Prim.Native.Nat.{ℕ, suc, _+_, _-_, _<_, _≤_}
 use native.Mathlib.Omega.{arith}
@@ -12,11 +12,11 @@ use borrow.Author.Tests.{le-ltb, lt-ltb}
 use Rattle.table.specs.declared.terms.Spot.{Spot}
 use Rattle.table.specs.Table.{SetRef, Term, stop, fail, prefix, choice, par}
 use Rattle.table.specs.Table.{call, Definition, Table, size, termCount}
-use Rattle.table.specs.Table.{termIn, prefixesIn, termOfDefs, enclosingIn, homeIn, termAt, enclosing, homeOf}
+use Rattle.table.specs.Table.{termIn, prefixesIn, termOfDefs, enclosingIn, termAt, enclosing}
 use Rattle.table.specs.Node.{Node, nodeAt, termOf}
 use Rattle.table.specs.Node.Parts.{Part, here, follower, choice-left, choice-right}
 use Rattle.table.specs.Node.Parts.{par-left, par-right, part-below}
-use Rattle.table.specs.Node.Homes.{Stands, first, later, stands-own}
+use Rattle.table.specs.Node.Homes.{Stands, first, later}
 use Rattle.table.specs.Node.Laws.{in-at}
 
 -- ---- the equations of termIn
@@ -159,17 +159,6 @@ around-later d ds n =
     let e : size (d .body) + n - size (d .body) ≡ n = omega arith in
     rw (le-ltb _ _ l, enclosingIn) (ap (enclosingIn ds) e)
 
-home-first : (d : Definition) (ds : List Definition) (n : ℕ) → n < size (d .body) → homeIn (d ∷ ds) n ≡ 0
-unfolding homeIn
-home-first d ds n h = rw (lt-ltb _ _ h, homeIn)
-
-home-later : (d : Definition) (ds : List Definition) (n : ℕ) → homeIn (d ∷ ds) (size (d .body) + n) ≡ suc (homeIn ds n)
-unfolding homeIn
-home-later d ds n =
-    let l : size (d .body) ≤ size (d .body) + n = omega arith in
-    let e : size (d .body) + n - size (d .body) ≡ n = omega arith in
-    rw (le-ltb _ _ l, homeIn) (ap (λ (m : ℕ). suc (homeIn ds m)) e)
-
 stands-term : {own i h n : ℕ} {ds : List Definition} {x : Node} → Stands own i ds h n x
     → termOfDefs ds n ≡ some (x .term)
 stands-term (first {n = n} {d = d} {ds = ds} y) = defs-first d ds n (part-below y) ∙ part-term y
@@ -180,10 +169,6 @@ stands-around : {own i h n : ℕ} {ds : List Definition} {x : Node} → Stands o
 stands-around (first {n = n} {d = d} {ds = ds} y) = around-first d ds n (part-below y) ∙ part-prefixes y
 stands-around (later {n = n} {d = d} {ds = ds} y) = around-later d ds n ∙ stands-around y
 
-stands-index : {own i h n : ℕ} {ds : List Definition} {x : Node} → Stands own i ds h n x → homeIn ds n ≡ h
-stands-index (first {n = n} {d = d} {ds = ds} y) = home-first d ds n (part-below y)
-stands-index (later {n = n} {d = d} {ds = ds} y) = home-later d ds n ∙ ap suc (stands-index y)
-
 -- ---- of a table
 
 pub term-at : (t : Table) (n : ℕ) → n < termCount t → termAt t n ≡ some (termOf t n)
@@ -193,7 +178,3 @@ term-at t n h = let (d, y) = in-at t n h in stands-term y
 pub enclosing-at : (t : Table) (n : ℕ) → n < termCount t → enclosing t n ≡ nodeAt t n .spot .prefixes
 unfolding enclosing
 enclosing-at t n h = let (d, y) = in-at t n h in stands-around y
-
-pub home-at : (t : Table) (n : ℕ) → n < termCount t → homeOf t n ≡ nodeAt t n .spot .own
-unfolding homeOf
-home-at t n h = let (d, y) = in-at t n h in stands-index y ∙ omega (arith, stands-own y)

@@ -1,6 +1,6 @@
 -- What the functions that read a part of a term promise (ours).
 --     TermFoundBy, TermReadBy    as TermFound and TermRead, by any parser, from any place
---     Joint                      a term with terms in it, apart from these
+--     Joint, jointTerm           a term with terms in it, apart from these; with given ones
 --     HeadOf                     a head's digits and places are a joint's
 --     followerOf, sidesOf        the parsers of the terms in a joint's term
 --     LeafRead, DefinitionRead   a term without terms in it; a definition
@@ -109,14 +109,15 @@ TwoSided either = Unit
 TwoSided (beside r) = Unit
 
 -- its term with given sides; without meaning where there are not two
-abbrev pub joined : Joint → Term → Term → Term
-joined (before r) p q = prefix r p
-joined either p q = choice p q
-joined (beside r) p q = par r p q
+abbrev pub jointTerm : Joint → Term → Term → Term
+jointTerm (before r) p q = prefix r p
+jointTerm either p q = choice p q
+jointTerm (beside r) p q = par r p q
 
 unfoldable pub sidesOf : List SetDef → ℕ → ℕ → Joint → Parser Term
 sidesOf sets deep n g =
-    andThen (termWith sets deep (suc n)) (λ p. andThen (termWith sets deep (suc n + size p)) (λ q. pure (joined g p q)))
+    andThen (termWith sets deep (suc n)) (λ p. andThen (termWith sets deep (suc n + size p))
+    (λ q. pure (jointTerm g p q)))
 
 -- ---- definitions
 

@@ -78,10 +78,6 @@ module _ (f : Node → Option ℕ) where
   over-append (x ∷ xs) ys =
       ap (orElse (f x)) (over-append xs ys) ∙ sym (orElse-assoc (f x) (firstOver xs) (firstOver ys))
 
-  over-one : (x : Node) → firstOver (x ∷ []) ≡ f x
-  unfolding firstOver
-  over-one x = or-none (f x)
-
   over-in : (xs : List Node) (n i : ℕ) → n < length xs → ((k : ℕ) → k < n → f (getD xs k noNode) ≡ none)
       → f (getD xs n noNode) ≡ some i → firstOver xs ≡ some i
   unfolding firstOver orElse

@@ -1,24 +1,23 @@
 -- Refusal 9's place is a term number (01, "When the monitor declines": "lowest such term"): the term of that number is
 -- a body or a prefix's follower, above 256.
 --     termIn-..     `termIn` by cases
---     ManyAt        such a term;  many-at: where `fewTerms` fails there is one
+--     many-at       where `fewTerms` fails there is such a term (`ManyAt`)
 -- Assumes nothing.
 use Prim.Native.Nat.{ℕ, zero, suc, _+_, _-_, _≤_, _<_}
 use native.Mathlib.Omega.{arith}
 use native.Mathlib.Decide.{decLt}
-use mathlib.Core.Path.{_≡_, refl, sym, ap, _∙_, subst}
+use mathlib.Core.Path.{_≡_, refl, sym, ap, _∙_}
 use mathlib.Core.Bool.{Bool, true, false}
-use mathlib.Core.Logic.{_⊎_, inl, inr}
 use mathlib.Core.List.{List, [], _∷_, _++_}
-use mathlib.Core.Option.{Option, none, some}
-use lib.ListN.{length, getD, take, length-append, List·getD-append}
+use mathlib.Core.Option.{some}
+use lib.ListN.{length, getD, List·getD-append}
 use lib.Seq.{getD-append-add}
-use lib.Dec.{leb, ltb, eqb, eqb·suc-zero}
-use borrow.Author.Tests.{lt-ltb, le-ltb, ltb-true, leb-false, ne-eqb}
+use lib.Dec.{leb, eqb·suc-zero}
+use borrow.Author.Tests.{lt-ltb, le-ltb, leb-false}
 use Rattle.table.specs.Table.{SetRef, Term, stop, fail, prefix, choice, par, call, Definition, Table, size, sizes}
-use Rattle.table.specs.Table.{termIn, termOfDefs, termAt}
-use Rattle.table.specs.Branches.{branchesWith, branchesAt, allBranches, branches}
-use Rattle.table.specs.Refusals.{fewIn, fewFrom, fewTerms}
+use Rattle.table.specs.Table.{termIn, termOfDefs}
+use Rattle.table.specs.Branches.{branchesWith, branchesAt, allBranches}
+use Rattle.table.specs.Refusals.{fewIn, fewFrom, fewTerms, BodyOrFollower, a-body, a-follower, ManyAt}
 use Rattle.table.specs.Refusals.Laws.{length-few}
 
 -- ---- the term that stands n terms into a term
@@ -154,26 +153,6 @@ module _ (calls : ℕ → ℕ) where
 
 -- ---- over the definitions
 
--- a body, or the follower of the prefix whose number is one less
-pub data Judged9 (ds : List Definition) (n : ℕ) (p : Term) : Type 0 where
-  a-body : (d : ℕ) → d < length ds → n ≡ sizes (take d ds) → Judged9 ds n p
-  a-follower : (m : ℕ) (r : SetRef) → n ≡ suc m → termOfDefs ds m ≡ some (prefix r p) → Judged9 ds n p
-
-pub record ManyAt (calls : ℕ → ℕ) (ds : List Definition) (n : ℕ) : Type 0 where
-  pub term : Term
-  pub here : termOfDefs ds n ≡ some term
-  pub many : 256 < branchesWith calls term
-  pub place : Judged9 ds n term
-
-size-some : (p : Term) → 1 ≤ size p
-unfolding size
-size-some stop = omega arith
-size-some fail = omega arith
-size-some (prefix r p) = omega arith
-size-some (choice p q) = omega arith
-size-some (par r p q) = omega arith
-size-some (call d) = omega arith
-
 defs-left : (d : Definition) (ds : List Definition) (n : ℕ) → n < size (d .body)
     → termOfDefs (d ∷ ds) n ≡ termIn (d .body) n
 unfolding termOfDefs
@@ -215,7 +194,7 @@ module _ (calls : ℕ → ℕ) where
             place = a-follower m (x .set) refl (defs-left d ds m (omega arith) ∙ x .before);
           }
 
-      shift : (k n : ℕ) (p : Term) → n ≡ size (d .body) + k → Judged9 ds k p → Judged9 (d ∷ ds) n p
+      shift : (k n : ℕ) (p : Term) → n ≡ size (d .body) + k → BodyOrFollower ds k p → BodyOrFollower (d ∷ ds) n p
       shift k n p j (a-body i b e) = a-body (suc i) (omega arith) (unfold sizes in (omega arith))
       shift k n p j (a-follower m r e f) = a-follower (size (d .body) + m) r (omega arith) (defs-right d ds m ∙ f)
 

@@ -23,7 +23,8 @@ use Rattle.residual.specs.Residual.Resolved.{length-resolved}
 use Rattle.residual.specs.Distinct.{Resolvable}
 use Rattle.residual.specs.Distinct.Laws.{at-window}
 use Rattle.walk.specs.Walk.{leafKept, option, options, joins, results, room, onto}
-use Rattle.walk.specs.Walk.Leaves.{kept-not-kind, kept-not-held, leaf-length, leaf-below, options-length, option-at}
+use Rattle.walk.specs.Walk.Leaves.{kept-not-kind, kept-not-held, leaf-length, leaf-below, options-length}
+use Rattle.walk.specs.Walk.Leaves.{option-at}
 use Rattle.walk.specs.Walk.Leaves.{option-short}
 use Rattle.walk.specs.Walk.Results.{onto-head, onto-append, moved-leaf, odd, half}
 use Rattle.slots.specs.Holding.{said, putAll, Gave}

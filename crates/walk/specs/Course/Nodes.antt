@@ -181,7 +181,8 @@ module _ {t : Table} {bound e : ℕ} {store : List ℕ} (ready : Ready t bound e
 
       pub told-both-yes : holdsAt t e (getD store k 0) ≡ true → a .moves ≡ true
           → Told t e store k (record { moves = b .moves; next = b .next })
-      told-both-yes h x = told-pair _ refl (λ n m l r i fl fr. sym (flag-both t e store k n m l r (i ∙ h) (fl ∙ x) ∙ fr))
+      told-both-yes h x =
+          told-pair _ refl (λ n m l r i fl fr. sym (flag-both t e store k n m l r (i ∙ h) (fl ∙ x) ∙ fr))
 
       pub told-both-no : holdsAt t e (getD store k 0) ≡ true → a .moves ≡ false
           → Told t e store k (record { moves = false; next = b .next })

@@ -67,7 +67,8 @@ module _ {t : Table} {bound e : ℕ} {store : List ℕ} (ready : Ready t bound e
     skip : nodesFrom store (a .next) ≡ words (turn .head .r) ++ turn .head .tail
     skip =
         rw (left-told .1)
-        (nodes-skip store (k + 1) (words (turn .head .l)) _ (omega (arith, ready .size, ready .few)) (turn .head .spelt))
+        (nodes-skip store (k + 1) (words (turn .head .l)) _ (omega (arith, ready .size, ready .few))
+        (turn .head .spelt))
 
     module _ (b : Tree) (tb : Told t e store (a .next) b) where
       right-told : b .moves ≡ flagged t e store (k + 1 + length (words (turn .head .l))) (turn .head .r)

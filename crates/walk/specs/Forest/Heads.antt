@@ -1,6 +1,5 @@
 -- The first tree of a forest.
 --     PairHead, pair-head      a pair's sides, and the trees after it
---     leaf-tail, pair-tail     the forest after the first node
 --     node-known               the first node is a known term
 -- Assumes nothing.
 use Prim.Native.Nat.{ℕ}
@@ -53,26 +52,6 @@ module _ (t : Table) (w : ℕ) (ws : List ℕ) where
 
   pub pair-head : Forest t (w ∷ ws) → kindAt t w ≡ 4 → PairHead t w ws
   pair-head f k = pair-head-of (f .trees) (f .spelt) (f .valid) k
-
-  leaf-tail-of : (rs : List Residual) → w ∷ ws ≡ wordsAll rs → AllValid t rs → (kindAt t w ≡ 4 → ⊥) → Forest t ws
-  unfolding wordsAll words
-  leaf-tail-of [] e v k = no-cons e
-  leaf-tail-of (leaf n m ∷ rs) e v k = record { trees = rs; spelt = tail-is e; valid = v .1 }
-  leaf-tail-of (pair n m l r ∷ rs) e v k =
-      absurd (k (ap (kindAt t) (head-is e) ∙ kind-of-node n m (v .0 .0 .0) t ∙ v .0 .1))
-
-  pub leaf-tail : Forest t (w ∷ ws) → (kindAt t w ≡ 4 → ⊥) → Forest t ws
-  leaf-tail f k = leaf-tail-of (f .trees) (f .spelt) (f .valid) k
-
-  pub pair-tail : Forest t (w ∷ ws) → kindAt t w ≡ 4 → Forest t ws
-  unfolding wordsAll
-  pair-tail f k =
-      let h = pair-head f k in
-      record {
-        trees = h .l ∷ h .r ∷ (h .others .trees);
-        spelt = rw (← (h .others .spelt)) (h .spelt);
-        valid = (h .valid .2, (h .valid .3, h .others .valid));
-      }
 
   known-of : (rs : List Residual) → w ∷ ws ≡ wordsAll rs → AllValid t rs → KnownWord t w
   unfolding wordsAll words

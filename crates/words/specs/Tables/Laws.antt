@@ -1,5 +1,5 @@
--- What `tell` promises of each answer; an answer's number and value with the lent words make the call of its outcome.
--- Assumes nothing.
+-- What `tell_table` promises of each answer; an answer's number and value with the lent words make the call of its
+-- outcome. Assumes nothing.
 use Prim.Native.Nat.{ℕ}
 use mathlib.Core.Path.{_≡_, refl, ap, _∙_}
 use mathlib.Core.List.{List}

@@ -1,16 +1,16 @@
--- `codec::bytes::encode` meets its contract. The invariant is `Filled`, with the output's length kept; the measure is
--- what is left of the list. There is room for every number. Assumes nothing.
+-- `codec::bytes::encode` meets its contract. The invariant is `OutputFilled`, with the output's length kept; the
+-- measure is what is left of the list. There is room for every number. Assumes nothing.
 use Prim.Native.Nat.{_-_}
 use native.Mathlib.Omega.{arith}
 use mathlib.Core.Path.{_≡_, refl, sym, _∙_}
 use lib.ListN.{length}
 use borrow.Author.Needs.{needs}
-use Rattle.codec.proofs.bytes.Written.{Filled, filled-none, filled-room, filled-more, filled-done}
+use Rattle.codec.proofs.bytes.Written.{OutputFilled, filled-none, filled-room, filled-more, filled-done}
 use Rattle.codec.proofs.bytes.encode.Statement.{statement}
 use Rattle.codec.proofs.bytes.encode.Tie as tie
 
 abbrev Inv-loop : tie.InvT-loop
-Inv-loop list out₀ p₀ i₀ out p i = Filled list out₀ out i p × (length out ≡ length out₀)
+Inv-loop list out₀ p₀ i₀ out p i = OutputFilled list out₀ out i p × (length out ≡ length out₀)
 
 abbrev μ-loop : tie.MeasureT-loop
 μ-loop list out₀ p₀ i₀ out p i = length list - i

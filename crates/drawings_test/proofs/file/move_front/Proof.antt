@@ -1,4 +1,5 @@
--- `drawings_test::file::move_front` is safe and ends. The buffer keeps its length; the measure is what is left. Assumes nothing.
+-- `drawings_test::file::move_front` is safe and ends. The buffer keeps its length; the measure is what is left.
+-- Assumes nothing.
 use Prim.Native.Nat.{_-_}
 use mathlib.Core.Path.{_≡_}
 use lib.ListN.{length}

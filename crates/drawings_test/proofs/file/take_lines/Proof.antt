@@ -1,5 +1,5 @@
--- `drawings_test::file::take_lines` meets its contract. The place stays within the n bytes, and the input's buffer keeps
--- its length; the measure is what is left of the bytes. Assumes nothing.
+-- `drawings_test::file::take_lines` meets its contract. The place stays within the n bytes, and the input's buffer
+-- keeps its length; the measure is what is left of the bytes. Assumes nothing.
 use Prim.Native.Nat.{_-_, _≤_}
 use mathlib.Core.Path.{_≡_}
 use lib.ListN.{length}

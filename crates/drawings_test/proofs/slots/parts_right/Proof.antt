@@ -1,4 +1,5 @@
--- `drawings_test::slots::parts_right` is safe and ends: the parts that `head` gives lie within the input. Assumes nothing.
+-- `drawings_test::slots::parts_right` is safe and ends: the parts that `head` gives lie within the input. Assumes
+-- nothing.
 use native.Mathlib.Omega.{arith}
 use Rattle.format.specs.Head.Laws.{head-within}
 use borrow.Author.Needs.{needs}

@@ -1,5 +1,5 @@
--- `drawings_test::trial::in_pieces` is safe and ends. The buffers keep their lengths; the measure is what is left of the
--- events. Assumes nothing.
+-- `drawings_test::trial::in_pieces` is safe and ends. The buffers keep their lengths; the measure is what is left of
+-- the events. Assumes nothing.
 use Prim.Native.Nat.{_-_, _≤_}
 use mathlib.Core.Path.{_≡_}
 use lib.ListN.{length}

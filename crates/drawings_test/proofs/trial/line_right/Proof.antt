@@ -1,4 +1,5 @@
--- `drawings_test::trial::line_right` is safe and ends: each part that is lent is no longer than its buffer. Assumes nothing.
+-- `drawings_test::trial::line_right` is safe and ends: each part that is lent is no longer than its buffer. Assumes
+-- nothing.
 use native.Mathlib.Omega.{arith}
 use mathlib.Core.Path.{sym}
 use lib.Seq.{length-take-le}

@@ -1,4 +1,5 @@
--- `drawings_test::trial::open_right` is safe and ends: what `open` gives lies within the list and the front. Assumes nothing.
+-- `drawings_test::trial::open_right` is safe and ends: what `open` gives lies within the list and the front. Assumes
+-- nothing.
 use native.Mathlib.Omega.{arith}
 use mathlib.Core.Path.{sym}
 use lib.ListN.{take, length-take}

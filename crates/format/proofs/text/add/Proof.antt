@@ -49,7 +49,8 @@ loop-again c =
       omega arith,
       simp length-set (loop .inv .1),
       loop .inv .2,
-      add-next (loop .bytes) (args .part .now) (take (args .text .count) (args .text .bytes)) (args .text .count) (loop .j)
+      add-next (loop .bytes) (args .part .now) (take (args .text .count) (args .text .bytes)) (args .text .count)
+          (loop .j)
           (omega (arith, loop .inv .1)) (omega arith) (loop .inv .3),
     )
 

@@ -43,7 +43,8 @@ returns c =
     let made = c .before .before .before .before .decimal in
     let at-start = c .before .before .before .before .before .before in
     let few = few-digits (at-start .args .n) (made .result) (omega (arith, at-start .fits .n)) (made .ensures .1 .0) in
-    number-added _ (c .before .before .add .result) (c .add2 .result) _ (made .result) _ (c .before .before .add .ensures)
+    number-added _ (c .before .before .add .result) (c .add2 .result) _ (made .result) _
+    (c .before .before .add .ensures)
     (c .add2 .ensures) (made .ensures .1 .1 ∙ decimal-digits _ _ few (made .ensures .1 .0)) (made .ensures .0 .1) few
 
 pub add-number-spec : {M : Type 1} → statement M

@@ -22,8 +22,10 @@ add-requires-2 c κs = search needs
 
 returns : tie.Need-returns
 returns c =
-    spelled-shown _ _ _ _ _ _ _ _ refl (c .before .before .before .before .add .ensures) (c .before .before .before .add-number .ensures)
-    (c .before .before .add-number2 .ensures) (c .add2 .ensures) (c .before .before .before .before .before .before .pre)
+    spelled-shown _ _ _ _ _ _ _ _ refl (c .before .before .before .before .add .ensures)
+    (c .before .before .before .add-number .ensures)
+    (c .before .before .add-number2 .ensures) (c .add2 .ensures)
+    (c .before .before .before .before .before .before .pre)
 
 pub spell-spec : {M : Type 1} → statement M
 spell-spec =

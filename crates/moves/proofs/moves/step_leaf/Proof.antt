@@ -1,5 +1,5 @@
--- `moves::moves::step_leaf` meets its contract: the first i results of the leaf are held, and what is left gives what was
--- left at the start. Assumes nothing.
+-- `moves::moves::step_leaf` meets its contract: the first i results of the leaf are held, and what is left gives what
+-- was left at the start. Assumes nothing.
 use Prim.Native.Nat.{_-_, _*_, _≤_}
 use native.Mathlib.Omega.{arith}
 use mathlib.Core.Path.{_≡_, refl, _∙_}
@@ -15,23 +15,36 @@ use Rattle.moves.proofs.moves.step_leaf.Statement.{statement}
 use Rattle.moves.proofs.moves.step_leaf.Tie as tie
 
 abbrev Inv-loop : tie.InvT-loop
-Inv-loop list work bound e src p n also slot dst₀ count w t m b c₀ i₀ dst c i = (length dst ≡ length dst₀) × (c * 16 ≤ length dst)
+Inv-loop list work bound e src p n also slot dst₀ count w t m b c₀ i₀ dst c i =
+    (length dst ≡ length dst₀) × (c * 16 ≤ length dst)
     × (leafLeft (tableIn list) e src p n also slot dst c i ≡ steppedLeaf (tableIn list) e src p n also slot dst₀ count)
 
 abbrev μ-loop : tie.MeasureT-loop
 μ-loop list work bound e src p n also slot dst₀ count w t m b c₀ i₀ dst c i = b - i
 
 mul-w : tie.Need-mul-w Inv-loop μ-loop
-mul-w c = omega (arith, c .before .before .before .before .pre .1 .inside, c .before .before .before .before .pre .1 .some)
+mul-w c =
+    omega (arith, c .before .before .before .before .pre .1 .inside, c .before .before .before .before .pre .1 .some)
 
 shared-slice-read-w : tie.Need-shared-slice-read-w Inv-loop μ-loop
-shared-slice-read-w c = omega (arith, c .before .before .before .before .before .pre .1 .inside, c .before .before .before .before .before .pre .1 .some)
+shared-slice-read-w c =
+    omega (
+      arith,
+      c .before .before .before .before .before .pre .1 .inside,
+      c .before .before .before .before .before .pre .1 .some,
+    )
 
 term-of-requires : tie.Need-term-of-requires Inv-loop μ-loop
 term-of-requires c κs = search needs
 
 add-t : tie.Need-add-t Inv-loop μ-loop
-add-t c = omega (arith, c .term-of .ensures, c .before .before .before .before .before .before .pre .1 .active .within, terms-few (c .before .before .before .before .before .before .pre .0))
+add-t c =
+    omega (
+      arith,
+      c .term-of .ensures,
+      c .before .before .before .before .before .before .pre .1 .active .within,
+      terms-few (c .before .before .before .before .before .before .pre .0),
+    )
 
 memory-of-requires : tie.Need-memory-of-requires Inv-loop μ-loop
 memory-of-requires c κs = search needs
@@ -40,22 +53,60 @@ remember-requires : tie.Need-remember-requires Inv-loop μ-loop
 remember-requires c κs = search needs
 
 branches-requires : tie.Need-branches-requires Inv-loop μ-loop
-branches-requires c κs = (c .before .before .before .before .before .before .before .before .pre .0, leaf-known (c .before .before .before .before .before .before .before .before .pre .1) (lawful (c .before .before .before .before .before .before .before .before .pre .0)) _ _ _ (c .before .before .term-of .ensures) (c .before .memory-of .ensures) (c .remember .ensures))
+branches-requires c κs = (
+  c .before .before .before .before .before .before .before .before .pre .0,
+  leaf-known (c .before .before .before .before .before .before .before .before .pre .1)
+      (lawful (c .before .before .before .before .before .before .before .before .pre .0)) _ _ _
+      (c .before .before .term-of .ensures) (c .before .memory-of .ensures) (c .remember .ensures),
+)
 
 loop-holds : tie.Need-loop-holds Inv-loop μ-loop
-loop-holds c = (refl, c .before .before .before .before .before .before .before .before .before .pre .1 .held, leaf-first (c .before .before .before .before .before .before .before .before .before .pre .1))
+loop-holds c = (
+  refl,
+  c .before .before .before .before .before .before .before .before .before .pre .1 .held,
+  leaf-first (c .before .before .before .before .before .before .before .before .before .pre .1),
+)
 
 resolve-at-requires : tie.Need-resolve-at-requires Inv-loop μ-loop
-resolve-at-requires c κs = (c .before .before .before .before .before .before .before .before .before .before .before .pre .0, leaf-resolves (c .before .before .before .before .before .before .before .before .before .before .before .pre .1) (lawful (c .before .before .before .before .before .before .before .before .before .before .before .pre .0)) _ _ _ (c .before .before .before .before .before .term-of .ensures) (c .before .before .before .before .memory-of .ensures) (c .before .before .before .remember .ensures) _ (c .before .before .branches .ensures .0) _ (c .loop-test .taken))
+resolve-at-requires c κs = (
+  c .before .before .before .before .before .before .before .before .before .before .before .pre .0,
+  leaf-resolves (c .before .before .before .before .before .before .before .before .before .before .before .pre .1)
+      (lawful (c .before .before .before .before .before .before .before .before .before .before .before .pre .0)) _ _ _
+      (c .before .before .before .before .before .term-of .ensures)
+      (c .before .before .before .before .memory-of .ensures) (c .before .before .before .remember .ensures) _
+      (c .before .before .branches .ensures .0) _ (c .loop-test .taken),
+)
 
 add-extend : tie.Need-add-extend Inv-loop μ-loop
-add-extend c = omega (arith, c .before .before .before .before .before .before .before .before .before .before .before .before .pre .1 .inside, c .before .before .before .before .before .before .before .before .before .before .before .before .pre .1 .some)
+add-extend c =
+    omega (
+      arith,
+      c .before .before .before .before .before .before .before .before .before .before .before .before
+          .pre .1 .inside,
+      c .before .before .before .before .before .before .before .before .before .before .before .before
+          .pre .1 .some,
+    )
 
 sub-extend : tie.Need-sub-extend Inv-loop μ-loop
-sub-extend c = omega (arith, c .before .before .before .before .before .before .before .before .before .before .before .before .pre .1 .inside, c .before .before .before .before .before .before .before .before .before .before .before .before .pre .1 .some)
+sub-extend c =
+    omega (
+      arith,
+      c .before .before .before .before .before .before .before .before .before .before .before .before
+          .pre .1 .inside,
+      c .before .before .before .before .before .before .before .before .before .before .before .before
+          .pre .1 .some,
+    )
 
 extend-requires : tie.Need-extend-requires Inv-loop μ-loop
-extend-requires c κs = (c .before .before .before .before .before .before .before .before .before .before .before .before .pre .0, leaf-rebuilds (c .before .before .before .before .before .before .before .before .before .before .before .before .pre .1) (lawful (c .before .before .before .before .before .before .before .before .before .before .before .before .pre .0)) _ _ _ (c .before .before .before .before .before .before .term-of .ensures) (c .before .before .before .before .before .memory-of .ensures) (c .before .before .before .before .remember .ensures) _ (c .before .before .before .branches .ensures .0) _ (c .before .loop-test .taken) _ (c .resolve-at .ensures))
+extend-requires c κs = (
+  c .before .before .before .before .before .before .before .before .before .before .before .before .pre .0,
+  leaf-rebuilds (c .before .before .before .before .before .before .before .before .before .before .before .before
+      .pre .1) (lawful (c .before .before .before .before .before .before .before .before .before .before .before
+      .before .pre .0)) _ _ _ (c .before .before .before .before .before .before .term-of .ensures)
+      (c .before .before .before .before .before .memory-of .ensures)
+      (c .before .before .before .before .remember .ensures) _ (c .before .before .before .branches .ensures .0) _
+      (c .before .loop-test .taken) _ (c .resolve-at .ensures),
+)
 
 put-requires : tie.Need-put-requires Inv-loop μ-loop
 put-requires c κs = c .before .before .before .before .loop .inv .1
@@ -64,13 +115,37 @@ enum-known-d : tie.Need-enum-known-d Inv-loop μ-loop
 enum-known-d c = search needs
 
 add-i : tie.Need-add-i Inv-loop μ-loop
-add-i c = omega (arith, c .before .before .before .before .before .before .before .before .before .loop-test .taken, c .before .before .before .before .before .before .before .before .before .before .before .branches .ensures .1)
+add-i c =
+    omega (
+      arith,
+      c .before .before .before .before .before .before .before .before .before .loop-test .taken,
+      c .before .before .before .before .before .before .before .before .before .before .before .branches .ensures .1,
+    )
 
 loop-less : tie.Need-loop-less Inv-loop μ-loop
 loop-less c = omega (arith, c .before .before .before .before .before .before .before .before .before .loop-test .taken)
 
 loop-again : tie.Need-loop-again Inv-loop μ-loop
-loop-again c = let q = leaf-next (c .before .before .before .before .before .before .before .before .before .before .before .before .before .before .before .before .before .before .before .before .pre .1) (lawful (c .before .before .before .before .before .before .before .before .before .before .before .before .before .before .before .before .before .before .before .before .pre .0)) _ _ _ (c .before .before .before .before .before .before .before .before .before .before .before .before .before .before .term-of .ensures) (c .before .before .before .before .before .before .before .before .before .before .before .before .before .memory-of .ensures) (c .before .before .before .before .before .before .before .before .before .before .before .before .remember .ensures) _ (c .before .before .before .before .before .before .before .before .before .before .before .branches .ensures .0) _ (c .before .before .before .before .before .before .before .before .before .loop-test .taken) _ (c .before .before .before .before .before .before .before .before .resolve-at .ensures) _ (c .before .before .before .before .before .before .before .extend .ensures) _ _ _ _ (c .before .before .before .before .before .put .ensures) _ (c .before .d .given .1) in (c .before .before .before .before .before .put .kept .0 ∙ c .before .before .before .before .before .before .before .before .before .before .loop .inv .0, q .1, q .0 ∙ c .before .before .before .before .before .before .before .before .before .before .loop .inv .2)
+loop-again c =
+    let q = leaf-next (c .before .before .before .before .before .before .before .before .before .before .before
+    .before .before .before .before .before .before .before .before .before .pre .1)
+    (lawful (c .before .before .before .before .before .before .before .before .before .before .before .before .before
+    .before .before .before .before .before .before .before .pre .0)) _ _ _
+    (c .before .before .before .before .before .before .before .before .before .before .before .before .before .before
+    .term-of .ensures) (c .before .before .before .before .before .before .before .before .before .before .before
+    .before .before .memory-of .ensures) (c .before .before .before .before .before .before .before .before .before
+    .before .before .before .remember .ensures) _
+    (c .before .before .before .before .before .before .before .before .before .before .before .branches .ensures .0)
+    _ (c .before .before .before .before .before .before .before .before .before .loop-test .taken) _
+    (c .before .before .before .before .before .before .before .before .resolve-at .ensures) _
+    (c .before .before .before .before .before .before .before .extend .ensures) _ _ _ _
+    (c .before .before .before .before .before .put .ensures) _ (c .before .d .given .1) in (
+      c .before .before .before .before .before .put .kept .0
+          ∙ c .before .before .before .before .before .before .before .before .before .before .loop .inv .0,
+      q .1,
+      q .0
+          ∙ c .before .before .before .before .before .before .before .before .before .before .loop .inv .2,
+    )
 
 enum-told : tie.Need-enum-told Inv-loop μ-loop
 enum-told c = search needs
@@ -79,13 +154,38 @@ same-length : tie.Need-same-length Inv-loop μ-loop
 same-length c = search needs
 
 returns : tie.Need-returns Inv-loop μ-loop
-returns c = record { same = leaf-exceeded (c .before .before .before .before .before .before .before .before .before .before .before .before .before .before .before .before .before .before .before .pre .1) (lawful (c .before .before .before .before .before .before .before .before .before .before .before .before .before .before .before .before .before .before .before .pre .0)) _ _ _ (c .before .before .before .before .before .before .before .before .before .before .before .before .before .term-of .ensures) (c .before .before .before .before .before .before .before .before .before .before .before .before .memory-of .ensures) (c .before .before .before .before .before .before .before .before .before .before .before .remember .ensures) _ (c .before .before .before .before .before .before .before .before .before .before .branches .ensures .0) _ (c .before .before .before .before .before .before .before .before .loop-test .taken) _ (c .before .before .before .before .before .before .before .resolve-at .ensures) _ (c .before .before .before .before .before .before .extend .ensures) _ _ _ _ (c .before .before .before .before .put .ensures) (c .enum-told .given .1) ∙ c .before .before .before .before .before .before .before .before .before .loop .inv .2; fits = omega arith }
+returns c =
+    record {
+      same = leaf-exceeded (c .before .before .before .before .before .before .before .before .before .before
+          .before .before .before .before .before .before .before .before .before .pre .1)
+          (lawful (c .before .before .before .before .before .before .before .before .before .before .before .before .before
+          .before .before .before .before .before .before .pre .0)) _ _ _
+          (c .before .before .before .before .before .before .before .before .before .before .before .before .before
+          .term-of .ensures) (c .before .before .before .before .before .before .before .before .before .before .before
+          .before .memory-of .ensures) (c .before .before .before .before .before .before .before .before .before .before
+          .before .remember .ensures) _ (c .before .before .before .before .before .before .before .before .before .before
+          .branches .ensures .0) _ (c .before .before .before .before .before .before .before .before .loop-test .taken) _
+          (c .before .before .before .before .before .before .before .resolve-at .ensures) _
+          (c .before .before .before .before .before .before .extend .ensures) _ _ _ _
+          (c .before .before .before .before .put .ensures) (c .enum-told .given .1)
+          ∙ c .before .before .before .before .before .before .before .before .before .loop .inv .2;
+      fits = omega arith;
+    }
 
 same-length-2 : tie.Need-same-length-2 Inv-loop μ-loop
 same-length-2 c = search needs
 
 returns-2 : tie.Need-returns-2 Inv-loop μ-loop
-returns-2 c = record { same = leaf-end (c .before .before .before .before .before .before .before .before .before .before .before .pre .1) (lawful (c .before .before .before .before .before .before .before .before .before .before .before .pre .0)) _ _ _ (c .before .before .before .before .before .term-of .ensures) (c .before .before .before .before .memory-of .ensures) (c .before .before .before .remember .ensures) _ (c .before .before .branches .ensures .0) _ _ _ (omega (arith, c .loop-test .left)) ∙ c .before .loop .inv .2; fits = c .before .loop .inv .1 }
+returns-2 c =
+    record {
+      same = leaf-end (c .before .before .before .before .before .before .before .before .before .before
+          .before .pre .1) (lawful (c .before .before .before .before .before .before .before .before .before .before
+          .before .pre .0)) _ _ _ (c .before .before .before .before .before .term-of .ensures)
+          (c .before .before .before .before .memory-of .ensures) (c .before .before .before .remember .ensures) _
+          (c .before .before .branches .ensures .0) _ _ _ (omega (arith, c .loop-test .left))
+          ∙ c .before .loop .inv .2;
+      fits = c .before .loop .inv .1;
+    }
 
 pub step-leaf-spec : {M : Type 1} → statement M
 step-leaf-spec =

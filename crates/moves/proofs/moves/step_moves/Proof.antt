@@ -1,5 +1,5 @@
--- `moves::moves::step_moves` meets its contract: what is left of the nodes, with what is held by now, comes to what is due.
--- The measure is the bits of the leaves that are left. Assumes nothing.
+-- `moves::moves::step_moves` meets its contract: what is left of the nodes, with what is held by now, comes to what
+-- is due. The measure is the bits of the leaves that are left. Assumes nothing.
 use native.Mathlib.Omega.{arith}
 use mathlib.Core.Path.{_≡_, refl, _∙_}
 use lib.ListN.{length}
@@ -42,11 +42,15 @@ loop-less c = omega (arith, c .before .before .before .before .before .before .b
 
 loop-again : tie.Need-loop-again Inv-loop μ-loop
 loop-again c =
-    let at-loop = c .before .before .before .before .before .before .before .before .before in let at-start = at-loop .before .before .before .before .before in
+    let at-loop =
+    c .before .before .before .before .before .before .before .before .before in
+    let at-start = at-loop .before .before .before .before .before in
     let event = at-start .pre .1 .event in let whole = at-start .pre .1 .whole in
     let left = at-loop .loop .inv .0 in
     let step = c .before .before .before .before .before .step-leaf in (
-      left-cleared event whole left (c .before .before .before .before .before .before .before .before .loop-test .taken) (c .before .before .before .before .before .before .before .if1 .taken) _ _ (step .ensures) _ (c .before .d .given .1),
+      left-cleared event whole left (c .before .before .before .before .before .before .before .before .loop-test
+          .taken) (c .before .before .before .before .before .before .before .if1 .taken) _ _ (step .ensures) _
+          (c .before .d .given .1),
       step .kept .1 .1 .1 .1 .1 .1 .1 .1 .1 .0 ∙ at-loop .loop .inv .1,
     )
 
@@ -59,10 +63,14 @@ same-length c = search needs
 -- it has no room
 returns : tie.Need-returns Inv-loop μ-loop
 returns c =
-    let at-loop = c .before .before .before .before .before .before .before .before in let at-start = at-loop .before .before .before .before .before in
+    let at-loop =
+    c .before .before .before .before .before .before .before .before in
+    let at-start = at-loop .before .before .before .before .before in
     let event = at-start .pre .1 .event in let whole = at-start .pre .1 .whole in
     let left = at-loop .loop .inv .0 in
-    left-exceeded event whole left (c .before .before .before .before .before .before .before .loop-test .taken) (c .before .before .before .before .before .before .if1 .taken) _ _ (c .before .before .before .before .step-leaf .ensures) (c .enum-told .given .1)
+    left-exceeded event whole left (c .before .before .before .before .before .before .before .loop-test .taken)
+    (c .before .before .before .before .before .before .if1 .taken) _ _
+    (c .before .before .before .before .step-leaf .ensures) (c .enum-told .given .1)
 
 mul-w : tie.Need-mul-w Inv-loop μ-loop
 mul-w c =
@@ -83,28 +91,48 @@ array-read-k c =
     let at-loop = c .before .before .before .before in let at-start = at-loop .before .before .before .before .before in
     let event = at-start .pre .1 .event in let whole = at-start .pre .1 .whole in
     let left = at-loop .loop .inv .0 in
-    omega (arith, left .rest .size, left-room event whole left (c .before .before .before .loop-test .taken) (omega (arith, c .before .before .if1 .left)))
+    omega (
+      arith,
+      left .rest .size,
+      left-room event whole left (c .before .before .before .loop-test .taken)
+          (omega (arith, c .before .before .if1 .left)),
+    )
 
 add-k : tie.Need-add-k Inv-loop μ-loop
 add-k c =
     let at-loop = c .before .before .before .before in let at-start = at-loop .before .before .before .before .before in
     let event = at-start .pre .1 .event in let whole = at-start .pre .1 .whole in
     let left = at-loop .loop .inv .0 in
-    omega (arith, left .rest .size, left-room event whole left (c .before .before .before .loop-test .taken) (omega (arith, c .before .before .if1 .left)))
+    omega (
+      arith,
+      left .rest .size,
+      left-room event whole left (c .before .before .before .loop-test .taken)
+          (omega (arith, c .before .before .if1 .left)),
+    )
 
 mul-s : tie.Need-mul-s Inv-loop μ-loop
 mul-s c =
     let at-loop = c .before .before .before .before in let at-start = at-loop .before .before .before .before .before in
     let event = at-start .pre .1 .event in let whole = at-start .pre .1 .whole in
     let left = at-loop .loop .inv .0 in
-    omega (arith, left .rest .size, left-room event whole left (c .before .before .before .loop-test .taken) (omega (arith, c .before .before .if1 .left)))
+    omega (
+      arith,
+      left .rest .size,
+      left-room event whole left (c .before .before .before .loop-test .taken)
+          (omega (arith, c .before .before .if1 .left)),
+    )
 
 array-write-s : tie.Need-array-write-s Inv-loop μ-loop
 array-write-s c =
     let at-loop = c .before .before .before .before in let at-start = at-loop .before .before .before .before .before in
     let event = at-start .pre .1 .event in let whole = at-start .pre .1 .whole in
     let left = at-loop .loop .inv .0 in
-    omega (arith, left .rest .size, left-room event whole left (c .before .before .before .loop-test .taken) (omega (arith, c .before .before .if1 .left)))
+    omega (
+      arith,
+      left .rest .size,
+      left-room event whole left (c .before .before .before .loop-test .taken)
+          (omega (arith, c .before .before .if1 .left)),
+    )
 
 array-write-s-2 : tie.Need-array-write-s-2 Inv-loop μ-loop
 array-write-s-2 c = search needs
@@ -132,27 +160,35 @@ unfolding pushed
 loop-again-2 c =
     let at-loop = c .before .before .before .before in let at-start = at-loop .before .before .before .before .before in
     let event = at-start .pre .1 .event in let whole = at-start .pre .1 .whole in
-    let left = at-loop .loop .inv .0 in
-    (left-pushed event whole left (c .before .before .before .loop-test .taken) (omega (arith, c .before .before .if1 .left)) (c .if2 .taken), at-loop .loop .inv .1)
+    let left = at-loop .loop .inv .0 in (
+      left-pushed event whole left (c .before .before .before .loop-test .taken)
+          (omega (arith, c .before .before .if1 .left)) (c .if2 .taken),
+      at-loop .loop .inv .1,
+    )
 
 -- a node that is carried
 carry-requires : tie.Need-carry-requires Inv-loop μ-loop
 carry-requires c κs =
     let at-loop = c .before .before .before .before in let at-start = at-loop .before .before .before .before .before in
     let event = at-start .pre .1 .event in let whole = at-start .pre .1 .whole in
-    let left = at-loop .loop .inv .0 in
-    (at-start .pre .0, left-carries event whole left (c .before .before .before .loop-test .taken) (omega (arith, c .before .before .if1 .left)))
+    let left = at-loop .loop .inv .0 in (
+      at-start .pre .0,
+      left-carries event whole left (c .before .before .before .loop-test .taken)
+          (omega (arith, c .before .before .if1 .left)),
+    )
 
 add-at-2 : tie.Need-add-at-2 Inv-loop μ-loop
 add-at-2 c =
-    let at-loop = c .before .before .before .before .before in let at-start = at-loop .before .before .before .before .before in
+    let at-loop =
+    c .before .before .before .before .before in let at-start = at-loop .before .before .before .before .before in
     let event = at-start .pre .1 .event in let whole = at-start .pre .1 .whole in
     let left = at-loop .loop .inv .0 in
     omega (arith, left .inside, left-head event whole left (c .before .before .before .before .loop-test .taken))
 
 sub-left-2 : tie.Need-sub-left-2 Inv-loop μ-loop
 sub-left-2 c =
-    let at-loop = c .before .before .before .before .before in let at-start = at-loop .before .before .before .before .before in
+    let at-loop =
+    c .before .before .before .before .before in let at-start = at-loop .before .before .before .before .before in
     let event = at-start .pre .1 .event in let whole = at-start .pre .1 .whole in
     let left = at-loop .loop .inv .0 in
     omega (arith, left .inside, left-head event whole left (c .before .before .before .before .loop-test .taken))
@@ -162,10 +198,12 @@ loop-less-3 c = omega (arith, c .before .before .before .before .loop-test .take
 
 loop-again-3 : tie.Need-loop-again-3 Inv-loop μ-loop
 loop-again-3 c =
-    let at-loop = c .before .before .before .before .before in let at-start = at-loop .before .before .before .before .before in
+    let at-loop =
+    c .before .before .before .before .before in let at-start = at-loop .before .before .before .before .before in
     let event = at-start .pre .1 .event in let whole = at-start .pre .1 .whole in
     let left = at-loop .loop .inv .0 in (
-      left-carried event whole left (c .before .before .before .before .loop-test .taken) (omega (arith, c .before .before .before .if1 .left)) _ (c .carry .ensures),
+      left-carried event whole left (c .before .before .before .before .loop-test .taken)
+          (omega (arith, c .before .before .before .if1 .left)) _ (c .carry .ensures),
       at-loop .loop .inv .1,
     )
 

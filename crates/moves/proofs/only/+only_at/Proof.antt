@@ -1,5 +1,5 @@
--- `moves::only::only_at` meets its contract: the sides of a pair stand one after the other, each shorter; the measure is
--- how many words of the area follow. Assumes nothing.
+-- `moves::only::only_at` meets its contract: the sides of a pair stand one after the other, each shorter; the measure
+-- is how many words of the area follow. Assumes nothing.
 use native.Mathlib.Omega.{arith}
 use mathlib.Core.Path.{sym, _∙_}
 use mathlib.Core.Logic.{inl, inr}
@@ -69,7 +69,10 @@ only-at-kind-at-requires : (t : ℕ) → only-at-lts.Need-kind-at-requires (
   pair-way-reads.Asked,
   pair-way-reads.Learnt,
 ) (only-at-at t) only-at.Post
-only-at-kind-at-requires t c κs = (c .before .before .before .before .pre .1 .0, tree-known _ (c .before .before .before .before .pre .1 .1 .1 .at) .within)
+only-at-kind-at-requires t c κs = (
+  c .before .before .before .before .pre .1 .0,
+  tree-known _ (c .before .before .before .before .pre .1 .1 .1 .at) .within,
+)
 
 only-at-leaf-way-requires : (t : ℕ) → only-at-lts.Need-leaf-way-requires (
   kind-at-reads.Asked,
@@ -83,7 +86,16 @@ only-at-leaf-way-requires : (t : ℕ) → only-at-lts.Need-leaf-way-requires (
   pair-way-reads.Asked,
   pair-way-reads.Learnt,
 ) (only-at-at t) only-at.Post
-only-at-leaf-way-requires t c κs = (c .before .before .before .before .before .before .pre .1 .0, ((tree-known _ (c .before .before .before .before .before .before .pre .1 .1 .1 .at), (sym (c .before .kind-at .ensures) ∙ c .match .keys1)), c .before .before .before .before .before .before .pre .1 .1 .0))
+only-at-leaf-way-requires t c κs = (
+  c .before .before .before .before .before .before .pre .1 .0,
+  (
+    (
+      tree-known _ (c .before .before .before .before .before .before .pre .1 .1 .1 .at),
+      (sym (c .before .kind-at .ensures) ∙ c .match .keys1),
+    ),
+    c .before .before .before .before .before .before .pre .1 .1 .0,
+  ),
+)
 
 only-at-add-t20 : (t : ℕ) → only-at-lts.Need-add-t20 (
   kind-at-reads.Asked,
@@ -97,7 +109,8 @@ only-at-add-t20 : (t : ℕ) → only-at-lts.Need-add-t20 (
   pair-way-reads.Asked,
   pair-way-reads.Learnt,
 ) (only-at-at t) only-at.Post
-only-at-add-t20 t c = omega (arith, tree-in _ (c .before .before .before .before .before .before .before .pre .1 .1 .1 .at))
+only-at-add-t20 t c =
+    omega (arith, tree-in _ (c .before .before .before .before .before .before .before .pre .1 .1 .1 .at))
 
 only-at-add-only-at : (t : ℕ) → only-at-lts.Need-add-only-at (
   kind-at-reads.Asked,
@@ -125,7 +138,21 @@ only-at-only-at-requires : (t : ℕ) → only-at-lts.Need-only-at-requires (
   pair-way-reads.Asked,
   pair-way-reads.Learnt,
 ) (only-at-at t) only-at.Post
-only-at-only-at-requires t c κs = (omega (arith, c .before .before .before .before .before .before .pre .0, tree-in _ (c .before .before .before .before .before .before .pre .1 .1 .1 .at)), (c .before .before .before .before .before .before .pre .1 .0, (c .before .before .before .before .before .before .pre .1 .1 .0, short-left _ (c .before .before .before .before .before .before .pre .1 .1 .1) (sym (c .before .kind-at .ensures) ∙ c .match .keys2))))
+only-at-only-at-requires t c κs = (
+  omega (
+    arith,
+    c .before .before .before .before .before .before .pre .0,
+    tree-in _ (c .before .before .before .before .before .before .pre .1 .1 .1 .at),
+  ),
+  (
+    c .before .before .before .before .before .before .pre .1 .0,
+    (
+      c .before .before .before .before .before .before .pre .1 .1 .0,
+      short-left _ (c .before .before .before .before .before .before .pre .1 .1 .1)
+          (sym (c .before .kind-at .ensures) ∙ c .match .keys2),
+    ),
+  ),
+)
 
 only-at-only-at-requires-2 : (t : ℕ) → only-at-lts.Need-only-at-requires-2 (
   kind-at-reads.Asked,
@@ -139,7 +166,21 @@ only-at-only-at-requires-2 : (t : ℕ) → only-at-lts.Need-only-at-requires-2 (
   pair-way-reads.Asked,
   pair-way-reads.Learnt,
 ) (only-at-at t) only-at.Post
-only-at-only-at-requires-2 t c κs = let g = short-right _ (c .before .before .before .before .before .before .before .pre .1 .1 .1) (sym (c .before .before .kind-at .ensures) ∙ c .before .match .keys2) (c .before .before .before .before .before .before .before .args .e) _ (c .only-at .ensures) in (omega (arith, c .before .before .before .before .before .before .before .pre .0, tree-in _ (c .before .before .before .before .before .before .before .pre .1 .1 .1 .at), g .1), (c .before .before .before .before .before .before .before .pre .1 .0, (c .before .before .before .before .before .before .before .pre .1 .1 .0, g .0)))
+only-at-only-at-requires-2 t c κs =
+    let g = short-right _ (c .before .before .before .before .before .before .before .pre .1 .1 .1)
+    (sym (c .before .before .kind-at .ensures) ∙ c .before .match .keys2)
+    (c .before .before .before .before .before .before .before .args .e) _ (c .only-at .ensures) in (
+      omega (
+        arith,
+        c .before .before .before .before .before .before .before .pre .0,
+        tree-in _ (c .before .before .before .before .before .before .before .pre .1 .1 .1 .at),
+        g .1,
+      ),
+      (
+        c .before .before .before .before .before .before .before .pre .1 .0,
+        (c .before .before .before .before .before .before .before .pre .1 .1 .0, g .0),
+      ),
+    )
 
 only-at-holds-at-requires : (t : ℕ) → only-at-lts.Need-holds-at-requires (
   kind-at-reads.Asked,
@@ -153,7 +194,16 @@ only-at-holds-at-requires : (t : ℕ) → only-at-lts.Need-holds-at-requires (
   pair-way-reads.Asked,
   pair-way-reads.Learnt,
 ) (only-at-at t) only-at.Post
-only-at-holds-at-requires t c κs = (c .before .before .before .before .before .before .before .before .pre .1 .0, (tree-known _ (c .before .before .before .before .before .before .before .before .pre .1 .1 .1 .at), (inr (sym (c .before .before .before .kind-at .ensures) ∙ c .before .before .match .keys2), c .before .before .before .before .before .before .before .before .pre .1 .1 .0)))
+only-at-holds-at-requires t c κs = (
+  c .before .before .before .before .before .before .before .before .pre .1 .0,
+  (
+    tree-known _ (c .before .before .before .before .before .before .before .before .pre .1 .1 .1 .at),
+    (
+      inr (sym (c .before .before .before .kind-at .ensures) ∙ c .before .before .match .keys2),
+      c .before .before .before .before .before .before .before .before .pre .1 .1 .0,
+    ),
+  ),
+)
 
 only-at-sub-pair-way : (t : ℕ) → only-at-lts.Need-sub-pair-way (
   kind-at-reads.Asked,
@@ -167,7 +217,14 @@ only-at-sub-pair-way : (t : ℕ) → only-at-lts.Need-sub-pair-way (
   pair-way-reads.Asked,
   pair-way-reads.Learnt,
 ) (only-at-at t) only-at.Post
-only-at-sub-pair-way t c = omega (arith, short-right _ (c .before .before .before .before .before .before .before .before .before .pre .1 .1 .1) (sym (c .before .before .before .before .kind-at .ensures) ∙ c .before .before .before .match .keys2) (c .before .before .before .before .before .before .before .before .before .args .e) _ (c .before .before .only-at .ensures) .1)
+only-at-sub-pair-way t c =
+    omega (
+      arith,
+      short-right _ (c .before .before .before .before .before .before .before .before .before .pre .1 .1
+          .1) (sym (c .before .before .before .before .kind-at .ensures) ∙ c .before .before .before .match .keys2)
+          (c .before .before .before .before .before .before .before .before .before .args .e) _
+          (c .before .before .only-at .ensures) .1,
+    )
 
 only-at-pair-way-requires : (t : ℕ) → only-at-lts.Need-pair-way-requires (
   kind-at-reads.Asked,
@@ -181,7 +238,11 @@ only-at-pair-way-requires : (t : ℕ) → only-at-lts.Need-pair-way-requires (
   pair-way-reads.Asked,
   pair-way-reads.Learnt,
 ) (only-at-at t) only-at.Post
-only-at-pair-way-requires t c κs = pair-fits _ (c .before .before .before .before .before .before .before .before .before .pre .1 .1 .1) (sym (c .before .before .before .before .kind-at .ensures) ∙ c .before .before .before .match .keys2) (c .before .before .before .before .before .before .before .before .before .args .e) _ (c .before .before .only-at .ensures) _ (c .before .only-at2 .ensures)
+only-at-pair-way-requires t c κs =
+    pair-fits _ (c .before .before .before .before .before .before .before .before .before .pre .1 .1 .1)
+    (sym (c .before .before .before .before .kind-at .ensures) ∙ c .before .before .before .match .keys2)
+    (c .before .before .before .before .before .before .before .before .before .args .e) _
+    (c .before .before .only-at .ensures) _ (c .before .only-at2 .ensures)
 
 only-at-add-t24 : (t : ℕ) → only-at-lts.Need-add-t24 (
   kind-at-reads.Asked,
@@ -209,7 +270,9 @@ only-at-returns : (t : ℕ) → only-at-lts.Need-returns (
   pair-way-reads.Asked,
   pair-way-reads.Learnt,
 ) (only-at-at t) only-at.Post
-only-at-returns t c = only-leaf _ (c .before .before .before .before .before .before .before .pre .1 .1 .1) _ (sym (c .before .before .kind-at .ensures) ∙ c .before .match .keys1) _ (c .leaf-way .ensures)
+only-at-returns t c =
+    only-leaf _ (c .before .before .before .before .before .before .before .pre .1 .1 .1) _
+    (sym (c .before .before .kind-at .ensures) ∙ c .before .match .keys1) _ (c .leaf-way .ensures)
 
 only-at-returns-2 : (t : ℕ) → only-at-lts.Need-returns-2 (
   kind-at-reads.Asked,
@@ -223,7 +286,13 @@ only-at-returns-2 : (t : ℕ) → only-at-lts.Need-returns-2 (
   pair-way-reads.Asked,
   pair-way-reads.Learnt,
 ) (only-at-at t) only-at.Post
-only-at-returns-2 t c = only-pair _ (c .before .before .before .before .before .before .before .before .before .before .pre .1 .1 .1) (sym (c .before .before .before .before .before .kind-at .ensures) ∙ c .before .before .before .before .match .keys2) (c .before .before .before .before .before .before .before .before .before .before .args .e) _ (c .before .before .before .only-at .ensures) _ (c .before .before .only-at2 .ensures) _ (c .before .holds-at .ensures) _ (c .pair-way .ensures)
+only-at-returns-2 t c =
+    only-pair _ (c .before .before .before .before .before .before .before .before .before .before .pre .1 .1 .1)
+    (sym (c .before .before .before .before .before .kind-at .ensures)
+    ∙ c .before .before .before .before .match .keys2)
+    (c .before .before .before .before .before .before .before .before .before .before .args .e) _
+    (c .before .before .before .only-at .ensures) _ (c .before .before .only-at2 .ensures) _
+    (c .before .holds-at .ensures) _ (c .pair-way .ensures)
 
 only-at-returns-3 : (t : ℕ) → only-at-lts.Need-returns-3 (
   kind-at-reads.Asked,
@@ -238,8 +307,11 @@ only-at-returns-3 : (t : ℕ) → only-at-lts.Need-returns-3 (
   pair-way-reads.Learnt,
 ) (only-at-at t) only-at.Post
 only-at-returns-3 t c = elim (c .match .came) [
-  | inl k ↦ only-none _ (c .before .before .before .before .before .before .pre .1 .1 .1) _ (λ z. omega (arith, k .keys3, c .before .kind-at .ensures, z)) (λ z. omega (arith, k .keys3, c .before .kind-at .ensures, z))
-  | inr k ↦ only-none _ (c .before .before .before .before .before .before .pre .1 .1 .1) _ (λ z. k .rest .0 .1 (c .before .kind-at .ensures ∙ z)) (λ z. k .rest .0 .0 .1 (c .before .kind-at .ensures ∙ z))
+  | inl k ↦ only-none _ (c .before .before .before .before .before .before .pre .1 .1 .1) _
+      (λ z. omega (arith, k .keys3, c .before .kind-at .ensures, z))
+      (λ z. omega (arith, k .keys3, c .before .kind-at .ensures, z))
+  | inr k ↦ only-none _ (c .before .before .before .before .before .before .pre .1 .1 .1) _
+      (λ z. k .rest .0 .1 (c .before .kind-at .ensures ∙ z)) (λ z. k .rest .0 .0 .1 (c .before .kind-at .ensures ∙ z))
 ]
 
 pub +only-at-spec : {M : Type 1} → statement M

@@ -1,6 +1,6 @@
 -- `moves::only::both_way` meets its contract: one law for each way out. Assumes nothing.
 use native.Mathlib.Omega.{arith}
-use Rattle.moves.specs.Only.Joined.{both-left, both-right, sums-fit}
+use Rattle.moves.specs.Only.Ways.{both-left, both-right, sums-fit}
 use borrow.Author.Needs.{needs}
 use Rattle.moves.proofs.only.both_way.Statement.{statement}
 use Rattle.moves.proofs.only.both_way.Tie as tie
@@ -27,7 +27,12 @@ mul-also-2 : tie.Need-mul-also-2
 mul-also-2 c = search needs
 
 add-also-3 : tie.Need-add-also-3
-add-also-3 c = omega (arith, sums-fit (c .before .before .before .before .args .a) (c .before .before .before .before .args .b) _ (c .before .before .before .before .pre .1))
+add-also-3 c =
+    omega (
+      arith,
+      sums-fit (c .before .before .before .before .args .a) (c .before .before .before .before .args .b) _
+          (c .before .before .before .before .pre .1),
+    )
 
 shl-also-2 : tie.Need-shl-also-2
 shl-also-2 c = search needs
@@ -39,7 +44,9 @@ mul-each : tie.Need-mul-each
 mul-each c = search needs
 
 returns-2 : tie.Need-returns-2
-returns-2 c = both-right _ _ _ (c .before .before .before .before .before .pre .1) (c .before .before .before .before .if1 .left) (c .before .before .before .if2 .taken)
+returns-2 c =
+    both-right _ _ _ (c .before .before .before .before .before .pre .1)
+    (c .before .before .before .before .if1 .left) (c .before .before .before .if2 .taken)
 
 returns-3 : tie.Need-returns-3
 returns-3 c = search needs

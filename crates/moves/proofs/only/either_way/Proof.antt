@@ -1,12 +1,13 @@
 -- `moves::only::either_way` meets its contract: one law for each way out. Assumes nothing.
 use native.Mathlib.Omega.{arith}
-use Rattle.moves.specs.Only.Joined.{either-told, either-many, sums-fit}
+use Rattle.moves.specs.Only.Ways.{either-told, either-many, sums-fit}
 use borrow.Author.Needs.{needs}
 use Rattle.moves.proofs.only.either_way.Statement.{statement}
 use Rattle.moves.proofs.only.either_way.Tie as tie
 
 add-if1 : tie.Need-add-if1
-add-if1 c = omega (arith, sums-fit (c .before .before .args .a) (c .before .before .args .b) _ (c .before .before .pre .1))
+add-if1 c =
+    omega (arith, sums-fit (c .before .before .args .a) (c .before .before .args .b) _ (c .before .before .pre .1))
 
 mul-t6 : tie.Need-mul-t6
 mul-t6 c = search needs

@@ -1,5 +1,5 @@
 -- `moves::only::left_moves` meets its contract: the bits move up by one node. Assumes nothing.
-use Rattle.moves.specs.Only.Joined.{left-told}
+use Rattle.moves.specs.Only.Ways.{left-told}
 use borrow.Author.Needs.{needs}
 use Rattle.moves.proofs.only.left_moves.Statement.{statement}
 use Rattle.moves.proofs.only.left_moves.Tie as tie

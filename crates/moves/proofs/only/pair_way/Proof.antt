@@ -1,6 +1,6 @@
 -- `moves::only::pair_way` meets its contract: one law for each way out. Assumes nothing.
-use Rattle.moves.specs.Only.Joined.{fits-left, fits-right, fits-both, pair-left, pair-right, pair-both}
-use Rattle.moves.specs.Only.Joined.{pair-either}
+use Rattle.moves.specs.Only.Ways.{fits-left, fits-right, fits-both, pair-left, pair-right, pair-both}
+use Rattle.moves.specs.Only.Ways.{pair-either}
 use borrow.Author.Needs.{needs}
 use Rattle.moves.proofs.only.pair_way.Statement.{statement}
 use Rattle.moves.proofs.only.pair_way.Tie as tie
@@ -18,7 +18,14 @@ returns : tie.Need-returns
 returns c = search needs
 
 right-moves-requires : tie.Need-right-moves-requires
-right-moves-requires c κs = (c .before .before .before .before .before .before .pre .0, fits-right (c .before .before .before .before .before .before .args .left) (c .before .before .before .before .before .before .args .right) (c .before .before .before .before .before .before .args .held) (c .before .before .before .before .before .before .args .n) (c .before .before .before .before .before .before .pre .1) _ (c .before .before .right .given .1))
+right-moves-requires c κs = (
+  c .before .before .before .before .before .before .pre .0,
+  fits-right (c .before .before .before .before .before .before .args .left)
+      (c .before .before .before .before .before .before .args .right)
+      (c .before .before .before .before .before .before .args .held)
+      (c .before .before .before .before .before .before .args .n)
+      (c .before .before .before .before .before .before .pre .1) _ (c .before .before .right .given .1),
+)
 
 enum-told-3 : tie.Need-enum-told-3
 enum-told-3 c = search needs
@@ -36,19 +43,47 @@ returns-3 : tie.Need-returns-3
 returns-3 c = search needs
 
 left-moves-requires : tie.Need-left-moves-requires
-left-moves-requires c κs = fits-left (c .before .before .before .before .before .before .args .left) (c .before .before .before .before .before .before .args .right) (c .before .before .before .before .before .before .args .held) (c .before .before .before .before .before .before .args .n) (c .before .before .before .before .before .before .pre .1) _ (c .before .before .before .before .left .given .1)
+left-moves-requires c κs =
+    fits-left (c .before .before .before .before .before .before .args .left)
+    (c .before .before .before .before .before .before .args .right)
+    (c .before .before .before .before .before .before .args .held)
+    (c .before .before .before .before .before .before .args .n)
+    (c .before .before .before .before .before .before .pre .1) _ (c .before .before .before .before .left .given .1)
 
 enum-known-right-2 : tie.Need-enum-known-right-2
 enum-known-right-2 c = search needs
 
 both-way-requires : tie.Need-both-way-requires
-both-way-requires c κs = (c .before .before .before .before .before .before .before .pre .0, fits-both (c .before .before .before .before .before .before .before .args .left) (c .before .before .before .before .before .before .before .args .right) (c .before .before .before .before .before .before .before .args .held) (c .before .before .before .before .before .before .before .args .n) (c .before .before .before .before .before .before .before .pre .1) _ _ (c .before .before .before .before .before .left .given .1) (c .before .before .right2 .given .1))
+both-way-requires c κs = (
+  c .before .before .before .before .before .before .before .pre .0,
+  fits-both (c .before .before .before .before .before .before .before .args .left)
+      (c .before .before .before .before .before .before .before .args .right)
+      (c .before .before .before .before .before .before .before .args .held)
+      (c .before .before .before .before .before .before .before .args .n)
+      (c .before .before .before .before .before .before .before .pre .1) _ _
+      (c .before .before .before .before .before .left .given .1) (c .before .before .right2 .given .1),
+)
 
 returns-4 : tie.Need-returns-4
-returns-4 c = pair-both (c .before .before .before .before .before .before .before .before .args .left) (c .before .before .before .before .before .before .before .before .args .right) (c .before .before .before .before .before .before .before .before .args .held) (c .before .before .before .before .before .before .before .before .args .n) (c .before .before .before .before .before .before .before .before .pre .1) _ _ _ (c .before .before .before .before .before .before .left .given .1) (c .before .before .before .right2 .given .1) (c .before .if4 .taken) (c .both-way .ensures)
+returns-4 c =
+    pair-both (c .before .before .before .before .before .before .before .before .args .left)
+    (c .before .before .before .before .before .before .before .before .args .right)
+    (c .before .before .before .before .before .before .before .before .args .held)
+    (c .before .before .before .before .before .before .before .before .args .n)
+    (c .before .before .before .before .before .before .before .before .pre .1) _ _ _
+    (c .before .before .before .before .before .before .left .given .1) (c .before .before .before .right2 .given .1)
+    (c .before .if4 .taken) (c .both-way .ensures)
 
 either-way-requires : tie.Need-either-way-requires
-either-way-requires c κs = (c .before .before .before .before .before .before .before .pre .0, fits-both (c .before .before .before .before .before .before .before .args .left) (c .before .before .before .before .before .before .before .args .right) (c .before .before .before .before .before .before .before .args .held) (c .before .before .before .before .before .before .before .args .n) (c .before .before .before .before .before .before .before .pre .1) _ _ (c .before .before .before .before .before .left .given .1) (c .before .before .right2 .given .1))
+either-way-requires c κs = (
+  c .before .before .before .before .before .before .before .pre .0,
+  fits-both (c .before .before .before .before .before .before .before .args .left)
+      (c .before .before .before .before .before .before .before .args .right)
+      (c .before .before .before .before .before .before .before .args .held)
+      (c .before .before .before .before .before .before .before .args .n)
+      (c .before .before .before .before .before .before .before .pre .1) _ _
+      (c .before .before .before .before .before .left .given .1) (c .before .before .right2 .given .1),
+)
 
 enum-told-5 : tie.Need-enum-told-5
 enum-told-5 c = search needs
@@ -72,16 +107,37 @@ returns-6 : tie.Need-returns-6
 returns-6 c = search needs
 
 returns-7 : tie.Need-returns-7
-returns-7 c = pair-right (c .before .before .before .before .before .before .before .args .left) (c .before .before .before .before .before .before .before .args .right) (c .before .before .before .before .before .before .before .args .held) (c .before .before .before .before .before .before .before .args .n) (c .before .before .before .before .before .before .before .pre .1) _ _ (c .before .before .before .before .before .enum-told .given .1) (c .before .before .before .right .given .1) (c .before .if1 .left) (c .right-moves .ensures)
+returns-7 c =
+    pair-right (c .before .before .before .before .before .before .before .args .left)
+    (c .before .before .before .before .before .before .before .args .right)
+    (c .before .before .before .before .before .before .before .args .held)
+    (c .before .before .before .before .before .before .before .args .n)
+    (c .before .before .before .before .before .before .before .pre .1) _ _
+    (c .before .before .before .before .before .enum-told .given .1) (c .before .before .before .right .given .1)
+    (c .before .if1 .left) (c .right-moves .ensures)
 
 returns-8 : tie.Need-returns-8
 returns-8 c = search needs
 
 returns-9 : tie.Need-returns-9
-returns-9 c = pair-left (c .before .before .before .before .before .before .before .args .left) (c .before .before .before .before .before .before .before .args .right) (c .before .before .before .before .before .before .before .args .held) (c .before .before .before .before .before .before .before .args .n) (c .before .before .before .before .before .before .before .pre .1) _ _ (c .before .before .before .before .before .left .given .1) (c .before .before .enum-told4 .given .1) (c .before .if3 .left) (c .left-moves .ensures)
+returns-9 c =
+    pair-left (c .before .before .before .before .before .before .before .args .left)
+    (c .before .before .before .before .before .before .before .args .right)
+    (c .before .before .before .before .before .before .before .args .held)
+    (c .before .before .before .before .before .before .before .args .n)
+    (c .before .before .before .before .before .before .before .pre .1) _ _
+    (c .before .before .before .before .before .left .given .1) (c .before .before .enum-told4 .given .1)
+    (c .before .if3 .left) (c .left-moves .ensures)
 
 returns-10 : tie.Need-returns-10
-returns-10 c = pair-either (c .before .before .before .before .before .before .before .before .args .left) (c .before .before .before .before .before .before .before .before .args .right) (c .before .before .before .before .before .before .before .before .args .held) (c .before .before .before .before .before .before .before .before .args .n) (c .before .before .before .before .before .before .before .before .pre .1) _ _ _ (c .before .before .before .before .before .before .left .given .1) (c .before .before .before .right2 .given .1) (c .before .if4 .left) (c .either-way .ensures)
+returns-10 c =
+    pair-either (c .before .before .before .before .before .before .before .before .args .left)
+    (c .before .before .before .before .before .before .before .before .args .right)
+    (c .before .before .before .before .before .before .before .before .args .held)
+    (c .before .before .before .before .before .before .before .before .args .n)
+    (c .before .before .before .before .before .before .before .before .pre .1) _ _ _
+    (c .before .before .before .before .before .before .left .given .1) (c .before .before .before .right2 .given .1)
+    (c .before .if4 .left) (c .either-way .ensures)
 
 returns-11 : tie.Need-returns-11
 returns-11 c = search needs

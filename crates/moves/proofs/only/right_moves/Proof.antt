@@ -1,5 +1,5 @@
 -- `moves::only::right_moves` meets its contract: the bits move up by n nodes. Assumes nothing.
-use Rattle.moves.specs.Only.Joined.{right-told}
+use Rattle.moves.specs.Only.Ways.{right-told}
 use borrow.Author.Needs.{needs}
 use Rattle.moves.proofs.only.right_moves.Statement.{statement}
 use Rattle.moves.proofs.only.right_moves.Tie as tie

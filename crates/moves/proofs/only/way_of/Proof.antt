@@ -15,16 +15,33 @@ shared-slice-read-w : tie.Need-shared-slice-read-w
 shared-slice-read-w c = tree-in _ (c .before .before .before .before .before .pre .1 .1 .short .at)
 
 kind-at-requires : tie.Need-kind-at-requires
-kind-at-requires c κs = (c .before .before .before .before .before .pre .0, tree-known _ (c .before .before .before .before .before .pre .1 .1 .short .at) .within)
+kind-at-requires c κs = (
+  c .before .before .before .before .before .pre .0,
+  tree-known _ (c .before .before .before .before .before .pre .1 .1 .short .at) .within,
+)
 
 leaf-way-requires : tie.Need-leaf-way-requires
-leaf-way-requires c κs = (c .before .before .before .before .before .before .before .pre .0, ((tree-known _ (c .before .before .before .before .before .before .before .pre .1 .1 .short .at), sym (c .before .kind-at .ensures) ∙ c .if2 .taken), c .before .before .before .before .before .before .before .pre .1 .0))
+leaf-way-requires c κs = (
+  c .before .before .before .before .before .before .before .pre .0,
+  (
+    (
+      tree-known _ (c .before .before .before .before .before .before .before .pre .1 .1 .short .at),
+      sym (c .before .kind-at .ensures) ∙ c .if2 .taken,
+    ),
+    c .before .before .before .before .before .before .before .pre .1 .0,
+  ),
+)
 
 returns : tie.Need-returns
-returns c = root-leaf (c .before .before .before .before .before .before .before .before .pre .1 .1) _ (c .before .before .before .before .if1 .taken) _ (c .leaf-way .ensures)
+returns c =
+    root-leaf (c .before .before .before .before .before .before .before .before .pre .1 .1) _
+    (c .before .before .before .before .if1 .taken) _ (c .leaf-way .ensures)
 
 returns-2 : tie.Need-returns-2
-returns-2 c = root-leaf (c .before .before .before .before .before .before .before .pre .1 .1) _ (c .before .before .before .if1 .taken) _ (way-not-kind _ _ _ (λ z. c .if2 .left (c .before .kind-at .ensures ∙ z)))
+returns-2 c =
+    root-leaf (c .before .before .before .before .before .before .before .pre .1 .1) _
+    (c .before .before .before .if1 .taken) _ (way-not-kind _ _ _
+    (λ z. c .if2 .left (c .before .kind-at .ensures ∙ z)))
 
 only-at-requires : tie.Need-only-at-requires
 only-at-requires c κs = search needs

@@ -23,13 +23,29 @@ term-of-requires : tie.Need-term-of-requires
 term-of-requires c κs = search needs
 
 add-resolve-at : tie.Need-add-resolve-at
-add-resolve-at c = omega (arith, c .term-of .ensures, c .before .before .before .before .before .before .pre .1 .single (c .before .before .before .if1 .left) .active .within, terms-few (c .before .before .before .before .before .before .pre .0))
+add-resolve-at c =
+    omega (
+      arith,
+      c .term-of .ensures,
+      c .before .before .before .before .before .before .pre .1 .single
+          (c .before .before .before .if1 .left) .active .within,
+      terms-few (c .before .before .before .before .before .before .pre .0),
+    )
 
 resolve-at-requires : tie.Need-resolve-at-requires
-resolve-at-requires c κs = (c .before .before .before .before .before .before .pre .0, carry-resolves (c .before .before .before .before .before .before .pre .1) (lawful (c .before .before .before .before .before .before .pre .0)) (c .before .before .before .if1 .left) _ _ _ (c .term-of .ensures) (c .before .before .memory-of .ensures) (c .before .remember .ensures))
+resolve-at-requires c κs = (
+  c .before .before .before .before .before .before .pre .0,
+  carry-resolves (c .before .before .before .before .before .before .pre .1)
+      (lawful (c .before .before .before .before .before .before .pre .0)) (c .before .before .before .if1 .left) _ _ _
+      (c .term-of .ensures) (c .before .before .memory-of .ensures) (c .before .remember .ensures),
+)
 
 returns-2 : tie.Need-returns-2
-returns-2 c = carry-moved (c .before .before .before .before .before .before .before .pre .1) (lawful (c .before .before .before .before .before .before .before .pre .0)) (c .before .before .before .before .if1 .left) _ _ _ (c .before .term-of .ensures) (c .before .before .before .memory-of .ensures) (c .before .before .remember .ensures) _ (c .resolve-at .ensures)
+returns-2 c =
+    carry-moved (c .before .before .before .before .before .before .before .pre .1)
+    (lawful (c .before .before .before .before .before .before .before .pre .0))
+    (c .before .before .before .before .if1 .left) _ _ _ (c .before .term-of .ensures)
+    (c .before .before .before .memory-of .ensures) (c .before .before .remember .ensures) _ (c .resolve-at .ensures)
 
 pub carry-spec : {M : Type 1} → statement M
 carry-spec =

@@ -1,5 +1,5 @@
--- `moves::rebuilding::rebuild` meets its contract: the slot has what the first j nodes became, and the marks from there on are
--- left. Assumes nothing.
+-- `moves::rebuilding::rebuild` meets its contract: the slot has what the first j nodes became, and the marks from
+-- there on are left. Assumes nothing.
 use native.Mathlib.Omega.{arith}
 use mathlib.Core.Path.{refl, _∙_}
 use Prim.Native.Nat.{_-_, _≤_}
@@ -15,7 +15,8 @@ use Rattle.moves.proofs.rebuilding.rebuild.Statement.{statement}
 use Rattle.moves.proofs.rebuilding.rebuild.Tie as tie
 
 abbrev Inv-loop : tie.InvT-loop
-Inv-loop list work bound e area p n marks s₀ m₀ j₀ s m j = (j ≤ n) × Rebuilding (tableIn list) e area p n marks empty s m j
+Inv-loop list work bound e area p n marks s₀ m₀ j₀ s m j =
+    (j ≤ n) × Rebuilding (tableIn list) e area p n marks empty s m j
 
 abbrev μ-loop : tie.MeasureT-loop
 μ-loop list work bound e area p n marks s₀ m₀ j₀ s m j = n - j
@@ -30,19 +31,36 @@ mul-w : tie.Need-mul-w Inv-loop μ-loop
 mul-w c = omega (arith, c .before .before .before .before .before .pre .1 .inside, c .loop-test .taken)
 
 shared-slice-read-w : tie.Need-shared-slice-read-w Inv-loop μ-loop
-shared-slice-read-w c = omega (arith, c .before .before .before .before .before .before .pre .1 .inside, c .before .loop-test .taken)
+shared-slice-read-w c =
+    omega (arith, c .before .before .before .before .before .before .pre .1 .inside, c .before .loop-test .taken)
 
 array-read-c : tie.Need-array-read-c Inv-loop μ-loop
 array-read-c c = omega (arith, c .before .before .before .loop .inv .1 .rest .size)
 
 add-c : tie.Need-add-c Inv-loop μ-loop
-add-c c = omega (arith, rebuild-room (c .before .before .before .before .before .before .before .pre .1) _ _ _ (c .before .before .loop-test .taken) (c .before .before .before .loop .inv .1) _ refl)
+add-c c =
+    omega (
+      arith,
+      rebuild-room (c .before .before .before .before .before .before .before .pre .1) _ _ _
+          (c .before .before .loop-test .taken) (c .before .before .before .loop .inv .1) _ refl,
+    )
 
 mul-s : tie.Need-mul-s Inv-loop μ-loop
-mul-s c = omega (arith, rebuild-room (c .before .before .before .before .before .before .before .pre .1) _ _ _ (c .before .before .loop-test .taken) (c .before .before .before .loop .inv .1) _ refl)
+mul-s c =
+    omega (
+      arith,
+      rebuild-room (c .before .before .before .before .before .before .before .pre .1) _ _ _
+          (c .before .before .loop-test .taken) (c .before .before .before .loop .inv .1) _ refl,
+    )
 
 array-write-s : tie.Need-array-write-s Inv-loop μ-loop
-array-write-s c = omega (arith, c .before .before .before .loop .inv .1 .rest .size, rebuild-room (c .before .before .before .before .before .before .before .pre .1) _ _ _ (c .before .before .loop-test .taken) (c .before .before .before .loop .inv .1) _ refl)
+array-write-s c =
+    omega (
+      arith,
+      c .before .before .before .loop .inv .1 .rest .size,
+      rebuild-room (c .before .before .before .before .before .before .before .pre .1) _ _ _
+          (c .before .before .loop-test .taken) (c .before .before .before .loop .inv .1) _ refl,
+    )
 
 array-write-s-2 : tie.Need-array-write-s-2 Inv-loop μ-loop
 array-write-s-2 c = search needs
@@ -55,7 +73,11 @@ loop-less c = omega (arith, c .before .before .loop-test .taken)
 
 loop-again : tie.Need-loop-again Inv-loop μ-loop
 unfolding pushed
-loop-again c = (omega (arith, c .before .before .loop-test .taken), rebuild-keep (c .before .before .before .before .before .before .before .pre .1) _ _ _ (c .before .before .loop-test .taken) (c .before .before .before .loop .inv .1) _ refl (c .if1 .taken))
+loop-again c = (
+  omega (arith, c .before .before .loop-test .taken),
+  rebuild-keep (c .before .before .before .before .before .before .before .pre .1) _ _ _
+      (c .before .before .loop-test .taken) (c .before .before .before .loop .inv .1) _ refl (c .if1 .taken),
+)
 
 slice-aggregate-land : tie.Need-slice-aggregate-land Inv-loop μ-loop
 slice-aggregate-land c = search needs
@@ -72,9 +94,16 @@ array-read-c-2 c = omega (arith, c .before .before .before .before .before .befo
 
 add-c-2 : tie.Need-add-c-2 Inv-loop μ-loop
 add-c-2 c =
-    let at-loop = c .before .before .before .before .before .before in let at-start = at-loop .before .before .before .before in
-    let tested = c .before .before .before .before .before .loop-test .taken in let marked = c .before .before .before .if1 .left in
-    omega (arith, at-loop .loop .inv .1 .rest .size, rebuild-room (at-start .pre .1) _ _ _ tested (at-loop .loop .inv .1) _ refl)
+    let at-loop =
+    c .before .before .before .before .before .before in let at-start = at-loop .before .before .before .before in
+    let tested =
+    c .before .before .before .before .before .loop-test .taken in
+    let marked = c .before .before .before .if1 .left in
+    omega (
+      arith,
+      at-loop .loop .inv .1 .rest .size,
+      rebuild-room (at-start .pre .1) _ _ _ tested (at-loop .loop .inv .1) _ refl,
+    )
 
 node-requires : tie.Need-node-requires Inv-loop μ-loop
 node-requires c κs =
@@ -83,15 +112,31 @@ node-requires c κs =
 
 mul-s-2 : tie.Need-mul-s-2 Inv-loop μ-loop
 mul-s-2 c =
-    let at-loop = c .before .before .before .before .before .before .before in let at-start = at-loop .before .before .before .before in
-    let tested = c .before .before .before .before .before .before .loop-test .taken in let marked = c .before .before .before .before .if1 .left in
-    omega (arith, at-loop .loop .inv .1 .rest .size, rebuild-room (at-start .pre .1) _ _ _ tested (at-loop .loop .inv .1) _ refl)
+    let at-loop =
+    c .before .before .before .before .before .before .before in
+    let at-start = at-loop .before .before .before .before in
+    let tested =
+    c .before .before .before .before .before .before .loop-test .taken in
+    let marked = c .before .before .before .before .if1 .left in
+    omega (
+      arith,
+      at-loop .loop .inv .1 .rest .size,
+      rebuild-room (at-start .pre .1) _ _ _ tested (at-loop .loop .inv .1) _ refl,
+    )
 
 array-write-s-3 : tie.Need-array-write-s-3 Inv-loop μ-loop
 array-write-s-3 c =
-    let at-loop = c .before .before .before .before .before .before .before in let at-start = at-loop .before .before .before .before in
-    let tested = c .before .before .before .before .before .before .loop-test .taken in let marked = c .before .before .before .before .if1 .left in
-    omega (arith, at-loop .loop .inv .1 .rest .size, rebuild-room (at-start .pre .1) _ _ _ tested (at-loop .loop .inv .1) _ refl)
+    let at-loop =
+    c .before .before .before .before .before .before .before in
+    let at-start = at-loop .before .before .before .before in
+    let tested =
+    c .before .before .before .before .before .before .loop-test .taken in
+    let marked = c .before .before .before .before .if1 .left in
+    omega (
+      arith,
+      at-loop .loop .inv .1 .rest .size,
+      rebuild-room (at-start .pre .1) _ _ _ tested (at-loop .loop .inv .1) _ refl,
+    )
 
 array-write-s-4 : tie.Need-array-write-s-4 Inv-loop μ-loop
 array-write-s-4 c = search needs
@@ -106,15 +151,22 @@ loop-less-2 c = omega (arith, c .before .before .before .before .before .before 
 loop-again-2 : tie.Need-loop-again-2 Inv-loop μ-loop
 unfolding pushed
 loop-again-2 c =
-    let at-loop = c .before .before .before .before .before .before .before in let at-start = at-loop .before .before .before .before in
-    let tested = c .before .before .before .before .before .before .loop-test .taken in let marked = c .before .before .before .before .if1 .left in (
+    let at-loop =
+    c .before .before .before .before .before .before .before in
+    let at-start = at-loop .before .before .before .before in
+    let tested =
+    c .before .before .before .before .before .before .loop-test .taken in
+    let marked = c .before .before .before .before .if1 .left in (
       omega (arith, tested),
       rebuild-follow (at-start .pre .1) _ _ _ tested (at-loop .loop .inv .1) _ refl marked _
           (landing-leaf (c .before .before .land .ensures .landing) (c .before .match .keys1) _ (c .node .ensures) .1),
     )
 
 resolve-term-requires : tie.Need-resolve-term-requires Inv-loop μ-loop
-resolve-term-requires c κs = (c .before .before .before .before .before .before .before .before .before .before .pre .0, c .before .land .ensures .landing .resolves)
+resolve-term-requires c κs = (
+  c .before .before .before .before .before .before .before .before .before .before .pre .0,
+  c .before .land .ensures .landing .resolves,
+)
 
 add-j-3 : tie.Need-add-j-3 Inv-loop μ-loop
 add-j-3 c = omega (arith, c .before .before .before .before .before .before .loop-test .taken)
@@ -125,14 +177,21 @@ loop-less-3 c = omega (arith, c .before .before .before .before .before .before 
 -- its residual is resolved
 loop-again-3 : tie.Need-loop-again-3 Inv-loop μ-loop
 loop-again-3 c =
-    let at-loop = c .before .before .before .before .before .before .before in let at-start = at-loop .before .before .before .before in
-    let tested = c .before .before .before .before .before .before .loop-test .taken in let marked = c .before .before .before .before .if1 .left in (
+    let at-loop =
+    c .before .before .before .before .before .before .before in
+    let at-start = at-loop .before .before .before .before in
+    let tested =
+    c .before .before .before .before .before .before .loop-test .taken in
+    let marked = c .before .before .before .before .if1 .left in (
       omega (arith, tested),
-      rebuild-follow (at-start .pre .1) _ _ _ tested (at-loop .loop .inv .1) _ refl marked _ (c .resolve-term .ensures ∙ c .before .before .land .ensures .landing .same),
+      rebuild-follow (at-start .pre .1) _ _ _ tested (at-loop .loop .inv .1) _ refl marked _
+          (c .resolve-term .ensures ∙ c .before .before .land .ensures .landing .same),
     )
 
 returns : tie.Need-returns Inv-loop μ-loop
-returns c = rebuild-last (c .before .before .before .before .before .pre .1) _ _ _ (omega (arith, c .loop-test .left)) (c .before .loop .inv .1)
+returns c =
+    rebuild-last (c .before .before .before .before .before .pre .1) _ _ _ (omega (arith, c .loop-test .left))
+    (c .before .loop .inv .1)
 
 pub rebuild-spec : {M : Type 1} → statement M
 rebuild-spec =

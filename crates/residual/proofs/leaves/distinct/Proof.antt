@@ -33,13 +33,16 @@ same-length c = search needs
 returns-2 : tie.Need-returns-2
 returns-2 c =
     let at-start = c .before .before .before .before .before .before in
-    let q = branches-exact _ _ _ (at-start .args .m) _ (at-start .pre .1 .0) (c .before .before .branches .ensures .0) in
+    let q =
+    branches-exact _ _ _ (at-start .args .m) _ (at-start .pre .1 .0) (c .before .before .branches .ensures .0) in
     kept-one _ _ _ _ (omega (arith, q .0)) (omega (arith, at-start .pre .1 .1))
 
 distinct-two-requires : tie.Need-distinct-two-requires
 distinct-two-requires c κs =
     let at-start = c .before .before .before .before .before .before .before .before in
-    let q = branches-exact _ _ _ (at-start .args .m) _ (at-start .pre .1 .0) (c .before .before .before .before .branches .ensures .0) in
+    let q =
+    branches-exact _ _ _ (at-start .args .m) _ (at-start .pre .1 .0)
+    (c .before .before .before .before .branches .ensures .0) in
     let room = at-start .pre .1 .1 in
     (at-start .pre .0, (at-start .pre .1 .0, (omega (arith, q .0), omega (arith, room))))
 
@@ -58,7 +61,9 @@ slice-aggregate-distinct-in-2 c = search needs
 distinct-in-requires : tie.Need-distinct-in-requires
 distinct-in-requires c κs =
     let at-start = c .before .before .before .before .before .before .before .before .before .before in
-    let q = branches-exact _ _ _ (at-start .args .m) _ (at-start .pre .1 .0) (c .before .before .before .before .before .before .branches .ensures .0) in
+    let q =
+    branches-exact _ _ _ (at-start .args .m) _ (at-start .pre .1 .0)
+    (c .before .before .before .before .before .before .branches .ensures .0) in
     let room = at-start .pre .1 .1 in (
       at-start .pre .0,
       (at-start .pre .1 .0, (q .0, ((omega (arith, q .1, room), omega (arith, q .1)), search needs))),

@@ -57,7 +57,9 @@ slice-aggregate-found c = search needs
 
 found-requires : tie.Need-found-requires Inv-loop μ-loop
 found-requires c κs =
-    let at-start = c .before .before .before .before .before .before .before .before .before .before .before .before in let k = c .before .before .before .before .before .before .loop in (
+    let at-start =
+    c .before .before .before .before .before .before .before .before .before .before .before .before in
+    let k = c .before .before .before .before .before .before .loop in (
       at-start .pre .0,
       (at-start .pre .1 .0, ((omega arith, omega arith), ((k .inv .7, search needs), k .inv .11 .known))),
     )
@@ -83,7 +85,8 @@ loop-again c =
       omega arith,
       k .inv .9,
       k .inv .10,
-      head-held _ _ _ _ _ _ _ _ _ (k .inv .11) _ (c .before .before .before .before .before .before .resolve-at .ensures) _ (c .before .found .ensures)
+      head-held _ _ _ _ _ _ _ _ _ (k .inv .11) _
+          (c .before .before .before .before .before .before .resolve-at .ensures) _ (c .before .found .ensures)
           (c .if1 .taken),
     )
 
@@ -126,7 +129,9 @@ loop-less-2 c = search needs
 loop-again-2 : tie.Need-loop-again-2 Inv-loop μ-loop
 unfolding slotAt
 loop-again-2 c =
-    let at-if = c .before .before .before .before .before .before .before in let k = at-if .before .before .before .before .before .before .before .before .loop in (
+    let at-if =
+    c .before .before .before .before .before .before .before in
+    let k = at-if .before .before .before .before .before .before .before .before .loop in (
       omega arith,
       k .inv .1,
       length-set (k .indices) _ _ ∙ k .inv .2,
@@ -138,9 +143,11 @@ loop-again-2 c =
       omega arith,
       simp length-set (k .inv .9),
       simp length-set (k .inv .10),
-      head-new _ _ _ _ _ _ _ _ _ (k .inv .11) _ (at-if .before .before .before .before .before .before .resolve-at .ensures) _
+      head-new _ _ _ _ _ _ _ _ _ (k .inv .11) _
+          (at-if .before .before .before .before .before .before .resolve-at .ensures) _
           (at-if .before .found .ensures) (at-if .if1 .left) (omega arith) (omega arith) (k .inv .7) (search needs)
-          (omega (arith, k .inv .1)) _ (c .before .before .before .before .before .key-of .ensures) _ (c .before .before .hold .ensures),
+          (omega (arith, k .inv .1)) _ (c .before .before .before .before .before .key-of .ensures) _
+          (c .before .before .hold .ensures),
     )
 
 same-length : tie.Need-same-length Inv-loop μ-loop

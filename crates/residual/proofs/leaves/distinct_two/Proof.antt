@@ -45,7 +45,8 @@ unfolding slotAt
 returns c =
     let at-start = c .before .before .before .before .before .before .before .before .before in
     kept-same _ _ _ _ (at-start .pre .1 .1 .0) (at-start .pre .1 .1 .1) _ _
-    (c .before .before .before .before .before .resolve-at .ensures) (c .before .before .before .before .resolve-at2 .ensures) (search needs) _ (c .before .same-at .ensures)
+    (c .before .before .before .before .before .resolve-at .ensures)
+    (c .before .before .before .before .resolve-at2 .ensures) (search needs) _ (c .before .same-at .ensures)
     (c .if1 .taken)
 
 add-indices : tie.Need-add-indices
@@ -56,7 +57,9 @@ mul-indices-2 c = search needs
 
 slice-write-indices-2 : tie.Need-slice-write-indices-2
 slice-write-indices-2 c =
-    let at-start = c .before .before .before .before .before .before .before .before .before in simp length-set (omega (arith, at-start .pre .1 .1 .1))
+    let at-start =
+    c .before .before .before .before .before .before .before .before .before in
+    simp length-set (omega (arith, at-start .pre .1 .1 .1))
 
 same-length-2 : tie.Need-same-length-2
 same-length-2 c = search needs
@@ -66,7 +69,8 @@ unfolding slotAt
 returns-2 c =
     let at-start = c .before .before .before .before .before .before .before .before .before in
     kept-both _ _ _ _ (at-start .pre .1 .1 .0) (at-start .pre .1 .1 .1) _ _
-    (c .before .before .before .before .before .resolve-at .ensures) (c .before .before .before .before .resolve-at2 .ensures) (search needs) _ (c .before .same-at .ensures)
+    (c .before .before .before .before .before .resolve-at .ensures)
+    (c .before .before .before .before .resolve-at2 .ensures) (search needs) _ (c .before .same-at .ensures)
     (c .if1 .left)
 
 pub distinct-two-spec : {M : Type 1} → statement M

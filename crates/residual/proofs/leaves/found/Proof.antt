@@ -6,7 +6,7 @@ use mathlib.Core.Path.{_≡_, sym, _∙_}
 use borrow.Author.Needs.{needs}
 use denote.Ref.{now}
 use Rattle.table.specs.Index.{tableIn}
-use Rattle.residual.specs.Distinct.{window, heldIn, slotAt}
+use Rattle.residual.specs.Distinct.{window, isKept, slotAt}
 use Rattle.residual.specs.Distinct.Keeping.{held-first, held-none, held-here, held-on, held-off}
 use Rattle.residual.proofs.leaves.found.Statement.{statement}
 use Rattle.residual.proofs.leaves.found.Tie as tie
@@ -17,8 +17,8 @@ use Rattle.residual.proofs.leaves.same_kept.Reads as same-kept-reads
 
 abbrev Inv-loop : tie.InvT-loop
 Inv-loop list work bound n m indices at k keys slots slot key j₀ j =
-    (j ≤ k) × (heldIn (slotAt (tableIn list) n m) (window (at + j) (k - j) indices) slot
-    ≡ heldIn (slotAt (tableIn list) n m) (window at k indices) slot)
+    (j ≤ k) × (isKept (slotAt (tableIn list) n m) (window (at + j) (k - j) indices) slot
+    ≡ isKept (slotAt (tableIn list) n m) (window at k indices) slot)
 
 abbrev μ-loop : tie.MeasureT-loop
 μ-loop list work bound n m indices at k keys slots slot key j₀ j = k - j
@@ -43,13 +43,17 @@ loop-less c = search needs
 
 loop-again : tie.Need-loop-again Inv-loop μ-loop
 loop-again c =
-    let at-start = c .before .before .before .before .before .before .before .before .before .before .before in let a = at-start .args in let k = c .before .before .before .loop in
+    let at-start =
+    c .before .before .before .before .before .before .before .before .before .before .before in
+    let a = at-start .args in let k = c .before .before .before .loop in
     let t : k .j < a .k = c .before .before .loop-test .taken in (
       omega arith,
-      held-off (slotAt (tableIn (now (a .list))) (a .n) (a .m)) (now (a .indices)) (now (a .slot)) (a .at + k .j) (a .k - k .j) _
+      held-off (slotAt (tableIn (now (a .list))) (a .n) (a .m)) (now (a .indices)) (now (a .slot)) (a .at + k .j)
+          (a .k - k .j) _
           (k .inv .1) (omega arith)
           (omega arith) _ (at-start .pre .1 .1 .1 .1 .key _ t)
-          (λ g. c .if1 .taken (g ∙ sym (c .before .before .before .before .key-of .ensures))) _ _ (omega arith) (omega arith),
+          (λ g. c .if1 .taken (g ∙ sym (c .before .before .before .before .key-of .ensures))) _ _ (omega arith)
+          (omega arith),
     )
 
 add-same-kept : tie.Need-add-same-kept Inv-loop μ-loop
@@ -63,16 +67,21 @@ shared-slice-read-same-kept c = search needs
 
 same-kept-requires : tie.Need-same-kept-requires Inv-loop μ-loop
 same-kept-requires c κs =
-    let at-start = c .before .before .before .before .before .before .before .before .before .before .before .before in let t = c .before .before .before .loop-test .taken in let known = at-start .pre .1 .1 .1 .1 in (
+    let at-start =
+    c .before .before .before .before .before .before .before .before .before .before .before .before in
+    let t = c .before .before .before .loop-test .taken in let known = at-start .pre .1 .1 .1 .1 in (
       at-start .pre .0,
       (at-start .pre .1 .0, (known .index _ t, ((omega arith, omega arith), known .slot _ t))),
     )
 
 returns : tie.Need-returns Inv-loop μ-loop
 returns c =
-    let at-start = c .before .before .before .before .before .before .before .before .before .before .before .before .before .before in let a = at-start .args in let k = c .before .before .before .before .before .before .loop in
+    let at-start =
+    c .before .before .before .before .before .before .before .before .before .before .before .before .before .before
+    in let a = at-start .args in let k = c .before .before .before .before .before .before .loop in
     let t : k .j < a .k = c .before .before .before .before .before .loop-test .taken in
-    held-here (slotAt (tableIn (now (a .list))) (a .n) (a .m)) (now (a .indices)) (now (a .slot)) (a .at + k .j) (a .k - k .j) _
+    held-here (slotAt (tableIn (now (a .list))) (a .n) (a .m)) (now (a .indices)) (now (a .slot)) (a .at + k .j)
+    (a .k - k .j) _
     (k .inv .1) (omega arith) (omega arith) _
     (c .before .same-kept .ensures) (c .if2 .taken)
 
@@ -84,17 +93,22 @@ loop-less-2 c = search needs
 
 loop-again-2 : tie.Need-loop-again-2 Inv-loop μ-loop
 loop-again-2 c =
-    let at-start = c .before .before .before .before .before .before .before .before .before .before .before .before .before .before in let a = at-start .args in let k = c .before .before .before .before .before .before .loop in
+    let at-start =
+    c .before .before .before .before .before .before .before .before .before .before .before .before .before .before
+    in let a = at-start .args in let k = c .before .before .before .before .before .before .loop in
     let t : k .j < a .k = c .before .before .before .before .before .loop-test .taken in (
       omega arith,
-      held-on (slotAt (tableIn (now (a .list))) (a .n) (a .m)) (now (a .indices)) (now (a .slot)) (a .at + k .j) (a .k - k .j) _
+      held-on (slotAt (tableIn (now (a .list))) (a .n) (a .m)) (now (a .indices)) (now (a .slot)) (a .at + k .j)
+          (a .k - k .j) _
           (k .inv .1) (omega arith)
           (omega arith) _ (c .before .same-kept .ensures) (c .if2 .left) _ _ (omega arith) (omega arith),
     )
 
 returns-2 : tie.Need-returns-2 Inv-loop μ-loop
 returns-2 c =
-    let at-start = c .before .before .before .before .before .before .before .before .before in let a = at-start .args in let k = c .before .loop in
+    let at-start =
+    c .before .before .before .before .before .before .before .before .before in let a = at-start .args in
+    let k = c .before .loop in
     held-none (slotAt (tableIn (now (a .list))) (a .n) (a .m)) (now (a .indices)) (now (a .slot)) (a .at + k .j)
     (a .k - k .j) _ (k .inv .1) (omega arith)
 

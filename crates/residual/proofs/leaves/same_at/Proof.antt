@@ -41,7 +41,8 @@ shared-slice-read-if1-2 c = search needs
 returns : tie.Need-returns Inv-loop μ-loop
 returns c =
     let at-loop = c .before .before .before .before in let at-start = at-loop .before in
-    same-off (now (at-start .args .slot)) (now (at-start .args .words)) _ _ _ (at-loop .loop .inv .3) (omega arith) (omega arith) (omega arith)
+    same-off (now (at-start .args .slot)) (now (at-start .args .words)) _ _ _ (at-loop .loop .inv .3) (omega arith)
+    (omega arith) (omega arith)
     (c .if1 .taken)
 
 add-j : tie.Need-add-j Inv-loop μ-loop
@@ -56,13 +57,15 @@ loop-again c =
       omega arith,
       k .inv .1,
       k .inv .2,
-      same-on (now (at-start .args .slot)) (now (at-start .args .words)) _ _ _ (k .inv .3) (omega arith) (omega arith) (omega arith) (c .if1 .left),
+      same-on (now (at-start .args .slot)) (now (at-start .args .words)) _ _ _ (k .inv .3) (omega arith) (omega arith)
+          (omega arith) (c .if1 .left),
     )
 
 returns-2 : tie.Need-returns-2 Inv-loop μ-loop
 returns-2 c =
     let at-start = c .before .before in
-    same-none (now (at-start .args .slot)) (now (at-start .args .words)) (at-start .args .p) (c .before .loop .j) _ (c .before .loop .inv .3) (omega arith) (omega arith) (omega arith)
+    same-none (now (at-start .args .slot)) (now (at-start .args .words)) (at-start .args .p) (c .before .loop .j) _
+    (c .before .loop .inv .3) (omega arith) (omega arith) (omega arith)
 
 pub same-at-spec : {M : Type 1} → statement M
 same-at-spec =

@@ -447,7 +447,8 @@ resolve-term-div-resolve-term t c =
     omega (
       arith,
       par-room _ _ _ _ _ _ (at-start .pre .1 .1) _
-          (c .before .before .before .before .before .kind .ensures .0) _ _ (c .before .before .before .right2 .ensures .0)
+          (c .before .before .before .before .before .kind .ensures .0) _ _
+          (c .before .before .before .right2 .ensures .0)
           (c .before .before .before .before .match .keys3) (c .before .before .branches2 .ensures .0) .0,
     )
 
@@ -503,7 +504,8 @@ resolve-term-rem-resolve-term t c =
     omega (
       arith,
       par-room _ _ _ _ _ _ (at-start .pre .1 .1) _ (at-kind .kind .ensures .0) _ _
-          (c .before .before .before .before .right2 .ensures .0) (c .before .before .before .before .before .match .keys3)
+          (c .before .before .before .before .right2 .ensures .0)
+          (c .before .before .before .before .before .match .keys3)
           (c .before .before .before .branches2 .ensures .0) .0,
     )
 

@@ -54,7 +54,8 @@ returns-2 c =
     let args = checked .before .before .before .before .before .before .before .before .args in
     let fit = sym (checked .before .before .before .lengths-fit .ensures)
     ∙ not-false _ (checked .before .before .if1 .left) in
-    start-accepted (args .list .now) (args .area0 .now) (args .area1 .now) (args .work .now) fit _ _ (checked .check .ensures)
+    start-accepted (args .list .now) (args .area0 .now) (args .area1 .now) (args .work .now) fit _ _
+    (checked .check .ensures)
     (begun .before .before .before .before .enum-told .given .1) _ _ _ _ (begun .start-accepted .ensures)
     (c .before .before .clear-all .ensures) (checked .check .kept .1 .0)
 
@@ -68,7 +69,8 @@ returns-3 c =
     let args = checked .before .before .before .before .before .before .before .before .args in
     let fit = sym (checked .before .before .before .lengths-fit .ensures)
     ∙ not-false _ (checked .before .before .if1 .left) in
-    start-declined (args .list .now) (args .area0 .now) (args .area1 .now) (args .work .now) fit _ _ (checked .check .ensures) _
+    start-declined (args .list .now) (args .area0 .now) (args .area1 .now) (args .work .now) fit _ _
+    (checked .check .ensures) _
     (c .before .refusal .given .1)
 
 pub start-spec : {M : Type 1} → statement M

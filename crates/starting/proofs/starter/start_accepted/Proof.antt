@@ -21,7 +21,9 @@ sub-last c = search needs
 resolve-set-requires : tie.Need-resolve-set-requires
 resolve-set-requires c κs =
     let last = c .before .definition-count .ensures in
-    let at-start = c .before .before .before .before .before .before .before .before .before .before .before .before .before .before in
+    let at-start =
+    c .before .before .before .before .before .before .before .before .before .before .before .before .before .before
+    in
     (at-start .pre .0, last-resolves (at-start .pre .0) _ _ (last .0) (last .1) refl)
 
 enum-known-count : tie.Need-enum-known-count
@@ -69,7 +71,8 @@ returns-2 c =
     let cleared = held .before .before .before .before .before .before .before .before .before in
     let at-start = cleared .before .before .before .before .before .before in
     started-exceeded (at-start .pre .0) _ _ (last .0) (last .1) refl _ _ (at-start .pre .1) _
-    (cleared .clear-all .ensures) _ _ (held .resolve-set .ensures) _ other (c .before .before .before .before .enum-told .given .1) _
+    (cleared .clear-all .ensures) _ _ (held .resolve-set .ensures) _ other
+    (c .before .before .before .before .enum-told .given .1) _
     (c .before .before .clear-all3 .ensures) (held .resolve-set .kept .1 .1 .1 .0 ∙ cleared .clear-all .kept .0)
 
 pub start-accepted-spec : {M : Type 1} → statement M

@@ -17,7 +17,8 @@ same-length c = search needs
 returns : tie.Need-returns
 returns c =
     let l = c .before .before .before .before .before .args .words .now in
-    c .before .before .clear-first .ensures ∙ ap (λ (t : List _). zeros (length l) ++ t) (drop-of-length-le l {i = length l} (omega arith))
+    c .before .before .clear-first .ensures ∙ ap (λ (t : List _). zeros (length l) ++ t)
+    (drop-of-length-le l {i = length l} (omega arith))
     ∙ append-nil (zeros (length l))
 
 pub clear-all-spec : {M : Type 1} → statement M

@@ -7,7 +7,8 @@ use lib.ListN.{length, getD}
 use Rattle.table.specs.Index.{tableIn}
 use Rattle.residual.specs.Lawful.{lawful}
 use Rattle.step.specs.Prepared.{UpTo}
-use Rattle.step.specs.Prepared.Turns.{up-first, up-count, up-sound, up-tree, up-bounds, up-passes, up-moves, up-fills}
+use Rattle.step.specs.Prepared.Turns.{up-first, up-count, up-sound, up-tree, up-bounds, up-passes, up-moves}
+use Rattle.step.specs.Prepared.Turns.{up-fills}
 use Rattle.step.proofs.preparing.prepare.Statement.{statement}
 use Rattle.step.proofs.preparing.prepare.Tie as tie
 
@@ -81,7 +82,8 @@ loop-again c =
           ∙ at-loop .loop .inv .2,
       at-loop .loop .inv .3,
       up-moves _ _ _ _ (at-start .pre .1) _ _ (at-loop .loop .inv .4) (at-loop .loop .inv .2) (at-loop .loop .inv .0)
-          (omega (arith, at-loop .loop .inv .3, tested)) _ (c .before .before .before .before .before .takes-at .ensures)
+          (omega (arith, at-loop .loop .inv .3, tested)) _
+          (c .before .before .before .before .before .takes-at .ensures)
           (c .before .before .before .before .if1 .taken) (lawful (at-start .pre .0)) _
           (c .before .before .prepare-node .ensures),
     )
@@ -120,7 +122,8 @@ loop-again-2 c =
       c .before .before .blank .kept .0 ∙ at-loop .loop .inv .2,
       at-loop .loop .inv .3,
       up-passes _ _ _ _ (at-start .pre .1) _ _ (at-loop .loop .inv .4) (at-loop .loop .inv .2) (at-loop .loop .inv .0)
-          (omega (arith, at-loop .loop .inv .3, tested)) _ (c .before .before .before .before .before .takes-at .ensures)
+          (omega (arith, at-loop .loop .inv .3, tested)) _
+          (c .before .before .before .before .before .takes-at .ensures)
           (c .before .before .before .before .if1 .left) _ (c .before .before .blank .ensures),
     )
 

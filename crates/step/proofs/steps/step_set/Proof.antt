@@ -10,7 +10,8 @@ use Rattle.step.proofs.steps.step_set.Statement.{statement}
 use Rattle.step.proofs.steps.step_set.Tie as tie
 
 abbrev Inv-loop : tie.InvT-loop
-Inv-loop list work e src n store₀ dst₀ bound c₀ i₀ store dst c i = (i ≤ n) × (length store ≡ 4112) × (length dst ≡ length dst₀) × (c * 16 ≤ length dst)
+Inv-loop list work e src n store₀ dst₀ bound c₀ i₀ store dst c i =
+    (i ≤ n) × (length store ≡ 4112) × (length dst ≡ length dst₀) × (c * 16 ≤ length dst)
     × Gathering (tableIn list) e src n dst₀ dst c i
 
 abbrev μ-loop : tie.MeasureT-loop
@@ -20,10 +21,21 @@ definition-count-requires : tie.Need-definition-count-requires Inv-loop μ-loop
 definition-count-requires c κs = c .before .before .before .before .before .pre .0
 
 loop-holds : tie.Need-loop-holds Inv-loop μ-loop
-loop-holds c = (omega arith, c .before .before .before .before .before .before .pre .1 .1, refl, omega arith, gather-first _ _ _ _ _)
+loop-holds c = (
+  omega arith,
+  c .before .before .before .before .before .before .pre .1 .1,
+  refl,
+  omega arith,
+  gather-first _ _ _ _ _,
+)
 
 step-one-requires : tie.Need-step-one-requires Inv-loop μ-loop
-step-one-requires c κs = (c .before .before .before .before .before .before .before .before .before .before .pre .0, step-asks _ _ _ _ _ _ (c .before .before .before .before .before .before .before .before .before .before .pre .1 .0) (c .before .before .before .before .definition-count .ensures .0) (c .before .before .loop-test .taken) _ (c .before .before .before .loop .inv .1) _ _ (c .before .before .before .loop .inv .3))
+step-one-requires c κs = (
+  c .before .before .before .before .before .before .before .before .before .before .pre .0,
+  step-asks _ _ _ _ _ _ (c .before .before .before .before .before .before .before .before .before .before .pre .1
+      .0) (c .before .before .before .before .definition-count .ensures .0) (c .before .before .loop-test .taken) _
+      (c .before .before .before .loop .inv .1) _ _ (c .before .before .before .loop .inv .3),
+)
 
 enum-known-d : tie.Need-enum-known-d Inv-loop μ-loop
 enum-known-d c = search needs
@@ -35,19 +47,42 @@ loop-less : tie.Need-loop-less Inv-loop μ-loop
 loop-less c = search needs
 
 loop-again : tie.Need-loop-again Inv-loop μ-loop
-loop-again c = let q = gather-next (c .before .before .before .before .before .before .before .before .before .before .before .loop .inv .4) (c .before .before .before .before .before .before .before .before .before .before .loop-test .taken) _ _ (c .before .before .before .before .before .before .before .step-one .ensures) _ (c .before .d .given .1) in (omega (arith, c .before .before .before .before .before .before .before .before .before .before .loop-test .taken), c .before .before .before .before .before .before .before .step-one .kept .1 .1 .1 .1 .1 .1 .0 ∙ c .before .before .before .before .before .before .before .before .before .before .before .loop .inv .1, c .before .before .before .before .before .before .before .step-one .kept .1 .1 .1 .1 .1 .1 .1 .0 ∙ c .before .before .before .before .before .before .before .before .before .before .before .loop .inv .2, q .1, q .0)
+loop-again c =
+    let q = gather-next (c .before .before .before .before .before .before .before .before .before .before .before
+    .loop .inv .4) (c .before .before .before .before .before .before .before .before .before .before .loop-test
+    .taken) _ _ (c .before .before .before .before .before .before .before .step-one .ensures) _
+    (c .before .d .given .1) in (
+      omega (
+        arith,
+        c .before .before .before .before .before .before .before .before .before .before .loop-test
+            .taken,
+      ),
+      c .before .before .before .before .before .before .before .step-one .kept .1 .1 .1 .1 .1 .1 .0
+          ∙ c .before .before .before .before .before .before .before .before .before .before .before .loop .inv .1,
+      c .before .before .before .before .before .before .before .step-one .kept .1 .1 .1 .1 .1 .1 .1 .0
+          ∙ c .before .before .before .before .before .before .before .before .before .before .before .loop .inv .2,
+      q .1,
+      q .0,
+    )
 
 enum-told : tie.Need-enum-told Inv-loop μ-loop
 enum-told c = search needs
 
 same-length : tie.Need-same-length Inv-loop μ-loop
-same-length c = c .before .before .before .before .before .before .step-one .kept .1 .1 .1 .1 .1 .1 .0 ∙ c .before .before .before .before .before .before .before .before .before .before .loop .inv .1 ∙ sym (c .before .before .before .before .before .before .before .before .before .before .before .before .before .before .before .before .before .pre .1 .1)
+same-length c =
+    c .before .before .before .before .before .before .step-one .kept .1 .1 .1 .1 .1 .1 .0
+    ∙ c .before .before .before .before .before .before .before .before .before .before .loop .inv .1
+    ∙ sym (c .before .before .before .before .before .before .before .before .before .before .before .before .before
+    .before .before .before .before .pre .1 .1)
 
 same-length-2 : tie.Need-same-length-2 Inv-loop μ-loop
 same-length-2 c = search needs
 
 returns : tie.Need-returns Inv-loop μ-loop
-returns c = gather-exceeded (c .before .before .before .before .before .before .before .before .before .before .loop .inv .4) (c .before .before .before .before .before .before .before .before .before .loop-test .taken) _ _ (c .before .before .before .before .before .before .step-one .ensures) (c .enum-told .given .1)
+returns c =
+    gather-exceeded (c .before .before .before .before .before .before .before .before .before .before .loop .inv .4)
+    (c .before .before .before .before .before .before .before .before .before .loop-test .taken) _ _
+    (c .before .before .before .before .before .before .step-one .ensures) (c .enum-told .given .1)
 
 same-length-3 : tie.Need-same-length-3 Inv-loop μ-loop
 same-length-3 c = search needs

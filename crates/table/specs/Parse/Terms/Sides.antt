@@ -28,7 +28,7 @@ use Rattle.table.specs.Index.{targetOf, packed, wordOf, setsIn}
 use Rattle.table.specs.Parse.{SpotFits, HeadFits, Stops, SetsReady, ReferenceFound, TermStored, TermFound}
 use Rattle.table.specs.Parse.{TermRead}
 use Rattle.table.specs.Parse.Terms.{TermFoundBy, TermReadBy, Joint, before, either, beside, HeadOf, TwoSided}
-use Rattle.table.specs.Parse.Terms.{joined, followerOf, sidesOf}
+use Rattle.table.specs.Parse.Terms.{jointTerm, followerOf, sidesOf}
 use Rattle.table.specs.Parse.Terms.Stored.{Stored, stored-out, stored-in, stored-one, stored-front}
 use Rattle.table.specs.Parse.Terms.Stored.{stored-append, size-nodes, ready-kept, ready-stored}
 use Rattle.table.specs.Parse.Terms.Reference.{follows-place, ref-place}
@@ -112,7 +112,7 @@ module _ (sets : List SetDef) (l : List ℕ) (h : Head) (inner : Spot) (n n₁ f
 
     module _ (at-right : right ≡ m) (w₃ : List ℕ) where
       sides-term : (g : Joint) → TwoSided g → HeadOf sets h inner from g → (q : Term) → m + size q ≤ 1024
-          → TermStored sets inner m j q w₂ w₃ → TermStored sets (h .spot) n (h .place) (joined g (x .term) q) w w₃
+          → TermStored sets inner m j q w₂ w₃ → TermStored sets (h .spot) n (h .place) (jointTerm g (x .term) q) w w₃
       unfolding nodes size kindOf refOf leftSize targetOf
       sides-term (before r) y o q b t = absurd y
       sides-term either y o q b t =
@@ -127,11 +127,11 @@ module _ (sets : List SetDef) (l : List ℕ) (h : Head) (inner : Spot) (n n₁ f
           stored-in sets (h .spot) n (h .place) (par r (x .term) q) w w₃
           (rw (← o .place, ← o .spot) (both-stored (par r (x .term) q) q w₃ b word t))
 
-      joined-size : (g : Joint) → TwoSided g → (p q : Term) → size (joined g p q) ≡ suc (size p + size q)
+      joint-size : (g : Joint) → TwoSided g → (p q : Term) → size (jointTerm g p q) ≡ suc (size p + size q)
       unfolding size
-      joined-size (before r) y p q = absurd y
-      joined-size either y p q = refl
-      joined-size (beside r) y p q = refl
+      joint-size (before r) y p q = absurd y
+      joint-size either y p q = refl
+      joint-size (beside r) y p q = refl
 
       pub sides-read : (res : TermEnd) → TermRead sets l inner deep m j w₂ w₃ res → (g : Joint) → TwoSided g
           → HeadOf sets h inner from g → TermReadBy (sidesOf sets deep n g) sets l (h .spot) n (h .place) from w w₃ res
@@ -141,9 +141,9 @@ module _ (sets : List SetDef) (l : List ℕ) (h : Head) (inner : Spot) (n n₁ f
           let z : m ≡ suc n + size (x .term) = omega arith in
           let c' = t .counted in
           let b' = t .few in
-          let sized = joined-size g y (x .term) (t .term) in
+          let sized = joint-size g y (x .term) (t .term) in
           record {
-            term = joined g (x .term) (t .term);
+            term = jointTerm g (x .term) (t .term);
             parsed = then-got _ _ _ (rw next at (x .parsed)) (then-got _ _ _ (rw z at (t .parsed)) refl);
             counted = omega arith;
             few = t .few;

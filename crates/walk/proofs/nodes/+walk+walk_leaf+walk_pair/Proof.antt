@@ -1,6 +1,7 @@
 -- `walk::nodes::walk`, `walk_leaf` and `walk_pair` meet their contracts: one law of `Course/Places.antt`,
--- `Course/Pairs.antt` or `Course/Leaves.antt` per way out. A leaf's loop: what is left of its results gives what was left at the start. The
--- measure is the nodes left, and for the same node a walk stands above a pair and a leaf. Assumes nothing.
+-- `Course/Pairs.antt` or `Course/Leaves.antt` per way out. A leaf's loop: what is left of its results gives what was
+-- left at the start. The measure is the nodes left, and for the same node a walk stands above a pair and a leaf.
+-- Assumes nothing.
 use Prim.Native.Nat.{_+_, _-_, _*_, _≤_, ℕ, _<_}
 use native.Mathlib.Omega.{arith}
 use mathlib.Core.Path.{_≡_, refl, sym, _∙_}
@@ -276,7 +277,8 @@ walk-walk-requires t c κs =
         (
           at-start .pre .1 .1 .0,
           next-place (at-start .pre .1 .1 .0) _ _ _ _ _ (at-start .pre .1 .1 .1)
-              (at-if1 .if1 .left) _ _ _ _ (omega arith) (c .before .before .push .ensures) (at-start .pre .1 .1 .1 .held)
+              (at-if1 .if1 .left) _ _ _ _ (omega arith) (c .before .before .push .ensures)
+              (at-start .pre .1 .1 .1 .held)
               (next-kept (at-start .pre .1 .1 .0) _ _ _ _ _ (at-start .pre .1 .1 .1) (at-if1 .if1 .left)
               (sym (c .before .before .before .before .kind-at .ensures) ∙ c .before .if3 .taken)),
         ),
@@ -362,7 +364,8 @@ walk-walk-requires-2 t c κs =
         (
           at-start .pre .1 .1 .0,
           next-place (at-start .pre .1 .1 .0) _ _ _ _ _ (at-start .pre .1 .1 .1)
-              (at-if1 .if1 .left) _ _ _ _ (omega arith) (c .before .before .push .ensures) (at-start .pre .1 .1 .1 .held)
+              (at-if1 .if1 .left) _ _ _ _ (omega arith) (c .before .before .push .ensures)
+              (at-start .pre .1 .1 .1 .held)
               (next-leaf (at-start .pre .1 .1 .0) _ _ _ _ _ (at-start .pre .1 .1 .1) (at-if1 .if1 .left)
               (λ e. c .before .if3 .left (c .before .before .before .before .kind-at .ensures ∙ e))),
         ),
@@ -868,7 +871,8 @@ walk-leaf-walk-requires t c κs =
         (
           at-start .pre .1 .1 .0,
           go-place (at-start .pre .1 .1 .0) _ _ _ _ _ (at-start .pre .1 .1 .1 .0)
-              (at-start .pre .1 .1 .1 .1) (at-start .pre .1 .1 .1 .2) _ _ (c .before .before .before .loop-test .taken) refl _ _
+              (at-start .pre .1 .1 .1 .1) (at-start .pre .1 .1 .1 .2) _ _
+              (c .before .before .before .loop-test .taken) refl _ _
               _ (at-term-of .term-of .ensures) (at-memory-of .memory-of .ensures)
               (c .before .before .before .before .before .remember .ensures) _ (c .before .resolve-at .ensures) _ _
               (c .before .before .before .before .loop .inv .2),
@@ -1232,10 +1236,12 @@ walk-pair-walk-requires t c κs =
         (
           at-start .pre .1 .1 .0,
           next-place (at-start .pre .1 .1 .0) _ _ _ _ _ (at-start .pre .1 .1 .1 .0)
-              (at-start .pre .1 .1 .1 .1) _ _ _ _ (omega arith) (at-push .push .ensures) (at-start .pre .1 .1 .1 .0 .held)
+              (at-start .pre .1 .1 .1 .1) _ _ _ _ (omega arith) (at-push .push .ensures)
+              (at-start .pre .1 .1 .1 .0 .held)
               (next-both (at-start .pre .1 .1 .0) _ _ _ _ _ (at-start .pre .1 .1 .1 .0) (at-start .pre .1 .1 .1 .1)
               (at-start .pre .1 .1 .1 .2) _ (c .before .before .before .before .before .before .can-at .ensures) _
-              (c .before .before .before .before .before .can-at2 .ensures) (c .before .before .if2 .taken) (c .before .if3 .taken)),
+              (c .before .before .before .before .before .can-at2 .ensures) (c .before .before .if2 .taken)
+              (c .before .if3 .taken)),
         ),
       ),
     )
@@ -1368,7 +1374,8 @@ walk-pair-walk-requires-2 t c κs =
         (
           at-start .pre .1 .1 .0,
           next-place (at-start .pre .1 .1 .0) _ _ _ _ _ (at-start .pre .1 .1 .1 .0)
-              (at-start .pre .1 .1 .1 .1) _ _ _ _ (omega arith) (at-push .push .ensures) (at-start .pre .1 .1 .1 .0 .held)
+              (at-start .pre .1 .1 .1 .1) _ _ _ _ (omega arith) (at-push .push .ensures)
+              (at-start .pre .1 .1 .1 .0 .held)
               (next-left (at-start .pre .1 .1 .0) _ _ _ _ _ (at-start .pre .1 .1 .1 .0) (at-start .pre .1 .1 .1 .1)
               (at-start .pre .1 .1 .1 .2) _ (c .before .before .before .before .before .before .can-at .ensures) _
               (c .before .before .before .before .before .can-at2 .ensures) (c .before .before .if4 .taken)),
@@ -1605,7 +1612,8 @@ walk-pair-walk-requires-4 t c κs =
         (
           at-start .pre .1 .1 .0,
           next-place (at-start .pre .1 .1 .0) _ _ _ _ _ (at-start .pre .1 .1 .1 .0)
-              (at-start .pre .1 .1 .1 .1) _ _ _ _ (omega arith) (at-push .push .ensures) (at-start .pre .1 .1 .1 .0 .held)
+              (at-start .pre .1 .1 .1 .1) _ _ _ _ (omega arith) (at-push .push .ensures)
+              (at-start .pre .1 .1 .1 .0 .held)
               (next-left (at-start .pre .1 .1 .0) _ _ _ _ _ (at-start .pre .1 .1 .1 .0) (at-start .pre .1 .1 .1 .1)
               (at-start .pre .1 .1 .1 .2) _ (c .before .before .before .before .before .before .can-at .ensures) _
               (c .before .before .before .before .before .can-at2 .ensures) (c .before .before .if4 .taken)),
@@ -1707,7 +1715,8 @@ walk-pair-walk-requires-5 t c κs =
         (
           at-start .pre .1 .1 .0,
           next-place (at-start .pre .1 .1 .0) _ _ _ _ _ (at-start .pre .1 .1 .1 .0)
-              (at-start .pre .1 .1 .1 .1) _ _ _ _ (omega arith) (at-push .push .ensures) (at-start .pre .1 .1 .1 .0 .held)
+              (at-start .pre .1 .1 .1 .1) _ _ _ _ (omega arith) (at-push .push .ensures)
+              (at-start .pre .1 .1 .1 .0 .held)
               (next-right (at-start .pre .1 .1 .0) _ _ _ _ _ (at-start .pre .1 .1 .1 .0) (at-start .pre .1 .1 .1 .1)
               (at-start .pre .1 .1 .1 .2) _ (c .before .before .before .before .before .before .can-at .ensures) _
               (c .before .before .before .before .before .can-at2 .ensures) (c .before .if6 .taken)),

@@ -1,5 +1,5 @@
--- `state::record::State::after` meets its contract: where the counter is full the record stays; with no residual left it
--- fails, else it holds them. Assumes nothing.
+-- `state::record::State::after` meets its contract: where the counter is full the record stays; with no residual left
+-- it fails, else it holds them. Assumes nothing.
 use mathlib.Core.Path.{ap, _∙_}
 use Rattle.monitor_spec.specs.State.{State}
 use Rattle.state.specs.Record.{failing, holding}

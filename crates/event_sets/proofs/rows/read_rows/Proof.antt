@@ -1,13 +1,13 @@
--- `parse::rows::read_rows` meets its contract. The loop's invariant: j rows are read and their masks stored (`Head` of
--- RowsTurn), and what the function requires. The measure is how many rows are left. Assumes nothing.
+-- `event_sets::rows::read_rows` meets its contract. The loop's invariant: j rows are read and their masks stored
+-- (`Head` of RowsTurn), and what the function requires. The measure is how many rows are left. Assumes nothing.
 use Prim.Native.Nat.{_+_, _-_, _≤_}
 use native.Mathlib.Omega.{arith}
 use mathlib.Core.Path.{_≡_, refl}
 use lib.ListN.{length}
 use borrow.Author.Needs.{needs}
-use Rattle.parse.proofs.rows.RowsTurn.{Head, head-first, head-next, head-done, head-stop}
-use Rattle.parse.proofs.rows.read_rows.Statement.{statement}
-use Rattle.parse.proofs.rows.read_rows.Tie as tie
+use Rattle.event_sets.proofs.rows.RowsTurn.{Head, head-first, head-next, head-done, head-stop}
+use Rattle.event_sets.proofs.rows.read_rows.Statement.{statement}
+use Rattle.event_sets.proofs.rows.read_rows.Tie as tie
 
 abbrev Inv-loop : tie.InvT-loop
 Inv-loop list work₀ alphabet count at row j₀ p₀ work j p =

@@ -1,12 +1,12 @@
--- `parse::rows::power` meets its contract: 1, shifted by an event below 64, loses no bits. Assumes nothing.
+-- `event_sets::rows::power` meets its contract: 1, shifted by an event below 64, loses no bits. Assumes nothing.
 use native.Mathlib.Nat.{one-mul}
 use native.Mathlib.Omega.{arith}
 use mathlib.Core.Path.{_∙_}
 use lib.Dec.{lit<}
 use lib.Pow.{shl-exact}
 use borrow.Author.Needs.{needs}
-use Rattle.parse.proofs.rows.power.Statement.{statement}
-use Rattle.parse.proofs.rows.power.Tie as tie
+use Rattle.event_sets.proofs.rows.power.Statement.{statement}
+use Rattle.event_sets.proofs.rows.power.Tie as tie
 
 shl-result : tie.Need-shl-result
 shl-result c = search needs

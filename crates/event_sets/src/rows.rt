@@ -78,7 +78,9 @@ fn read_rows(
 ) -> Place
     requires { ⌜ (alphabet ≤ 64) × (at ≤ length (now list)) ⌝ }
     requires { ⌜ (count ≤ 64) × (row + 64 ≤ 4096) × (length (now work) ≡ 8192) ⌝ }
-    ensures { λ r. ⌜ RowsRead (now (list .entry)) alphabet count at row (now (work .entry)) (now (work .exit)) r ⌝ }
+    ensures { λ r.
+        ⌜ RowsRead (now (list .entry)) alphabet count at row (now (work .entry)) (now (work .exit))
+        r ⌝ }
 {
     let mut j = 0;
     let mut p = at;
@@ -108,7 +110,8 @@ fn rows_of(kind: u16, alphabet: u16) -> usize
 fn read_set(list: &[u16], work: &mut [u64], alphabet: u16, at: usize, row: usize) -> SetEnd
     requires { ⌜ (1 ≤ alphabet) × (alphabet ≤ 64) × (at ≤ length (now list)) ⌝ }
     requires { ⌜ (row + 64 ≤ 4096) × (length (now work) ≡ 8192) ⌝ }
-    ensures { λ r. ⌜ SetRead (now (list .entry)) alphabet at row (now (work .entry)) (now (work .exit)) r ⌝ }
+    ensures { λ r.
+        ⌜ SetRead (now (list .entry)) alphabet at row (now (work .entry)) (now (work .exit)) r ⌝ }
 {
     if list.len() <= at {
         return SetEnd::NoSet(Refusal {
@@ -138,7 +141,8 @@ fn read_set(list: &[u16], work: &mut [u64], alphabet: u16, at: usize, row: usize
 pub fn read_sets(list: &[u16], work: &mut [u64], alphabet: u16, count: usize, at: usize) -> Place
     requires { ⌜ (1 ≤ alphabet) × (alphabet ≤ 64) × (at ≤ length (now list)) ⌝ }
     requires { ⌜ (count ≤ 64) × (length (now work) ≡ 8192) ⌝ }
-    ensures { λ r. ⌜ SetsRead (now (list .entry)) alphabet count at (now (work .entry)) (now (work .exit)) r ⌝ }
+    ensures { λ r.
+        ⌜ SetsRead (now (list .entry)) alphabet count at (now (work .entry)) (now (work .exit)) r ⌝ }
 {
     let mut s = 0;
     let mut p = at;

@@ -1,12 +1,12 @@
--- `parse::rows::read_sets` meets its contract. The loop's invariant: s sets are read and indexed (`Head` of SetsTurn),
--- and the alphabet's bounds. The measure is how many sets are left. Assumes nothing.
+-- `event_sets::rows::read_sets` meets its contract. The loop's invariant: s sets are read and indexed (`Head` of
+-- SetsTurn), and the alphabet's bounds. The measure is how many sets are left. Assumes nothing.
 use Prim.Native.Nat.{_-_, _≤_}
 use native.Mathlib.Omega.{arith}
 use mathlib.Core.Path.{refl}
 use borrow.Author.Needs.{needs}
-use Rattle.parse.proofs.rows.SetsTurn.{Head, head-first, head-next, head-fits, head-done, head-stop}
-use Rattle.parse.proofs.rows.read_sets.Statement.{statement}
-use Rattle.parse.proofs.rows.read_sets.Tie as tie
+use Rattle.event_sets.proofs.rows.SetsTurn.{Head, head-first, head-next, head-fits, head-done, head-stop}
+use Rattle.event_sets.proofs.rows.read_sets.Statement.{statement}
+use Rattle.event_sets.proofs.rows.read_sets.Tie as tie
 
 abbrev Inv-loop : tie.InvT-loop
 Inv-loop list work₀ alphabet count at s₀ p₀ row₀ work s p row =

@@ -1,13 +1,13 @@
--- `parse::rows::read_row` meets its contract. The loop's invariant: the first j events are read, and `mask` and `low`
--- are theirs (`Head` of RowTurn). The measure is what is left of the count. Assumes nothing.
+-- `event_sets::rows::read_row` meets its contract. The loop's invariant: the first j events are read, and `mask` and
+-- `low` are theirs (`Head` of RowTurn). The measure is what is left of the count. Assumes nothing.
 use Prim.Native.Nat.{_-_, _≤_}
 use native.Mathlib.Omega.{arith}
 use mathlib.Core.Path.{refl}
 use borrow.Author.Needs.{needs}
-use Rattle.parse.proofs.rows.RowTurn.{Head, row-short, row-off, head-first, head-next, head-done}
-use Rattle.parse.proofs.rows.RowTurn.{head-short, head-low, head-high, head-fits}
-use Rattle.parse.proofs.rows.read_row.Statement.{statement}
-use Rattle.parse.proofs.rows.read_row.Tie as tie
+use Rattle.event_sets.proofs.rows.RowTurn.{Head, row-short, row-off, head-first, head-next, head-done}
+use Rattle.event_sets.proofs.rows.RowTurn.{head-short, head-low, head-high, head-fits}
+use Rattle.event_sets.proofs.rows.read_row.Statement.{statement}
+use Rattle.event_sets.proofs.rows.read_row.Tie as tie
 
 abbrev Inv-loop : tie.InvT-loop
 Inv-loop list alphabet at count mask₀ low₀ j₀ p₀ mask low j p =

@@ -14,7 +14,7 @@ use Rattle.moves.specs.declared.only.Way.{Way}
 use Rattle.moves.specs.declared.only.Way.the-variants.{Still, Moving, Many}
 use Rattle.moves.specs.declared.only.Moves.{Moves}
 use Rattle.moves.specs.Only.{marksOf, leftMoves, rightMoves, eitherWay, bothWay}
-use Rattle.moves.specs.Only.{joined, PairFits}
+use Rattle.moves.specs.Only.{pairWay, PairFits}
 
 told : {x u x' u' : ℕ} (o : Bool) → x ≡ x' → u ≡ u'
     → _≡_ {A = Moves} (record { each = x; also = u; lone = o }) (record { each = x'; also = u'; lone = o })
@@ -91,9 +91,6 @@ module _ (a b : Moves) (n : ℕ) (f : PairFits a b n) where
       (told false (omega arith)
       (ap (λ (x : ℕ). a .also * 2 + x) (shifted (b .each + b .also) n (omega (arith, parts))))))
 
-  pub both-many : a .lone ≡ false → b .lone ≡ false → Many ≡ bothWay a b n
-  both-many z y = rw (z, y)
-
 module _ (l r : Way) (h : Bool) (n : ℕ) (f : marksOf l * 2 + marksOf r * 2 ^ n < 18446744073709551616) where
   pub fits-left : (a : Moves) → l ≡ Moving a → (a .each + a .also) * 2 < 18446744073709551616
   fits-left a el =
@@ -106,17 +103,18 @@ module _ (l r : Way) (h : Bool) (n : ℕ) (f : marksOf l * 2 + marksOf r * 2 ^ n
   pub fits-both : (a b : Moves) → l ≡ Moving a → r ≡ Moving b → PairFits a b n
   fits-both a b el er = rw (el, er) at f
 
-  pub pair-right : (b m : Moves) → l ≡ Still → r ≡ Moving b → h ≡ false → m ≡ rightMoves b n → Moving m ≡ joined l r h n
+  pub pair-right : (b m : Moves) → l ≡ Still → r ≡ Moving b → h ≡ false → m ≡ rightMoves b n
+      → Moving m ≡ pairWay l r h n
   pair-right b m el er eh em = rw (el, er, eh, em)
 
   pub pair-left : (a m : Moves) → l ≡ Moving a → r ≡ Still → h ≡ false → ((k : ℕ) → m ≡ leftMoves a k)
-      → Moving m ≡ joined l r h n
+      → Moving m ≡ pairWay l r h n
   pair-left a m el er eh em = rw (el, er, eh, em n)
 
   pub pair-both : (a b : Moves) (v : Way) → l ≡ Moving a → r ≡ Moving b → h ≡ true → v ≡ bothWay a b n
-      → v ≡ joined l r h n
+      → v ≡ pairWay l r h n
   pair-both a b v el er eh ev = rw (el, er, eh) ev
 
   pub pair-either : (a b : Moves) (v : Way) → l ≡ Moving a → r ≡ Moving b → h ≡ false → v ≡ eitherWay a b n
-      → v ≡ joined l r h n
+      → v ≡ pairWay l r h n
   pair-either a b v el er eh ev = rw (el, er, eh) ev

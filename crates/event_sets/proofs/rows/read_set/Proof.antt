@@ -1,11 +1,11 @@
--- `parse::rows::read_set` meets its contract: the kind's tests, and then its rows, say what the parser gives.
+-- `event_sets::rows::read_set` meets its contract: the kind's tests, and then its rows, say what the parser gives.
 -- Assumes nothing.
 use native.Mathlib.Omega.{arith}
 use mathlib.Core.Path.{refl}
 use borrow.Author.Needs.{needs}
-use Rattle.parse.proofs.rows.SetTurn.{count-few, set-short, set-off, set-stop, set-found}
-use Rattle.parse.proofs.rows.read_set.Statement.{statement}
-use Rattle.parse.proofs.rows.read_set.Tie as tie
+use Rattle.event_sets.proofs.rows.SetTurn.{count-few, set-short, set-off, set-stop, set-found}
+use Rattle.event_sets.proofs.rows.read_set.Statement.{statement}
+use Rattle.event_sets.proofs.rows.read_set.Tie as tie
 
 -- there is no kind
 returns : tie.Need-returns
