@@ -86,7 +86,7 @@ fn take_bytes(numbers: &[u64], input: &mut [u8], mut l: Lent) -> Done {
     part(l)
 }
 
-// A number as a length of at most so many; where it is above, a length that no buffer has.
+// A number of at most so many; where it is above, 100,000, which no case may ask for.
 fn length_of(n: u64, most: usize) -> usize {
     if (most as u64) < n {
         100000

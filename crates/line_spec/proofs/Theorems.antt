@@ -5,7 +5,10 @@ use Rattle.line_spec.specs.Opening.Front.{open-ways, open-course, open-b
 use Rattle.line_spec.specs.Lent.Laws.{fed-work, pieces-lent, whole-line}
 use Rattle.line_spec.specs.Lent.Ends.{ends-pieces}
 use Rattle.line_spec.specs.Claims.{LineIsLent, PiecesAreLent, OpenLeaves, OpenIsFront, OpenStarts, PiecesAreWhole}
-use Rattle.line_spec.specs.Claims.{ResumeLeaves, LineLeaves}
+use Rattle.monitor_spec.specs.Feed.{feedOf}
+use Rattle.line_spec.specs.Claims.{ResumeLeaves, PieceEnds, LineLeaves}
+use Rattle.line_spec.specs.Line.{monitorLeft}
+use Rattle.line_spec.specs.Pieces.{fed, fedBy, concludeOf, afterPiece}
 use Rattle.line_spec.specs.Opening.{openOf}
 use Rattle.line_spec.specs.Whole.{resumedBy, resumeOf, finished, wholeBy, wholeAfter, wholeOf}
 use mathlib.Core.Path.{refl, ap}
@@ -28,8 +31,18 @@ unfolding OpenLeaves
 open-leaves = open-ways
 
 pub resume-leaves : ResumeLeaves
-unfolding ResumeLeaves resumeOf resumedBy
-resume-leaves l m es w = refl
+unfolding resumeOf resumedBy fed fedBy monitorLeft
+resume-leaves =
+    record {
+      words = λ l m es w. (refl, refl, refl);
+      goes = λ l m es w s e. ap (fedBy l (feedOf l m es w)) e;
+      refuses = λ l m es w n p e. ap (fedBy l (feedOf l m es w)) e;
+      stops = λ l m es w n p s e. ap (fedBy l (feedOf l m es w)) e;
+    }
+
+pub piece-ends : PieceEnds
+unfolding afterPiece concludeOf
+piece-ends = record { going-last = λ l m. refl; over-last = λ x. refl; before = λ c. refl }
 
 pub line-leaves : LineLeaves
 unfolding wholeOf wholeAfter wholeBy finished resumeOf resumedBy

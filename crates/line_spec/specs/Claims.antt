@@ -4,7 +4,8 @@
 --     PiecesAreLent     so is what `open`, `resume` on piece after piece, and `conclude` say
 --     EndsArePieces     the same where `after_piece` is asked of each piece, as the program does
 --     OpenLeaves        what `open` leaves, by its ways
---     ResumeLeaves      what `resume` leaves is what Feed leaves
+--     ResumeLeaves      what `resume` leaves is what Feed leaves, and its course, by Feed's answer
+--     PieceEnds         a course after a piece that was the last, or was not
 --     LineLeaves        what `line` leaves, by what `open` answers
 --     OpenIsFront       it is the front of the input
 --     OpenStarts        its record stands on the list and before the events, with a work area of zeros
@@ -14,16 +15,17 @@
 -- Assumes nothing.
 use Prim.Native.Nat.{ℕ, _≤_}
 use mathlib.Core.Path.{_≡_}
-use mathlib.Core.Bool.{true}
+use mathlib.Core.Bool.{true, false}
 use mathlib.Core.Logic.{_⊎_}
 use mathlib.Core.List.{List, [], _∷_, _++_, flatten}
 use lib.ListN.{length, take, drop}
-use Rattle.monitor_spec.specs.State.{State, Monitor}
+use Rattle.monitor_spec.specs.State.{State, Monitor, given, stopped}
+use Rattle.monitor_spec.specs.State as state
 use Rattle.monitor_spec.specs.Feed.{feedOf}
 use Rattle.table.specs.Table.{fixed, Term, stop, prefix, choice, par, one}
 use Rattle.table.specs.Writing.{numbersOf}
-use Rattle.line_spec.specs.Line.{runs, fails, refused, lineOf}
-use Rattle.line_spec.specs.Pieces.{going, over, fed, concludeOf, pieceOf, frontOf, piecesOf}
+use Rattle.line_spec.specs.Line.{Line, runs, fails, refused, stateLine, lineOf}
+use Rattle.line_spec.specs.Pieces.{Course, going, over, afterPiece, fed, concludeOf, pieceOf, frontOf, piecesOf}
 use Rattle.line_spec.specs.Opening.{lent, started, refuses, openOf, openCourse, OpenWay, Began}
 use Rattle.line_spec.specs.Whole.{resumeOf, wholeOf}
 use Rattle.line_spec.specs.Lent.{lentLine, lentPieces, lentEnds}
@@ -47,12 +49,24 @@ EndsArePieces =
 unfoldable pub OpenLeaves : Type 0
 OpenLeaves = (s l a b w : List ℕ) → OpenWay s l a b w (openOf s l a b w)
 
--- its answer as a course, and every lent word as Feed left it
-unfoldable pub ResumeLeaves : Type 0
-ResumeLeaves =
-    (l : List ℕ) (m : Monitor) (es w : List ℕ)
-    → let f = feedOf l m es w in
-    resumeOf l m es w ≡ record { course = fed l f; area0 = f .area0; area1 = f .area1; work = f .work }
+-- every lent word as Feed left it; the record goes on, or a refusal is the line, of 11 to 13 with all events taken
+pub record ResumeLeaves : Type 0 where
+  pub words : (l : List ℕ) (m : Monitor) (es w : List ℕ)
+      → let f = feedOf l m es w in
+      (resumeOf l m es w .area0 ≡ f .area0) × (resumeOf l m es w .area1 ≡ f .area1) × (resumeOf l m es w .work ≡ f .work)
+  pub goes : (l : List ℕ) (m : Monitor) (es w : List ℕ) (s : State) → feedOf l m es w .answer ≡ given s
+      → let f = feedOf l m es w in
+      resumeOf l m es w .course ≡ going l (record { state = s; area0 = f .area0; area1 = f .area1 })
+  pub refuses : (l : List ℕ) (m : Monitor) (es w : List ℕ) (n p : ℕ) → feedOf l m es w .answer ≡ state.refused n p
+      → resumeOf l m es w .course ≡ over (refused n p)
+  pub stops : (l : List ℕ) (m : Monitor) (es w : List ℕ) (n p : ℕ) (s : State) → feedOf l m es w .answer ≡ stopped n p s
+      → resumeOf l m es w .course ≡ over (refused n (s .taken))
+
+-- after the last piece the line of the record stands, or the one that stood; before it nothing changes
+pub record PieceEnds : Type 0 where
+  pub going-last : (l : List ℕ) (m : Monitor) → afterPiece true (going l m) ≡ over (stateLine (m .state))
+  pub over-last : (x : Line) → afterPiece true (over x) ≡ over x
+  pub before : (c : Course) → afterPiece false c ≡ c
 
 -- what `open` left, where it refuses; else the list as it left it, and the areas and work words as Feed on the table's
 -- numbers and the events leaves them

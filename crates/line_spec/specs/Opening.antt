@@ -101,17 +101,31 @@ openCourse o = courseBy (o .list) (o .area0) (o .area1) (o .answer)
 -- its ways, with every lent word of each
 pub data OpenWay (s l a b w : List ℕ) : OpenOutcome → Type 0 where
   -- a lent length is wrong
-  lengthsWrong : lent l a b w ≡ false → OpenWay s l a b w (openRefused 1 0 l a b w)
+  lengthsWrong : lent l a b w ≡ false
+      → OpenWay s l a b w (record { answer = refuses 1 0; list = l; area0 = a; area1 = b; work = w })
   -- the head is wrong
-  headWrong : (n p : ℕ) → lent l a b w ≡ true → headOf s ≡ wrong n p → OpenWay s l a b w (openRefused n p l a b w)
+  headWrong : (n p : ℕ) → lent l a b w ≡ true → headOf s ≡ wrong n p
+      → OpenWay s l a b w (record { answer = refuses n p; list = l; area0 = a; area1 = b; work = w })
   -- "Read's output is zeroed on 2 to 9", and Start is not called
   tableDeclined : (bs es : List ℕ) (n p : ℕ) → lent l a b w ≡ true → headOf s ≡ parts bs es
-      → judgeBytes bs ≡ declined n p → OpenWay s l a b w (openRefused n p (zeros 16384) a b (zeros 8192))
+      → judgeBytes bs ≡ declined n p
+      → OpenWay s l a b w (record {
+        answer = refuses n p;
+        list = zeros 16384;
+        area0 = a;
+        area1 = b;
+        work = zeros 8192;
+      })
   -- Read gave the table's numbers, "zeros after", and Start was called on them
   tableAccepted : (bs es ns : List ℕ) (t : Table) → lent l a b w ≡ true → headOf s ≡ parts bs es
       → judgeBytes bs ≡ accepted ns t
-      → OpenWay s l a b w (startedOn (length ns) (length s - length es) (ns ++ zeros (16384 - length ns))
-      (startOf ns a b (zeros 8192)))
+      → OpenWay s l a b w (record {
+        answer = startAnswer (length ns) (length s - length es) (startOf ns a b (zeros 8192) .answer);
+        list = ns ++ zeros (16384 - length ns);
+        area0 = startOf ns a b (zeros 8192) .area0;
+        area1 = startOf ns a b (zeros 8192) .area1;
+        work = startOf ns a b (zeros 8192) .work;
+      })
 
 -- of a record: lent lengths were right, and the events of the input s are there from a place on
 pub record Began (s l a b w : List ℕ) (o : OpenOutcome) (count next : ℕ) : Type 0 where

@@ -15,6 +15,7 @@ use Rattle.table.specs.Judge.Laws.{AcceptedList, list-out, list-in, Acce
 use Rattle.table.specs.Marks.Written.{table-numbers}
 use Rattle.table.specs.Refusals.AtNumbers.{refused-out, refused-in}
 use Rattle.table.specs.Refusals.Terms.{many-at}
+use Rattle.table.specs.Refusals.Lowest.{many-in}
 use Rattle.table.specs.Marks.Exact.{marks-out, marks-in}
 use Rattle.table.specs.BytesRefused.Exact.{refused-bytes-out}
 use Rattle.table.specs.BytesRefused.Given.{refused-bytes-in}
@@ -71,7 +72,7 @@ refused-bytes-exactly s n at w = (λ h. refused-bytes-out s n at h w, refused-by
 
 pub many-at-term : ManyAtTerm
 unfolding ManyAtTerm
-many-at-term = many-at
+many-at-term t n = (many-at t n, many-in t n)
 
 pub fields-are-marks : FieldsAreMarks
 unfolding FieldsAreMarks

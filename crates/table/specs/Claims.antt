@@ -83,11 +83,11 @@ RefusedExactly = (l : List ℕ) (n at : ℕ) → (judgeList l ≡ declined n at)
 unfoldable pub RefusedBytesExactly : Type 0
 RefusedBytesExactly = (s : List ℕ) (n at : ℕ) → Bytes s → (judgeBytes s ≡ declined n at) ↔ RefusedBytes s n at
 
--- "lowest such term": where `fewTerms` fails, the term of that number is a body or a prefix's follower
+-- "lowest such term": `fewTerms` fails just at the numbers of bodies and of prefixes' followers that are above
 unfoldable pub ManyAtTerm : Type 0
 ManyAtTerm =
-    (t : Table) (n : ℕ) → getD (fewTerms t) n true ≡ false
-    → ManyAt (branchesAt (allBranches (t .definitions))) (t .definitions) n
+    (t : Table) (n : ℕ) → (getD (fewTerms t) n true ≡ false)
+    ↔ ManyAt (branchesAt (allBranches (t .definitions))) (t .definitions) n
 
 unfoldable pub FieldsAreMarks : Type 0
 FieldsAreMarks = (t : Table) → (Fields t ↔ (Shape t × Pass (tableMarks t))) × (numbers (tableMarks t) ≡ numbersOf t)

@@ -7,7 +7,7 @@
 --     Truncated, OutOfRange, TrailingInput                conditions 3, 5 and 6
 --     BadReference, TooWide, TooManyBranches, TooLong     conditions 7, 8, 9 and 2
 --     Refused         all of them
--- The laws are in `Refusals/`: `Laws`, `Judged`, `Stops`, `Exact`, `AtNumbers`, `Terms`. Assumes nothing.
+-- The laws are in `Refusals/`: `Laws`, `Judged`, `Stops`, `Exact`, `AtNumbers`, `Terms`, `Lowest`. Assumes nothing.
 use Prim.Native.Nat.{ℕ, suc, _+_, _≤_, _<_}
 use mathlib.Core.Path.{_≡_}
 use mathlib.Core.Bool.{Bool, true, false}
@@ -33,6 +33,7 @@ pub mod Stops
 pub mod Exact
 pub mod AtNumbers
 pub mod Terms
+pub mod Lowest
 
 -- ---- tests, number by number, term by term and level by level
 

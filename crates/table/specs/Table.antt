@@ -93,7 +93,7 @@ termOfDefs (d ∷ ds) n =
 unfoldable pub termAt : Table → ℕ → Option Term
 termAt t n = termOfDefs (t .definitions) n
 
--- ---- the prefixes around it, and its definition
+-- ---- the prefixes around it
 
 -- the number of prefixes around the term that stands n terms into a term, d of them outside it
 unfoldable pub prefixesIn : Term → ℕ → ℕ → ℕ

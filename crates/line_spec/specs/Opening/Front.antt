@@ -62,7 +62,7 @@ module _ (s l a b w : List ℕ) where
 
   judged : (bs es : List ℕ) → lent l a b w ≡ true → headOf s ≡ parts bs es → (j : Judgement) → judgeBytes bs ≡ j
       → OpenWay s l a b w (openOf s l a b w)
-  unfolding openHead
+  unfolding openHead openRefused startedOn
   judged bs es e h (accepted ns t) j =
       let d = lent-out l a b w e in
       subst (OpenWay s l a b w) (sym (headed e (parts bs es) h
@@ -73,7 +73,7 @@ module _ (s l a b w : List ℕ) where
       ∙ table-declined bs (length s - length es) l a b w (d .list) (d .work) n p j)) (tableDeclined bs es n p e h j)
 
   pub open-ways : OpenWay s l a b w (openOf s l a b w)
-  unfolding openHead
+  unfolding openHead openRefused
   open-ways = by (lent l a b w) refl (headOf s) refl
     where
       by : (x : Bool) → lent l a b w ≡ x → (h : Head) → headOf s ≡ h → OpenWay s l a b w (openOf s l a b w)
@@ -111,7 +111,7 @@ module _ (s l a b w : List ℕ) (fit : lent l a b w ≡ true) where
       ∙ fed-fresh ns a b (zeros 8192) (d .area0) (d .area1) (zeros-length 8192)
 
   by-way : (o : OpenOutcome) → OpenWay s l a b w o → openCourse o ≡ frontOf s .course
-  unfolding openCourse courseBy openRefused frontOf frontHead frontBy
+  unfolding openCourse courseBy startedOn frontOf frontHead frontBy
   by-way o (lengthsWrong e) = true-false fit e
   by-way o (headWrong n p e h) = sym (ap (λ (x : Head). frontHead x .course) h)
   by-way o (tableDeclined bs es n p e h j) =
@@ -139,7 +139,7 @@ not-started e = absurd (let z : _≡_ {A = ℕ} 0 1 = cc in omega arith)
 module _ (s l a b w : List ℕ) (st : State) (count next : ℕ) where
   begins : (o : OpenOutcome) → OpenWay s l a b w o → o .answer ≡ started st count next
       → Began s l a b w o count next
-  unfolding openRefused startedOn frontOf frontHead frontBy
+  unfolding frontOf frontHead frontBy
   begins o (lengthsWrong e) f = not-started f
   begins o (headWrong n p e h) f = not-started f
   begins o (tableDeclined bs es n p e h j) f = not-started f

@@ -153,12 +153,12 @@ module _ (calls : ℕ → ℕ) where
 
 -- ---- over the definitions
 
-defs-left : (d : Definition) (ds : List Definition) (n : ℕ) → n < size (d .body)
+pub defs-left : (d : Definition) (ds : List Definition) (n : ℕ) → n < size (d .body)
     → termOfDefs (d ∷ ds) n ≡ termIn (d .body) n
 unfolding termOfDefs
 defs-left d ds n h = rw (lt-ltb n (size (d .body)) h, termOfDefs) refl
 
-defs-right : (d : Definition) (ds : List Definition) (k : ℕ)
+pub defs-right : (d : Definition) (ds : List Definition) (k : ℕ)
     → termOfDefs (d ∷ ds) (size (d .body) + k) ≡ termOfDefs ds k
 unfolding termOfDefs
 defs-right d ds k =
