@@ -1,4 +1,7 @@
-// What a lent buffer holds before a call: no element of it is 0, and each tells its place.
+// What a lent buffer holds before a call, and whether it was kept or cleared.
+//     fill_words, fill_numbers, fill_bytes    junk: no element of it is 0, and each tells its place
+//     kept_words, kept_numbers, kept_bytes    whether the junk still stands, of bytes from a place on
+//     zero_words, zero_numbers                whether there are zeros, of numbers from a place on
 
 fn word(i: usize) -> u64 {
     u64::MAX - i as u64
@@ -6,6 +9,10 @@ fn word(i: usize) -> u64 {
 
 fn number(i: usize) -> u16 {
     (65535 - i % 16411) as u16
+}
+
+fn byte(i: usize) -> u8 {
+    (255 - i % 251) as u8
 }
 
 pub fn fill_words(area: &mut [u64]) {
@@ -20,6 +27,14 @@ pub fn fill_numbers(area: &mut [u16]) {
     let mut i = 0;
     while i < area.len() {
         area[i] = number(i);
+        i += 1;
+    }
+}
+
+pub fn fill_bytes(area: &mut [u8]) {
+    let mut i = 0;
+    while i < area.len() {
+        area[i] = byte(i);
         i += 1;
     }
 }
@@ -39,6 +54,39 @@ pub fn kept_numbers(area: &[u16]) -> bool {
     let mut i = 0;
     while i < area.len() {
         if area[i] != number(i) {
+            return false;
+        }
+        i += 1;
+    }
+    true
+}
+
+pub fn kept_bytes(area: &[u8], from: usize) -> bool {
+    let mut i = from;
+    while i < area.len() {
+        if area[i] != byte(i) {
+            return false;
+        }
+        i += 1;
+    }
+    true
+}
+
+pub fn zero_words(area: &[u64]) -> bool {
+    let mut i = 0;
+    while i < area.len() {
+        if area[i] != 0 {
+            return false;
+        }
+        i += 1;
+    }
+    true
+}
+
+pub fn zero_numbers(area: &[u16], from: usize) -> bool {
+    let mut i = from;
+    while i < area.len() {
+        if area[i] != 0 {
             return false;
         }
         i += 1;

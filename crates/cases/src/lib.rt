@@ -1,24 +1,35 @@
 // A file of test cases: what the test programs share.
 //     text      lines and numbers
 //     tally     groups of cases, and what is printed of them
-//     lent      words and numbers in lent buffers before a call, and whether they were kept
+//     buffer    bytes and numbers put at a buffer's start
+//     lent      what lent buffers hold before a call, and whether they were kept or cleared
+mod buffer;
 mod lent;
 mod tally;
 mod text;
 
+pub use buffer::move_front;
+pub use buffer::put_bytes;
+pub use buffer::put_numbers;
+pub use lent::fill_bytes;
 pub use lent::fill_numbers;
 pub use lent::fill_words;
+pub use lent::kept_bytes;
 pub use lent::kept_numbers;
 pub use lent::kept_words;
+pub use lent::zero_numbers;
+pub use lent::zero_words;
 pub use tally::Outcome;
 pub use tally::Tally;
 pub use tally::count_line;
 pub use tally::finish;
 pub use tally::is_malformed;
 pub use tally::new;
+pub use tally::outcome_of;
 pub use tally::take_comment;
 pub use text::Numbers;
 pub use text::after;
+pub use text::after_mark;
 pub use text::byte_at;
 pub use text::line_end;
 pub use text::take_numbers;

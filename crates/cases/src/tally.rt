@@ -14,6 +14,13 @@ pub enum Outcome {
     Malformed,
 }
 
+pub fn outcome_of(right: bool) -> Outcome {
+    if right {
+        return Outcome::Right;
+    }
+    Outcome::Wrong
+}
+
 // Where the run stands: the lines that were read; whether a group is open, how many cases it had,
 // and the first wrong one, or 0; whether all was right so far; whether the last line was malformed.
 pub struct Tally {

@@ -1,7 +1,7 @@
 // Lines and numbers of a text.
 //     line_end       where a line ends          byte_at         a byte, or 0 past the end
 //     after          past a byte                take_numbers    numbers, a space before each
-//     starts_with    whether a line begins so
+//     after_mark     past a space and a byte    starts_with     whether a line begins so
 ghost use Prim.Native.Nat.{_≤_};
 ghost use lib.ListN.{length};
 
@@ -68,6 +68,19 @@ pub fn after(line: &[u8], at: usize, b: u8) -> usize {
         }
     }
     at
+}
+
+// The place past a space and the byte b; where these do not stand, `at`.
+pub fn after_mark(line: &[u8], at: usize, b: u8) -> usize {
+    let mark = after(line, at, b' ');
+    if mark == at {
+        return at;
+    }
+    let next = after(line, mark, b);
+    if next == mark {
+        return at;
+    }
+    next
 }
 
 // A digit's value, or 10 for another byte.

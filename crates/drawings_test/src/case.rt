@@ -7,9 +7,8 @@ use crate::trial::line_right;
 use cases::Outcome;
 use cases::after;
 use cases::byte_at;
+use cases::put_bytes;
 use cases::take_numbers;
-ghost use Prim.Native.Nat.{_≤_};
-ghost use lib.ListN.{length};
 
 // How many bytes the input has; the lengths of what is lent; the slots, where they are not 256.
 pub struct Lent {
@@ -51,38 +50,22 @@ fn part(lent: Lent) -> Done {
     }
 }
 
-// Puts numbers into the input from a place on, and says whether each is a byte and has room.
-fn put_bytes(numbers: &[u64], input: &mut [u8], at: usize) -> bool {
-    if input.len() < at {
-        return false;
-    }
-    if input.len() - at < numbers.len() {
-        return false;
-    }
-    let mut i = 0;
-    while i < numbers.len() {
-        let n = numbers[i];
-        if 255 < n {
-            return false;
-        }
-        input[at + i] = n as u8;
-        i += 1;
-    }
-    true
-}
-
 // `i b b ..`
 fn take_bytes(numbers: &[u64], input: &mut [u8], mut l: Lent) -> Done {
-    if 100000 < l.size {
+    let at = l.size;
+    if 100000 < at {
+        return malformed();
+    }
+    if input.len() < at {
         return malformed();
     }
     if 8000 < numbers.len() {
         return malformed();
     }
-    if !put_bytes(numbers, input, l.size) {
+    if !put_bytes(numbers, &mut input[at..]) {
         return malformed();
     }
-    l.size += numbers.len();
+    l.size = at + numbers.len();
     part(l)
 }
 

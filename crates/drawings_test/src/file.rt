@@ -7,7 +7,8 @@ use cases::Outcome;
 use cases::Tally;
 use cases::byte_at;
 use cases::line_end;
-ghost use Prim.Native.Nat.{_+_, _≤_};
+use cases::move_front;
+ghost use Prim.Native.Nat.{_≤_};
 ghost use lib.ListN.{length};
 
 // What the lines came to so far, and what is lent to the next case.
@@ -72,17 +73,6 @@ fn take_lines(text: &[u8], n: usize, input: &mut [u8], first: Progress) -> Taken
         }
     }
     Taken { run: r, next: at }
-}
-
-// Moves n bytes to the buffer's start.
-fn move_front(buffer: &mut [u8], from: usize, n: usize)
-    requires { ⌜ from + n ≤ length (now buffer) ⌝ }
-{
-    let mut i = 0;
-    while i < n {
-        buffer[i] = buffer[from + i];
-        i += 1;
-    }
 }
 
 // Takes the lines that have ended of the buffer's first n bytes, and keeps the rest.

@@ -12,6 +12,7 @@ use crate::lent::no_record;
 use crate::lent::record_of;
 use crate::lent::with_record;
 use cases::Outcome;
+use cases::outcome_of;
 use monitor::Answer;
 use monitor::Offered;
 
@@ -21,13 +22,6 @@ struct Fields {
     place: u64,
     has: u64,
     record: Record,
-}
-
-fn outcome_of(right: bool) -> Outcome {
-    if right {
-        return Outcome::Right;
-    }
-    Outcome::Wrong
 }
 
 fn fields_of(answer: Answer) -> Fields {
@@ -89,7 +83,7 @@ fn lent_right(area0: &[u64], area1: &[u64], work: &[u64], stored: &[u64]) -> boo
     if stored[1] == 1 {
         return areas::are_junk(work, u64::MAX);
     }
-    areas::are_zero(work)
+    cases::zero_words(work)
 }
 
 pub fn judge(

@@ -1,8 +1,8 @@
 // Words in lent areas.
 //     long_numbers .. events              buffers as long as any that the file asks for
 //     clear, fill                         zeros; junk, no word of it 0
-//     are_zero, are_junk                  whether there are zeros, or that junk
-//     put_numbers, put_bytes, put_words   numbers put at a buffer's beginning, where they fit
+//     are_junk                            whether there is that junk
+//     put_words                           words put at an area's beginning, where they fit
 //     begins                              whether an area begins with these words
 //     digest                              one number for all words
 ghost use mathlib.Core.Path.{_≡_};
@@ -69,55 +69,12 @@ pub fn fill(area: &mut [u64], first: u64) {
     }
 }
 
-pub fn are_zero(area: &[u64]) -> bool {
-    let mut i = 0;
-    while i < area.len() {
-        if area[i] != 0 {
-            return false;
-        }
-        i += 1;
-    }
-    true
-}
-
 pub fn are_junk(area: &[u64], first: u64) -> bool {
     let mut i = 0;
     while i < area.len() {
         if area[i] != junk(first, i) {
             return false;
         }
-        i += 1;
-    }
-    true
-}
-
-pub fn put_numbers(numbers: &[u64], list: &mut [u16]) -> bool {
-    if list.len() < numbers.len() {
-        return false;
-    }
-    let mut i = 0;
-    while i < numbers.len() {
-        let n = numbers[i];
-        if 65535 < n {
-            return false;
-        }
-        list[i] = n as u16;
-        i += 1;
-    }
-    true
-}
-
-pub fn put_bytes(numbers: &[u64], bytes: &mut [u8]) -> bool {
-    if bytes.len() < numbers.len() {
-        return false;
-    }
-    let mut i = 0;
-    while i < numbers.len() {
-        let n = numbers[i];
-        if 255 < n {
-            return false;
-        }
-        bytes[i] = n as u8;
         i += 1;
     }
     true

@@ -82,7 +82,7 @@ fn feed_numbers(
         return malformed(l);
     }
     let mut events = areas::events();
-    if !areas::put_bytes(numbers, &mut events) {
+    if !cases::put_bytes(numbers, &mut events) {
         return malformed(l);
     }
     feed(list, area0, area1, &events[..count], work, l, stored)

@@ -4,7 +4,8 @@
 use crate::areas;
 use crate::groups;
 use crate::groups::Run;
-ghost use Prim.Native.Nat.{_+_, _≤_};
+use cases::move_front;
+ghost use Prim.Native.Nat.{_≤_};
 ghost use lib.ListN.{length};
 
 // How many bytes of a line that has not ended stand at the buffer's start, what the lines before
@@ -13,17 +14,6 @@ struct State {
     kept: usize,
     run: Run,
     ended: bool,
-}
-
-// Moves n bytes to the buffer's start.
-fn move_front(buffer: &mut [u8], from: usize, n: usize)
-    requires { ⌜ from + n ≤ length (now buffer) ⌝ }
-{
-    let mut i = 0;
-    while i < n {
-        buffer[i] = buffer[from + i];
-        i += 1;
-    }
 }
 
 // Takes the lines that have ended of the buffer's first n bytes, and keeps the rest.

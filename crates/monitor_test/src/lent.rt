@@ -106,7 +106,7 @@ fn changed(l: Lent) -> Done {
 
 // `t n n ..` and `u n n ..`: the number list.
 pub fn change_list(numbers: &[u64], list: &mut [u16], l: Lent) -> Done {
-    if !areas::put_numbers(numbers, list) {
+    if !cases::put_numbers(numbers, list) {
         return malformed(l);
     }
     let record = l.record;

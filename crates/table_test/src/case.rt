@@ -1,82 +1,62 @@
-// A line of the file as a case: its call, tried on the numbers of its input (`fields`).
+// A line of the file as a case: its call, tried on the numbers of its input.
 //     try_line      the case of a line, tried
-use crate::areas;
-use crate::fields::Lengths;
-use crate::fields::start;
-use crate::fields::take_ending;
-use crate::fields::take_input;
-use crate::text::byte_at;
 use crate::trial::Stored;
 use crate::trial::check_right;
 use crate::trial::read_right;
 use crate::trial::write_right;
-ghost use Prim.Native.Nat.{_≤_};
-ghost use lib.ListN.{length};
+use cases::Outcome;
+use cases::after_mark;
+use cases::byte_at;
+use cases::outcome_of;
+use cases::put_bytes;
+use cases::put_numbers;
+use cases::take_numbers;
 
-// What came of a line.
-pub enum Outcome {
-    Right,
-    Wrong,
-    Malformed,
+// The lengths of the output and of the work area.
+struct Lengths {
+    out: u64,
+    work: u64,
 }
 
-fn outcome_of(right: bool) -> Outcome {
-    if right {
-        Outcome::Right
-    } else {
-        Outcome::Wrong
-    }
-}
-
-// The list's first numbers as bytes, and whether each is one.
-fn narrow(list: &[u16], bytes: &mut [u8]) -> bool
-    requires { ⌜ length (now list) ≤ length (now bytes) ⌝ }
-{
-    let mut i = 0;
-    while i < list.len() {
-        let n = list[i];
-        if 255 < n {
-            return false;
-        }
-        bytes[i] = n as u8;
-        i += 1;
-    }
-    true
-}
-
-fn try_read(list: &[u16], l: Lengths, s: Stored) -> Outcome
-    requires { ⌜ length (now list) ≤ 16500 ⌝ }
-{
-    let mut bytes = areas::bytes();
-    let n = list.len();
-    if !narrow(list, &mut bytes) {
+fn try_read(numbers: &[u64], l: Lengths, s: Stored) -> Outcome {
+    let n = numbers.len();
+    if 16500 < n {
         return Outcome::Malformed;
     }
-    let out_len = l.out;
-    let work_len = l.work;
-    if 16500 < out_len {
+    if 16500 < l.out {
         return Outcome::Malformed;
     }
-    if 8300 < work_len {
+    if 8300 < l.work {
         return Outcome::Malformed;
     }
-    let mut out = areas::numbers();
-    let mut work = areas::words();
-    outcome_of(read_right(&bytes[..n], &mut out[..out_len], &mut work[..work_len], s))
+    let out_len = l.out as usize;
+    let work_len = l.work as usize;
+    let mut bytes = [0u8; 16500];
+    if !put_bytes(numbers, &mut bytes) {
+        return Outcome::Malformed;
+    }
+    let mut out = [0u16; 16500];
+    let mut work = [0u64; 8300];
+    outcome_of(read_right(
+        &bytes[0..n],
+        &mut out[0..out_len],
+        &mut work[0..work_len],
+        s,
+    ))
 }
 
 fn try_write(list: &[u16], l: Lengths, s: Stored) -> Outcome {
-    let out_len = l.out;
-    let work_len = l.work;
-    if 16500 < out_len {
+    if 16500 < l.out {
         return Outcome::Malformed;
     }
-    if 8300 < work_len {
+    if 8300 < l.work {
         return Outcome::Malformed;
     }
-    let mut out = areas::bytes();
-    let mut work = areas::words();
-    outcome_of(write_right(list, &mut out[..out_len], &mut work[..work_len], s))
+    let out_len = l.out as usize;
+    let work_len = l.work as usize;
+    let mut out = [0u8; 16500];
+    let mut work = [0u64; 8300];
+    outcome_of(write_right(list, &mut out[0..out_len], &mut work[0..work_len], s))
 }
 
 fn try_check(list: &[u16], s: Stored) -> Outcome {
@@ -84,27 +64,89 @@ fn try_check(list: &[u16], s: Stored) -> Outcome {
     outcome_of(check_right(list, &mut work, s))
 }
 
+// Write or the check, by the letter.
+fn try_list(kind: u8, numbers: &[u64], l: Lengths, s: Stored) -> Outcome {
+    let n = numbers.len();
+    if 16500 < n {
+        return Outcome::Malformed;
+    }
+    let mut list = [0u16; 16500];
+    if !put_numbers(numbers, &mut list) {
+        return Outcome::Malformed;
+    }
+    if kind == b'w' {
+        return try_write(&list[0..n], l, s);
+    }
+    try_check(&list[0..n], s)
+}
+
 // The case of a letter.
-fn try_case(kind: u8, list: &[u16], l: Lengths, s: Stored) -> Outcome
-    requires { ⌜ length (now list) ≤ 16500 ⌝ }
-{
+fn try_case(kind: u8, numbers: &[u64], l: Lengths, s: Stored) -> Outcome {
     match kind {
-        b'r' => try_read(list, l, s),
-        b'w' => try_write(list, l, s),
-        b'c' => try_check(list, s),
+        b'r' => try_read(numbers, l, s),
+        b'w' | b'c' => try_list(kind, numbers, l, s),
         _ => Outcome::Malformed,
     }
 }
 
-pub fn try_line(line: &[u8]) -> Outcome {
-    let kind = byte_at(line, 0);
-    let l = start(line, kind);
-    let mut list = areas::numbers();
-    let i = take_input(line, l.cursor, &mut list);
-    let e = take_ending(line, i.cursor);
-    if !e.right {
+// ` NUMBER PLACE`, up to the line's end: the stored answer.
+fn take_answer(line: &[u8], from: usize, numbers: &[u64], l: Lengths) -> Outcome {
+    let mut answer = [0u64; 2];
+    let a = take_numbers(line, from, &mut answer);
+    if !a.right {
         return Outcome::Malformed;
     }
-    let n = i.count;
-    try_case(kind, &list[..n], l, e.stored)
+    if a.count != 2 {
+        return Outcome::Malformed;
+    }
+    if a.next != line.len() {
+        return Outcome::Malformed;
+    }
+    let stored = Stored {
+        number: answer[0],
+        place: answer[1],
+    };
+    try_case(byte_at(line, 0), numbers, l, stored)
+}
+
+// ` n n .. =`: the input.
+fn take_input(line: &[u8], from: usize, l: Lengths) -> Outcome {
+    let mut numbers = [0u64; 16500];
+    let s = take_numbers(line, from, &mut numbers);
+    if !s.right {
+        return Outcome::Malformed;
+    }
+    let at = s.next;
+    let next = after_mark(line, at, b'=');
+    if next == at {
+        return Outcome::Malformed;
+    }
+    let n = s.count;
+    take_answer(line, next, &numbers[0..n], l)
+}
+
+// How many lengths stand before the colon. The check's work area has the right one.
+fn length_count(kind: u8) -> usize {
+    if kind == b'c' { 0 } else { 2 }
+}
+
+pub fn try_line(line: &[u8]) -> Outcome {
+    let mut lengths = [0u64; 2];
+    let s = take_numbers(line, 1, &mut lengths);
+    if !s.right {
+        return Outcome::Malformed;
+    }
+    if s.count != length_count(byte_at(line, 0)) {
+        return Outcome::Malformed;
+    }
+    let at = s.next;
+    let next = after_mark(line, at, b':');
+    if next == at {
+        return Outcome::Malformed;
+    }
+    let l = Lengths {
+        out: lengths[0],
+        work: lengths[1],
+    };
+    take_input(line, next, l)
 }

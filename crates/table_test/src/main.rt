@@ -1,16 +1,11 @@
 // Runs Read, Write and the list check of crate `table` on the cases of `tables.txt`, and prints a
 // line for each group of cases, then `ok` if every answer was the stored one.
-//     file       the file, piece by piece             groups    its groups, and what is printed
-//     case       a line as a case                     fields    the parts of a line
-//     trial      one call, held to its answer         areas     what stands in the lent buffers
-//     text       lines and numbers
+//     file       the file, piece by piece
+//     case       a line as a case
+//     trial      one call, held to its answer
 // The file's head says how a line is read, and where the answers come from.
-mod areas;
 mod case;
-mod fields;
 mod file;
-mod groups;
-mod text;
 mod trial;
 
 fn main() {

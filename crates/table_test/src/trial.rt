@@ -1,15 +1,13 @@
 // One call on buffers full of junk: whether its answer, and what it leaves in them, are right
 // (01, "Operations", "When the monitor declines").
-use crate::areas::fill_bytes;
-use crate::areas::fill_numbers;
-use crate::areas::fill_words;
-use crate::areas::kept_bytes;
-use crate::areas::kept_numbers;
-use crate::areas::kept_words;
-use crate::areas::starts_with_bytes;
-use crate::areas::starts_with_list;
-use crate::areas::zero_numbers;
-use crate::areas::zero_words;
+use cases::fill_bytes;
+use cases::fill_numbers;
+use cases::fill_words;
+use cases::kept_bytes;
+use cases::kept_numbers;
+use cases::kept_words;
+use cases::zero_numbers;
+use cases::zero_words;
 use table::Answer;
 use table::Judged;
 use table::Refusal;
@@ -18,39 +16,74 @@ ghost use lib.ListN.{length};
 
 // What is stored: 0 and a count, or a refusal's number and place.
 pub struct Stored {
-    pub number: usize,
-    pub place: usize,
+    pub number: u64,
+    pub place: u64,
 }
 
 fn is_result(n: usize, s: Stored) -> bool {
-    if s.number == 0 { n == s.place } else { false }
+    if s.number == 0 {
+        n as u64 == s.place
+    } else {
+        false
+    }
 }
 
 fn is_refusal(r: Refusal, s: Stored) -> bool {
     if s.number == 0 {
         return false;
     }
-    if r.number as usize == s.number {
-        r.place == s.place
+    if r.number as u64 == s.number {
+        r.place as u64 == s.place
     } else {
         false
     }
 }
 
-// After a result of Read: the numbers, which here are the bytes, and zeros.
-fn read_done(bytes: &[u8], out: &[u16], work: &[u64]) -> bool {
-    if !starts_with_bytes(out, bytes) {
+fn wide(b: u8) -> u16 {
+    b as u16
+}
+
+// Whether the first n numbers and the first n bytes are the same.
+fn alike(numbers: &[u16], bytes: &[u8], n: usize) -> bool {
+    if numbers.len() < n {
         return false;
     }
-    if !zero_numbers(out, bytes.len()) {
+    if bytes.len() < n {
+        return false;
+    }
+    let mut i = 0;
+    while i < n {
+        if numbers[i] != wide(bytes[i]) {
+            return false;
+        }
+        i += 1;
+    }
+    true
+}
+
+// After a result of Read: the numbers, which here are the bytes, and zeros.
+fn read_done(n: usize, bytes: &[u8], out: &[u16], work: &[u64], s: Stored) -> bool {
+    if !is_result(n, s) {
+        return false;
+    }
+    if n != bytes.len() {
+        return false;
+    }
+    if !alike(out, bytes, n) {
+        return false;
+    }
+    if !zero_numbers(out, n) {
         return false;
     }
     zero_words(work)
 }
 
 // After a refusal of Read: 1 keeps all, and any other leaves zeros.
-fn read_refused(number: usize, out: &[u16], work: &[u64]) -> bool {
-    if number == 1 {
+fn read_refused(r: Refusal, out: &[u16], work: &[u64], s: Stored) -> bool {
+    if !is_refusal(r, s) {
+        return false;
+    }
+    if s.number == 1 {
         if !kept_numbers(out) {
             return false;
         }
@@ -66,30 +99,23 @@ pub fn read_right(bytes: &[u8], out: &mut [u16], work: &mut [u64], s: Stored) ->
     fill_numbers(out);
     fill_words(work);
     match codec::read(bytes, out, work) {
-        Answer::Count(n) => {
-            if !is_result(n, s) {
-                return false;
-            }
-            if n != bytes.len() {
-                return false;
-            }
-            read_done(bytes, out, work)
-        }
-        Answer::Refused(r) => {
-            if !is_refusal(r, s) {
-                return false;
-            }
-            read_refused(s.number, out, work)
-        }
+        Answer::Count(n) => read_done(n, bytes, out, work, s),
+        Answer::Refused(r) => read_refused(r, out, work, s),
     }
 }
 
 // After a result of Write: the bytes, which here are the numbers, and the rest kept.
-fn write_done(list: &[u16], out: &[u8], work: &[u64]) -> bool {
-    if !starts_with_list(out, list) {
+fn write_done(n: usize, list: &[u16], out: &[u8], work: &[u64], s: Stored) -> bool {
+    if !is_result(n, s) {
         return false;
     }
-    if !kept_bytes(out, list.len()) {
+    if n != list.len() {
+        return false;
+    }
+    if !alike(list, out, n) {
+        return false;
+    }
+    if !kept_bytes(out, n) {
         return false;
     }
     zero_words(work)
@@ -97,11 +123,14 @@ fn write_done(list: &[u16], out: &[u8], work: &[u64]) -> bool {
 
 // After a refusal of Write: the output is kept. So is the work area where its length was wrong;
 // else it is zero, also where the output was too short.
-fn write_refused(number: usize, out: &[u8], work: &[u64]) -> bool {
+fn write_refused(r: Refusal, out: &[u8], work: &[u64], s: Stored) -> bool {
+    if !is_refusal(r, s) {
+        return false;
+    }
     if !kept_bytes(out, 0) {
         return false;
     }
-    if number == 1 {
+    if s.number == 1 {
         if work.len() != 8192 {
             return kept_words(work);
         }
@@ -113,22 +142,17 @@ pub fn write_right(list: &[u16], out: &mut [u8], work: &mut [u64], s: Stored) ->
     fill_bytes(out);
     fill_words(work);
     match codec::write(list, out, work) {
-        Answer::Count(n) => {
-            if !is_result(n, s) {
-                return false;
-            }
-            if n != list.len() {
-                return false;
-            }
-            write_done(list, out, work)
-        }
-        Answer::Refused(r) => {
-            if !is_refusal(r, s) {
-                return false;
-            }
-            write_refused(s.number, out, work)
-        }
+        Answer::Count(n) => write_done(n, list, out, work, s),
+        Answer::Refused(r) => write_refused(r, out, work, s),
     }
+}
+
+// After a refusal of the check: zeros.
+fn check_refused(r: Refusal, work: &[u64], s: Stored) -> bool {
+    if !is_refusal(r, s) {
+        return false;
+    }
+    zero_words(work)
 }
 
 pub fn check_right(list: &[u16], work: &mut [u64], s: Stored) -> bool
@@ -137,11 +161,6 @@ pub fn check_right(list: &[u16], work: &mut [u64], s: Stored) -> bool
     fill_words(work);
     match judge::check(list, work) {
         Judged::Accepted => is_result(index::term_count(list, work), s),
-        Judged::Declined(r) => {
-            if !is_refusal(r, s) {
-                return false;
-            }
-            zero_words(work)
-        }
+        Judged::Declined(r) => check_refused(r, work, s),
     }
 }

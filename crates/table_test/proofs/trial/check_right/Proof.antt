@@ -24,8 +24,8 @@ is-result-requires c κs = search needs
 enum-known-r : tie.Need-enum-known-r
 enum-known-r c = search needs
 
-is-refusal-requires : tie.Need-is-refusal-requires
-is-refusal-requires c κs = search needs
+check-refused-requires : tie.Need-check-refused-requires
+check-refused-requires c κs = search needs
 
 same-length : tie.Need-same-length
 same-length c = search needs
@@ -33,20 +33,11 @@ same-length c = search needs
 returns : tie.Need-returns
 returns c = search needs
 
-zero-words-requires : tie.Need-zero-words-requires
-zero-words-requires c κs = search needs
-
 same-length-2 : tie.Need-same-length-2
 same-length-2 c = search needs
 
 returns-2 : tie.Need-returns-2
 returns-2 c = search needs
-
-same-length-3 : tie.Need-same-length-3
-same-length-3 c = search needs
-
-returns-3 : tie.Need-returns-3
-returns-3 c = search needs
 
 pub check-right-spec : {M : Type 1} → statement M
 check-right-spec =
@@ -58,11 +49,8 @@ check-right-spec =
     term-count-requires
     is-result-requires
     enum-known-r
-    is-refusal-requires
+    check-refused-requires
     same-length
     returns
-    zero-words-requires
     same-length-2
-    returns-2
-    same-length-3
-    returns-3)
+    returns-2)
