@@ -1,5 +1,5 @@
-// Runs Read, Write and the list check of crate `table` on the cases of `tables.txt`, and prints a
-// line for each group of cases, then `ok` if every answer was the stored one.
+// Runs Read, Write and the list check of crates `codec` and `judge` on the cases of `tables.txt`,
+// and prints a line for each group of cases, then `ok` if every answer was the stored one.
 //     file       the file, piece by piece
 //     case       a line as a case
 //     trial      one call, held to its answer
