@@ -1,5 +1,5 @@
 // What a lent buffer holds before a call, and whether it was kept or cleared.
-//     fill_words, fill_numbers, fill_bytes    junk: no element of it is 0, and each tells its place
+//     fill_words, fill_numbers, fill_bytes    junk: no element is 0, and those near each other differ
 //     kept_words, kept_numbers, kept_bytes    whether the junk still stands, of bytes from a place on
 //     zero_words, zero_numbers                whether there are zeros, of numbers from a place on
 

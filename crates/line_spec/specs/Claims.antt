@@ -1,5 +1,7 @@
 -- What this crate proves of the definitions: statements only. The proof of each is in `proofs/Theorems.antt`, under
 -- the same name.
+--     HeadsAre          what the head of an input is, by its bytes
+--     LentExactly       the lent lengths that `open` and `line` take
 --     LineIsLent        what `line` says is the line of the input, or refusal 1
 --     PiecesAreLent     so is what `open`, `resume` on piece after piece, and `conclude` say
 --     EndsArePieces     the same where `after_piece` is asked of each piece, as the program does
@@ -16,19 +18,30 @@
 use Prim.Native.Nat.{ℕ, _≤_}
 use mathlib.Core.Path.{_≡_}
 use mathlib.Core.Bool.{true, false}
-use mathlib.Core.Logic.{_⊎_}
+use mathlib.Core.Logic.{_⊎_, _↔_}
 use mathlib.Core.List.{List, [], _∷_, _++_, flatten}
 use lib.ListN.{length, take, drop}
-use Rattle.monitor_spec.specs.State.{State, Monitor, given, stopped}
+use Rattle.monitor_spec.specs.State.{running, failedAt, State, Monitor, given, stopped}
 use Rattle.monitor_spec.specs.State as state
 use Rattle.monitor_spec.specs.Feed.{feedOf}
+use Rattle.numbers.specs.Number.{Bytes}
 use Rattle.table.specs.Table.{fixed, Term, stop, prefix, choice, par, one}
 use Rattle.table.specs.Writing.{numbersOf}
-use Rattle.line_spec.specs.Line.{Line, runs, fails, refused, stateLine, lineOf}
+use Rattle.line_spec.specs.Line.{headOf, HeadWay, Line, runs, fails, refused, lineOf}
 use Rattle.line_spec.specs.Pieces.{Course, going, over, afterPiece, fed, concludeOf, pieceOf, frontOf, piecesOf}
 use Rattle.line_spec.specs.Opening.{lent, started, refuses, openOf, openCourse, OpenWay, Began}
 use Rattle.line_spec.specs.Whole.{resumeOf, wholeOf}
 use Rattle.line_spec.specs.Lent.{lentLine, lentPieces, lentEnds}
+
+-- "a number, that many table bytes, then events"; 2, 3 and 4 "before Read"
+unfoldable pub HeadsAre : Type 0
+HeadsAre = (s : List ℕ) → Bytes s → HeadWay s (headOf s)
+
+-- "a lent u16 buffer of 16,384", "256 slots", a work area of "8,192 u64 words"
+unfoldable pub LentExactly : Type 0
+LentExactly =
+    (l a b w : List ℕ) → (lent l a b w ≡ true)
+    ↔ ((length l ≡ 16384) × (length a ≡ 4096) × (length b ≡ 4096) × (length w ≡ 8192))
 
 -- 01, "The program and its lines", whatever stood in the lent buffers
 unfoldable pub LineIsLent : Type 0
@@ -57,14 +70,17 @@ pub record ResumeLeaves : Type 0 where
   pub goes : (l : List ℕ) (m : Monitor) (es w : List ℕ) (s : State) → feedOf l m es w .answer ≡ given s
       → let f = feedOf l m es w in
       resumeOf l m es w .course ≡ going l (record { state = s; area0 = f .area0; area1 = f .area1 })
-  pub refuses : (l : List ℕ) (m : Monitor) (es w : List ℕ) (n p : ℕ) → feedOf l m es w .answer ≡ state.refused n p
+  pub refusal-line : (l : List ℕ) (m : Monitor) (es w : List ℕ) (n p : ℕ) → feedOf l m es w .answer ≡ state.refused n p
       → resumeOf l m es w .course ≡ over (refused n p)
-  pub stops : (l : List ℕ) (m : Monitor) (es w : List ℕ) (n p : ℕ) (s : State) → feedOf l m es w .answer ≡ stopped n p s
+  pub stopped-line : (l : List ℕ) (m : Monitor) (es w : List ℕ) (n p : ℕ) (s : State) → feedOf l m es w .answer ≡ stopped n p s
       → resumeOf l m es w .course ≡ over (refused n (s .taken))
 
 -- after the last piece the line of the record stands, or the one that stood; before it nothing changes
 pub record PieceEnds : Type 0 where
-  pub going-last : (l : List ℕ) (m : Monitor) → afterPiece true (going l m) ≡ over (stateLine (m .state))
+  pub running-last : (l : List ℕ) (m : Monitor) → m .state .verdict ≡ running
+      → afterPiece true (going l m) ≡ over (runs (m .state .taken) (m .state .count))
+  pub failed-last : (l : List ℕ) (m : Monitor) (p : ℕ) → m .state .verdict ≡ failedAt p
+      → afterPiece true (going l m) ≡ over (fails p (m .state .taken))
   pub over-last : (x : Line) → afterPiece true (over x) ≡ over x
   pub before : (c : Course) → afterPiece false c ≡ c
 

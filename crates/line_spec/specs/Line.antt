@@ -1,15 +1,17 @@
 -- The line that the program prints for an input (01, "The program and its lines").
 --     Head, headOf                  an input's table bytes and events, or what is wrong with its length number
+--     HeadWay                       what a head is, by the bytes of the input
 --     Line                          what is printed
 --     stateLine, answerLine         of a record; of an answer of Start or Feed
 --     fresh, startedLine, lineOf    a fresh monitor of 256 slots; of a number list and events; of a whole input
 -- The laws are in `Line/Laws.antt`. Assumes nothing.
-use Prim.Native.Nat.{ℕ}
+use Prim.Native.Nat.{ℕ, _≤_, _<_}
+use mathlib.Core.Path.{_≡_}
 use mathlib.Core.Bool.{true, false}
-use mathlib.Core.List.{List}
+use mathlib.Core.List.{List, _++_}
 use lib.ListN.{length, take, drop}
 use lib.Dec.{ltb}
-use Rattle.numbers.specs.Number.{Scan, value, truncated, malformed, readNumber}
+use Rattle.numbers.specs.Number.{Scan, value, truncated, malformed, readNumber, bytesOf, Incomplete, IllWritten}
 use Rattle.table.specs.Judge.{Judgement, accepted, declined, judgeBytes}
 use Rattle.table.specs.Operations.{zeros}
 use Rattle.monitor_spec.specs.State.{Verdict, running, failedAt, State, Monitor, Answer, given, stopped, Outcome}
@@ -40,6 +42,19 @@ headBy malformed = wrong 4 0
 -- "Standard input: a number, that many table bytes, then events, one byte each."
 unfoldable pub headOf : List ℕ → Head
 headOf s = headBy (readNumber s)
+
+-- what the head of an input of bytes is, by the bytes
+pub data HeadWay (s : List ℕ) : Head → Type 0 where
+  -- "a number, that many table bytes, then events"
+  inputParts : (bs es : List ℕ) → s ≡ bytesOf (length bs) ++ (bs ++ es) → length bs ≤ 16384 → HeadWay s (parts bs es)
+  -- "a length over 16,384 is 2"
+  lengthOver : (v : ℕ) (rest : List ℕ) → s ≡ bytesOf v ++ rest → 16384 < v → v ≤ 65535 → HeadWay s (wrong 2 0)
+  -- "input ending within the table is 3, at the number of table bytes there"
+  tableCut : (v : ℕ) (rest : List ℕ) → s ≡ bytesOf v ++ rest → v ≤ 16384 → length rest < v
+      → HeadWay s (wrong 3 (length rest))
+  -- "The length number uses 3 and 4 with place 0"
+  lengthCut : Incomplete s → HeadWay s (wrong 3 0)
+  lengthLoose : IllWritten s → HeadWay s (wrong 4 0)
 
 -- "`running TAKEN RESIDUALS`, `failed PLACE TAKEN`, or `refused NUMBER PLACE`"
 pub data Line : Type 0 where

@@ -23,6 +23,8 @@ use Rattle.table.specs.Equations.{branches-call, resolve-call, width-lev
 use Rattle.table.specs.Examples.Laws.{numbers-hold, tables-hold, counts-hold, longs-hold}
 use Rattle.table.specs.Examples.Laws.{reads-hold, writes-hold}
 use Rattle.table.specs.Operations.Laws as operations
+use Rattle.table.specs.Operations.Ways.{read-ways, write-ways}
+use Rattle.table.specs.Claims.{ReadLeaves, WriteLeaves}
 use Rattle.table.specs.Claims.{NumberReadsBack, NumberCanonical, TableReadsBack, TableCanonical}
 use Rattle.table.specs.Claims.{AcceptedExactly, AcceptedBytesExactly, AcceptedWritesBack, WrittenReadsBack}
 use Rattle.table.specs.Claims.{RefusedExactly, RefusedBytesExactly, ManyAtTerm, FieldsAreMarks}
@@ -113,6 +115,14 @@ width-of-level = width-level
 pub resolved-count : ResolvedCount
 unfolding ResolvedCount
 resolved-count = resolve-count
+
+pub read-leaves : ReadLeaves
+unfolding ReadLeaves
+read-leaves = read-ways
+
+pub write-leaves : WriteLeaves
+unfolding WriteLeaves
+write-leaves = write-ways
 
 pub read-fills : ReadFills
 unfolding ReadFills

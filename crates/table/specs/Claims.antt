@@ -13,6 +13,7 @@
 --     ResolvedReach, ReachMost            a residual's leaves together have at most its term's reach, at most 8
 --     CappedBranches                      branches counted to 257 only
 --     BranchesOfCall, ResolvedCall, WidthOfLevel, ResolvedCount    01's sentences on calls, as equations
+--     ReadLeaves, WriteLeaves             what Read and Write give, by the lent lengths and the judgement
 --     ReadFills                           Read's output keeps its length
 --     Examples                            worked inputs
 -- Assumes nothing.
@@ -47,7 +48,7 @@ use Rattle.table.specs.Parser.Mark.{Mark, numbers, Pass}
 use Rattle.table.specs.Refusals.{Refused, fewTerms, ManyAt}
 use Rattle.table.specs.BytesRefused.{RefusedBytes}
 use Rattle.table.specs.Judge.{accepted, declined, judgeList, judgeBytes}
-use Rattle.table.specs.Operations.{Answer, done, Outcome, zeros, readOf, writeOf}
+use Rattle.table.specs.Operations.{Answer, done, Outcome, zeros, readOf, writeOf, ReadWay, WriteWay}
 
 unfoldable pub NumberReadsBack : Type 0
 NumberReadsBack = (v : ℕ) (s : List ℕ) → v ≤ 65535 → readNumber (bytesOf v ++ s) ≡ value v (length (bytesOf v)) s
@@ -143,6 +144,13 @@ unfoldable pub ResolvedCount : Type 0
 ResolvedCount = (t : Table) (m : Memory) (p : Term) → length (resolve t m p) ≡ branches t p
 
 -- "a lent u16 buffer of 16,384": whatever Read says, its output is as long as it was
+-- 00, demand 1: "a refusal only on its listed condition"; 01: every lent word after Read and Write
+unfoldable pub ReadLeaves : Type 0
+ReadLeaves = (s out work : List ℕ) → ReadWay s out work (readOf s out work)
+
+unfoldable pub WriteLeaves : Type 0
+WriteLeaves = (l out work : List ℕ) → WriteWay l out work (writeOf l out work)
+
 unfoldable pub ReadFills : Type 0
 ReadFills = (s out work : List ℕ) → Bytes s → length (readOf s out work .output) ≡ length out
 

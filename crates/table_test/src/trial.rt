@@ -1,5 +1,6 @@
 // One call on buffers full of junk: whether its answer, and what it leaves in them, are right
-// (01, "Operations", "When the monitor declines").
+// (01, "Operations", "When the monitor declines"). Of the index that the check leaves only the term
+// count is looked at.
 use cases::fill_bytes;
 use cases::fill_numbers;
 use cases::fill_words;

@@ -1,6 +1,7 @@
 -- A proof of each claim of `specs/Claims.antt`. Assumes nothing.
 use Rattle.words.specs.Words.Laws.{read-back}
-use Rattle.words.specs.Claims.{RecordReadsBack, ZeroExactly, ViewShows, Rows}
+use Rattle.words.specs.Ways.Laws.{read-way, write-way, start-way, feed-way, offer-way, view-way}
+use Rattle.words.specs.Claims.{RecordReadsBack, CallsTell, ZeroExactly, ViewShows, Rows}
 use Rattle.words.proofs.Zero.{read-zero, write-zero, start-zero, feed-zero, offer-zero}
 use Rattle.words.proofs.Shows.{shows}
 use Rattle.words.proofs.Rows.{rows-hold}
@@ -8,6 +9,17 @@ use Rattle.words.proofs.Rows.{rows-hold}
 pub record-reads-back : RecordReadsBack
 unfolding RecordReadsBack
 record-reads-back = read-back
+
+pub calls-tell : CallsTell
+calls-tell =
+    record {
+      read = read-way;
+      write = write-way;
+      start = start-way;
+      feed = feed-way;
+      offer = offer-way;
+      view = view-way;
+    }
 
 pub zero-exactly : ZeroExactly
 zero-exactly =

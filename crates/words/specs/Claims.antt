@@ -1,6 +1,7 @@
 -- What is proved of the definitions that the contracts of the functions for C cite: statements only. The proofs are in
 -- `proofs/Theorems.antt`, under the same names.
 --     RecordReadsBack    a record's words are read as that record
+--     CallsTell          what each call returns and leaves, by the operation's answer
 --     ZeroExactly        the number returned is 0 exactly where the operation refused nothing
 --     ViewShows          the words that `cspe_view` tells are the part that View hands back
 --     Rows               worked calls on table B
@@ -21,10 +22,21 @@ use Rattle.monitor_spec.specs.View.{viewOf}
 use Rattle.words.specs.Words.{recordMeasured, stateIn, wordsOf}
 use Rattle.words.specs.Tables.{isDone, readCall, writeCall}
 use Rattle.words.specs.Calls.{isGiven, isOffered, monitorIn, startCall, feedCall, offerCall, viewCall}
+use Rattle.words.specs.Ways.{CallWay, OfferWay, ViewWay, TableWay}
 use Rattle.words.specs.Examples.{RowsHold}
 
 unfoldable pub RecordReadsBack : Type 0
 RecordReadsBack = (s : State) → stateIn (wordsOf s) ≡ s
+
+-- each call goes one of its ways
+pub record CallsTell : Type 0 where
+  pub read : (s out w : List ℕ) → TableWay (readOf s out w) (readCall s out w)
+  pub write : (l out w : List ℕ) → TableWay (writeOf l out w) (writeCall l out w)
+  pub start : (l r a b w : List ℕ) → CallWay r a b w (startOf l a b w) (startCall l r a b w)
+  pub feed : (l r a b es w : List ℕ)
+      → CallWay r a b w (feedOf l (monitorIn r a b) es w) (feedCall l r a b es w)
+  pub offer : (l r a b w : List ℕ) → OfferWay r a b w (offerOf l (monitorIn r a b) w) (offerCall l r a b w)
+  pub view : (r a b : List ℕ) → ViewWay r (viewOf (monitorIn r a b)) (viewCall r a b)
 
 -- a record that is not of four words is a refusal too
 pub record ZeroExactly : Type 0 where

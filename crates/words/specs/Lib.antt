@@ -1,7 +1,8 @@
 -- What the functions for C promise, in reading order: the record in words; the calls of the table layer; those of the
--- monitor; worked rows; what is claimed. Assumes nothing.
+-- monitor; their ways; worked rows; what is claimed. Assumes nothing.
 pub mod Words
 pub mod Tables
 pub mod Calls
+pub mod Ways
 pub mod Examples
 pub mod Claims

@@ -1,19 +1,23 @@
 -- The head of an input.
 --     cut-over, cut-missing, cut-there     its parts, by the length number
 --     head-events                          the events end the input
+--     head-ways                            what it is, by the bytes
 -- Assumes nothing.
 use Prim.Native.Nat.{ℕ, _+_, _-_, _≤_, _<_}
 use native.Mathlib.Omega.{arith}
-use mathlib.Core.Path.{_≡_, refl, ap, sym, _∙_}
+use mathlib.Core.Path.{_≡_, refl, ap, sym, subst, _∙_}
 use mathlib.Core.Bool.{Bool, true, false}
-use mathlib.Core.List.{List}
-use lib.ListN.{length, take, drop, length-drop}
-use lib.Seq.{drop-drop}
+use mathlib.Core.List.{List, _++_}
+use lib.ListN.{length, take, drop, length-drop, take-append-drop}
+use lib.Seq.{drop-drop, length-take-le}
 use lib.Dec.{ltb}
 use borrow.Author.Tests.{lt-ltb, le-ltb, ltb-true, ltb-false}
-use Rattle.numbers.specs.Number.{Scan, value, truncated, malformed, readNumber}
+use Rattle.numbers.specs.Number.{Bytes, Scan, value, truncated, malformed, readNumber, bytesOf}
 use Rattle.numbers.specs.Number.Extent.{scan-extent}
-use Rattle.line_spec.specs.Line.{Head, parts, wrong, cut, headBy, headOf}
+use Rattle.numbers.specs.Number.Laws.{read-is-written}
+use Rattle.numbers.specs.Number.Unread.{truncated-out, malformed-out}
+use Rattle.line_spec.specs.Line.{Head, parts, wrong, cut, headBy, headOf, HeadWay, inputParts, lengthOver, tableCut}
+use Rattle.line_spec.specs.Line.{lengthCut, lengthLoose}
 
 module _ (v : ℕ) (rest : List ℕ) where
   pub cut-over : 16384 < v → cut v rest ≡ wrong 2 0
@@ -62,3 +66,36 @@ module _ (s bs es : List ℕ) where
           let x = scan-extent 2 3 s v n rest e in
           cut-ends v n (x .within) (ap (cut v) (sym (x .left)) ∙ sym (ap headBy e) ∙ h) (ltb 16384 v)
           (ltb (length (drop n s)) v) refl refl
+
+-- ---- by the bytes
+
+module _ (s : List ℕ) (w : Bytes s) where
+  cut-ways : (v n : ℕ) (rest : List ℕ) → readNumber s ≡ value v n rest → (x y : Bool) → ltb 16384 v ≡ x
+      → ltb (length rest) v ≡ y → HeadWay s (cut v rest)
+  cut-ways v n rest e true y a b =
+      let r = read-is-written s v n rest w e in
+      subst (HeadWay s) (sym (cut-over v rest (ltb-true _ _ a))) (lengthOver v rest (r .whole) (ltb-true _ _ a) (r .small))
+  cut-ways v n rest e false true a b =
+      let r = read-is-written s v n rest w e in
+      subst (HeadWay s) (sym (cut-missing v rest (ltb-false _ _ a) (ltb-true _ _ b)))
+      (tableCut v rest (r .whole) (ltb-false _ _ a) (ltb-true _ _ b))
+  cut-ways v n rest e false false a b =
+      let r = read-is-written s v n rest w e in
+      let h : v ≤ length rest = ltb-false _ _ b in
+      let few : v ≤ 16384 = ltb-false _ _ a in
+      let k : length (take v rest) ≡ v = length-take-le v rest h in
+      let g : s ≡ bytesOf (length (take v rest)) ++ (take v rest ++ drop v rest) =
+      r .whole ∙ ap (λ (z : List ℕ). bytesOf v ++ z) (sym (take-append-drop v rest))
+      ∙ ap (λ (z : ℕ). bytesOf z ++ (take v rest ++ drop v rest)) (sym k) in
+      subst (HeadWay s) (sym (cut-there v rest (ltb-false _ _ a) h))
+      (inputParts (take v rest) (drop v rest) g (omega arith))
+
+  pub head-ways : HeadWay s (headOf s)
+  unfolding headOf headBy readNumber
+  head-ways = by (readNumber s) refl
+    where
+      by : (x : Scan) → readNumber s ≡ x → HeadWay s (headOf s)
+      by truncated e = subst (HeadWay s) (sym (ap headBy e)) (lengthCut (truncated-out 2 3 s (omega arith) w e))
+      by malformed e = subst (HeadWay s) (sym (ap headBy e)) (lengthLoose (malformed-out 2 3 s e))
+      by (value v n rest) e =
+          subst (HeadWay s) (sym (ap headBy e)) (cut-ways v n rest e (ltb 16384 v) (ltb (length rest) v) refl refl)

@@ -1,0 +1,166 @@
+-- Each call goes one of its ways: start-way, feed-way, offer-way, view-way, read-way, write-way. Assumes nothing.
+use Prim.Native.Nat.{ℕ, zero, suc, _%_, _<_}
+use native.Mathlib.Omega.{arith}
+use mathlib.Core.Path.{_≡_, refl, sym, ap, subst, _∙_}
+use mathlib.Core.Bool.{Bool, true, false}
+use mathlib.Core.List.{List}
+use lib.ListN.{length}
+use lib.Dec.{eqb}
+use borrow.Author.Tests.{eqb-true, eqb-false}
+use Rattle.table.specs.Operations.{done, refusal, readOf, writeOf}
+use Rattle.table.specs.Operations as table
+use Rattle.monitor_spec.specs.State.{State, Answer, given, refused, stopped, Outcome}
+use Rattle.monitor_spec.specs.Start.{startOf}
+use Rattle.monitor_spec.specs.Feed.{feedOf}
+use Rattle.monitor_spec.specs.Offer.{Offered, offers, OfferOutcome, offerOf}
+use Rattle.monitor_spec.specs.Offer as operation
+use Rattle.monitor_spec.specs.View.{viewOf}
+use Rattle.words.specs.Words.{recordMeasured, stateIn, wordsOf}
+use Rattle.words.specs.Tables.{TableCall, tableCall, readCall, writeCall}
+use Rattle.words.specs.Tables as tables
+use Rattle.words.specs.Calls.{MonitorCall, numberOf, placeOf, recordAfter, monitorCall, unmeasured, monitorIn}
+use Rattle.words.specs.Calls.{startCall, feedCall, OfferCall, offerNumber, offerValue, offering, offerCall}
+use Rattle.words.specs.Calls.{ViewCall, areaOf, viewing, viewCall}
+use Rattle.words.specs.Ways.{CallWay, recordUnfit, callGiven, callRefused, callStopped, OfferWay, offerUnfit}
+use Rattle.words.specs.Ways.{offerGiven, offerRefused, ViewWay, viewUnfit, viewNone, viewSome, TableWay}
+use Rattle.words.specs.Ways.{tableDone, tableRefused}
+
+-- ---- Start and Feed
+
+module _ (r a b w : List ℕ) (o : Outcome) where
+  told : (x : Answer) → o .answer ≡ x → length r ≡ 4 → CallWay r a b w o (monitorCall r o)
+  unfolding monitorCall numberOf placeOf recordAfter
+  told (given s) e h =
+      subst (CallWay r a b w o) (sym (ap (λ (x : Answer). record {
+        number = numberOf x;
+        place = placeOf x;
+        words = recordAfter r x;
+        area0 = o .area0;
+        area1 = o .area1;
+        work = o .work;
+      }) e)) (callGiven s h e)
+  told (refused n p) e h =
+      subst (CallWay r a b w o) (sym (ap (λ (x : Answer). record {
+        number = numberOf x;
+        place = placeOf x;
+        words = recordAfter r x;
+        area0 = o .area0;
+        area1 = o .area1;
+        work = o .work;
+      }) e)) (callRefused n p h e)
+  told (stopped n p s) e h =
+      subst (CallWay r a b w o) (sym (ap (λ (x : Answer). record {
+        number = numberOf x;
+        place = placeOf x;
+        words = recordAfter r x;
+        area0 = o .area0;
+        area1 = o .area1;
+        work = o .work;
+      }) e)) (callStopped n p s h e)
+
+  -- a call that is the operation's where the record is of four words
+  measured : (c : MonitorCall) → (x : Bool) → eqb (length r) 4 ≡ x
+      → c ≡ elim x as (λ y. MonitorCall) [ true ↦ monitorCall r o | false ↦ unmeasured r a b w ] → CallWay r a b w o c
+  unfolding unmeasured
+  measured c true e k = subst (CallWay r a b w o) (sym k) (told (o .answer) refl (eqb-true _ _ e))
+  measured c false e k = subst (CallWay r a b w o) (sym k) (recordUnfit (eqb-false _ _ e))
+
+pub start-way : (l r a b w : List ℕ) → CallWay r a b w (startOf l a b w) (startCall l r a b w)
+unfolding startCall recordMeasured
+start-way l r a b w = measured r a b w (startOf l a b w) (startCall l r a b w) (eqb (length r) 4) refl refl
+
+pub feed-way : (l r a b es w : List ℕ)
+    → CallWay r a b w (feedOf l (monitorIn r a b) es w) (feedCall l r a b es w)
+unfolding feedCall recordMeasured
+feed-way l r a b es w =
+    measured r a b w (feedOf l (monitorIn r a b) es w) (feedCall l r a b es w) (eqb (length r) 4) refl refl
+
+-- ---- Offer
+
+module _ (r a b w : List ℕ) (o : OfferOutcome) where
+  offered : (x : Offered) → o .answer ≡ x → length r ≡ 4 → OfferWay r a b w o (offering o)
+  unfolding offering offerNumber offerValue
+  offered (offers bits) e h =
+      subst (OfferWay r a b w o) (sym (ap (λ (x : Offered). record {
+        number = offerNumber x;
+        value = offerValue x;
+        area0 = o .area0;
+        area1 = o .area1;
+        work = o .work;
+      }) e)) (offerGiven bits h e)
+  offered (operation.refused n p) e h =
+      subst (OfferWay r a b w o) (sym (ap (λ (x : Offered). record {
+        number = offerNumber x;
+        value = offerValue x;
+        area0 = o .area0;
+        area1 = o .area1;
+        work = o .work;
+      }) e)) (offerRefused n p h e)
+
+  offer-measured : (c : OfferCall) → (x : Bool) → eqb (length r) 4 ≡ x
+      → c ≡ elim x as (λ y. OfferCall) [
+        | true ↦ offering o
+        | false ↦ record { number = 1; value = 0; area0 = a; area1 = b; work = w }
+      ]
+      → OfferWay r a b w o c
+  offer-measured c true e k = subst (OfferWay r a b w o) (sym k) (offered (o .answer) refl (eqb-true _ _ e))
+  offer-measured c false e k = subst (OfferWay r a b w o) (sym k) (offerUnfit (eqb-false _ _ e))
+
+pub offer-way : (l r a b w : List ℕ) → OfferWay r a b w (offerOf l (monitorIn r a b) w) (offerCall l r a b w)
+unfolding offerCall recordMeasured
+offer-way l r a b w =
+    offer-measured r a b w (offerOf l (monitorIn r a b) w) (offerCall l r a b w) (eqb (length r) 4) refl refl
+
+-- ---- View
+
+module _ (r a b : List ℕ) where
+  viewed : length r ≡ 4 → (x : Bool) → eqb (length (viewOf (monitorIn r a b))) 0 ≡ x
+      → ViewWay r (viewOf (monitorIn r a b)) (viewing (stateIn r) (viewOf (monitorIn r a b)))
+  unfolding viewing areaOf
+  viewed h true e =
+      let z = eqb-true (length (viewOf (monitorIn r a b))) 0 e in
+      subst (ViewWay r (viewOf (monitorIn r a b)))
+      (ap (λ (n : ℕ). record { count = n; area = areaOf n (stateIn r .taken) }) (sym z)) (viewNone h z)
+  viewed h false e =
+      let z = eqb-false (length (viewOf (monitorIn r a b))) 0 e in
+      rw (e, areaOf) (viewSome h (some (length (viewOf (monitorIn r a b))) z))
+    where
+      some : (n : ℕ) → (n ≡ 0 → ⊥) → 0 < n
+      some zero k = absurd (k refl)
+      some (suc n) k = omega arith
+
+  pub view-way : ViewWay r (viewOf (monitorIn r a b)) (viewCall r a b)
+  unfolding viewCall recordMeasured
+  view-way = by (eqb (length r) 4) refl
+    where
+      by : (x : Bool) → eqb (length r) 4 ≡ x → ViewWay r (viewOf (monitorIn r a b)) (viewCall r a b)
+      by true e = rw (e, viewCall) (viewed (eqb-true _ _ e) (eqb (length (viewOf (monitorIn r a b))) 0) refl)
+      by false e = rw (e, viewCall) (viewUnfit (eqb-false _ _ e))
+
+-- ---- Read and Write
+
+module _ (o : table.Outcome) where
+  tables-way : (x : table.Answer) → o .answer ≡ x → TableWay o (tableCall o)
+  unfolding tableCall tables.numberOf tables.valueOf
+  tables-way (done n) e =
+      subst (TableWay o) (sym (ap (λ (x : table.Answer). record {
+        number = tables.numberOf x;
+        value = tables.valueOf x;
+        output = o .output;
+        work = o .work;
+      }) e)) (tableDone n e)
+  tables-way (refusal n at) e =
+      subst (TableWay o) (sym (ap (λ (x : table.Answer). record {
+        number = tables.numberOf x;
+        value = tables.valueOf x;
+        output = o .output;
+        work = o .work;
+      }) e)) (tableRefused n at e)
+
+pub read-way : (s out w : List ℕ) → TableWay (readOf s out w) (readCall s out w)
+unfolding readCall
+read-way s out w = tables-way (readOf s out w) (readOf s out w .answer) refl
+
+pub write-way : (l out w : List ℕ) → TableWay (writeOf l out w) (writeCall l out w)
+unfolding writeCall
+write-way l out w = tables-way (writeOf l out w) (writeOf l out w .answer) refl
