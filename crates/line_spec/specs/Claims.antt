@@ -9,8 +9,8 @@
 --     ResumeLeaves      what `resume` leaves is what Feed leaves, and its course, by Feed's answer
 --     PieceEnds         a course after a piece that was the last, or was not
 --     LineLeaves        what `line` leaves, by what `open` answers
---     OpenIsFront       it is the front of the input
---     OpenStarts        its record stands on the list and before the events, with a work area of zeros
+--     OpenIsFront       what `open` leaves is the front of the input
+--     OpenStarts        the record of `open` stands on the list and before the events, with a work area of zeros
 --     PiecesAreWhole    an input in pieces gives the line of the whole
 --     PieceAnyWork      a piece comes to the same course, whatever the work area held
 --     Rows              the worked examples
@@ -115,7 +115,7 @@ OpenStarts =
     (s l a b w : List ℕ) (st : State) (count next : ℕ) → openOf s l a b w .answer ≡ started st count next
     → Began s l a b w (openOf s l a b w) count next
 
--- the same of the definitions alone
+-- the claim PiecesAreLent of the definitions alone
 unfoldable pub PiecesAreWhole : Type 0
 PiecesAreWhole =
     (front : List ℕ) (pieces : List (List ℕ)) → (16387 ≤ length front) ⊎ (pieces ≡ [])

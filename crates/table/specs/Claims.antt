@@ -143,7 +143,6 @@ WidthOfLevel =
 unfoldable pub ResolvedCount : Type 0
 ResolvedCount = (t : Table) (m : Memory) (p : Term) → length (resolve t m p) ≡ branches t p
 
--- "a lent u16 buffer of 16,384": whatever Read says, its output is as long as it was
 -- 00, demand 1: "a refusal only on its listed condition"; 01: every lent word after Read and Write
 unfoldable pub ReadLeaves : Type 0
 ReadLeaves = (s out work : List ℕ) → ReadWay s out work (readOf s out work)
@@ -151,6 +150,7 @@ ReadLeaves = (s out work : List ℕ) → ReadWay s out work (readOf s out work)
 unfoldable pub WriteLeaves : Type 0
 WriteLeaves = (l out work : List ℕ) → WriteWay l out work (writeOf l out work)
 
+-- "a lent u16 buffer of 16,384": whatever Read says, its output is as long as it was
 unfoldable pub ReadFills : Type 0
 ReadFills = (s out work : List ℕ) → Bytes s → length (readOf s out work .output) ≡ length out
 

@@ -62,7 +62,7 @@ writeOf l out work =
 -- ---- their ways, with every lent word of each
 
 pub data ReadWay (s out work : List ℕ) : Outcome → Type 0 where
-  -- "a lent length is not as above", "kept on refusal 1"
+  -- "a lent length is not as above"; the work area is "kept on refusal 1", and refusals "keep areas and output"
   readUnfit : ((length out ≡ 16384) × (length work ≡ 8192) → ⊥)
       → ReadWay s out work (record { answer = refusal 1 0; output = out; work = work })
   -- "Read's output is zeroed on 2 to 9"
@@ -77,10 +77,10 @@ pub data ReadWay (s out work : List ℕ) : Outcome → Type 0 where
       })
 
 pub data WriteWay (l out work : List ℕ) : Outcome → Type 0 where
-  -- "a lent length is not as above", "kept on refusal 1"
+  -- "a lent length is not as above"; the work area is "kept on refusal 1", and refusals "keep areas and output"
   writeUnfit : (length work ≡ 8192 → ⊥)
       → WriteWay l out work (record { answer = refusal 1 0; output = out; work = work })
-  -- the output is kept
+  -- refusals "keep areas and output"
   writeDeclined : (n at : ℕ) → length work ≡ 8192 → judgeList l ≡ declined n at
       → WriteWay l out work (record { answer = refusal n at; output = out; work = zeros 8192 })
   -- "Write's short output is 1, last of all"; "zero after Write's short output"

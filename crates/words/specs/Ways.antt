@@ -19,7 +19,7 @@ use Rattle.words.specs.Calls.{MonitorCall, OfferCall, ViewCall}
 pub mod Laws
 
 pub data CallWay (r a b w : List ℕ) (o : Outcome) : MonitorCall → Type 0 where
-  -- a record that is not of four words is "a lent length [that] is not as above": 1 at place 0, all kept
+  -- a record that is not of four words (ours): "a lent length is not as above", 1 at place 0, all kept
   recordUnfit : (length r ≡ 4 → ⊥)
       → CallWay r a b w o (record { number = 1; place = 0; words = r; area0 = a; area1 = b; work = w })
   -- a record
