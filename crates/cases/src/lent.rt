@@ -1,7 +1,7 @@
 // What a lent buffer holds before a call, and whether it was kept or cleared.
 //     fill_words, fill_numbers, fill_bytes    junk: no element is 0, and those near each other differ
-//     kept_words, kept_numbers, kept_bytes    whether the junk still stands, of bytes from a place on
-//     zero_words, zero_numbers                whether there are zeros, of numbers from a place on
+//     kept_words, kept_numbers                whether the junk still stands
+//     stands                                  whether a work area is as a case says
 
 fn word(i: usize) -> u64 {
     u64::MAX - i as u64
@@ -61,18 +61,7 @@ pub fn kept_numbers(area: &[u16]) -> bool {
     true
 }
 
-pub fn kept_bytes(area: &[u8], from: usize) -> bool {
-    let mut i = from;
-    while i < area.len() {
-        if area[i] != byte(i) {
-            return false;
-        }
-        i += 1;
-    }
-    true
-}
-
-pub fn zero_words(area: &[u64]) -> bool {
+fn zero_words(area: &[u64]) -> bool {
     let mut i = 0;
     while i < area.len() {
         if area[i] != 0 {
@@ -83,13 +72,12 @@ pub fn zero_words(area: &[u64]) -> bool {
     true
 }
 
-pub fn zero_numbers(area: &[u16], from: usize) -> bool {
-    let mut i = from;
-    while i < area.len() {
-        if area[i] != 0 {
-            return false;
-        }
-        i += 1;
+// Whether all words are zero (0), are the junk (1), or are not all zero (2).
+pub fn stands(work: &[u64], how: u64) -> bool {
+    match how {
+        0 => zero_words(work),
+        1 => kept_words(work),
+        2 => !zero_words(work),
+        _ => false,
     }
-    true
 }

@@ -3,7 +3,9 @@
 //     tally     groups of cases, and what is printed of them
 //     buffer    bytes and numbers put at a buffer's start
 //     lent      what lent buffers hold before a call, and whether they were kept or cleared
+//     digest    one number for all elements of a buffer
 mod buffer;
+mod digest;
 mod lent;
 mod tally;
 mod text;
@@ -11,14 +13,15 @@ mod text;
 pub use buffer::move_front;
 pub use buffer::put_bytes;
 pub use buffer::put_numbers;
+pub use digest::digest_bytes;
+pub use digest::digest_numbers;
+pub use digest::digest_words;
 pub use lent::fill_bytes;
 pub use lent::fill_numbers;
 pub use lent::fill_words;
-pub use lent::kept_bytes;
 pub use lent::kept_numbers;
 pub use lent::kept_words;
-pub use lent::zero_numbers;
-pub use lent::zero_words;
+pub use lent::stands;
 pub use tally::Outcome;
 pub use tally::Tally;
 pub use tally::count_line;

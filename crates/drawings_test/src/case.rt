@@ -2,11 +2,14 @@
 //     new           what is lent to the first case
 //     take_line     what came of a line, and what is lent after it
 use crate::slots::slots_right;
+use crate::trial::Kept;
 use crate::trial::Stored;
+use crate::trial::Told;
 use crate::trial::line_right;
 use cases::Outcome;
 use cases::after;
 use cases::byte_at;
+use cases::outcome_of;
 use cases::put_bytes;
 use cases::take_numbers;
 
@@ -99,24 +102,55 @@ fn take_slots(numbers: &[u64], mut l: Lent) -> Done {
     part(l)
 }
 
-fn try_case(input: &[u8], piece: u64, l: Lent, s: Stored) -> bool {
-    if l.slots == 256 {
-        return line_right(input, piece, l, s);
-    }
-    slots_right(input, l.slots, s)
+// How many numbers stand after `=`: a line, or two lines and what is kept.
+fn answer_count(l: Lent) -> usize {
+    if l.slots == 256 { 10 } else { 3 }
 }
 
-// `c PIECE = KIND A B`, from the answer on. The input stands at the front of its buffer.
+fn line_of(answer: &[u64; 10]) -> Told {
+    Told {
+        kind: answer[0],
+        a: answer[1],
+        b: answer[2],
+    }
+}
+
+fn answer_of(answer: &[u64; 10]) -> Stored {
+    Stored {
+        whole: line_of(answer),
+        pieces: Told {
+            kind: answer[3],
+            a: answer[4],
+            b: answer[5],
+        },
+        kept: Kept {
+            list: answer[6],
+            area0: answer[7],
+            area1: answer[8],
+            work: answer[9],
+        },
+    }
+}
+
+fn try_case(input: &[u8], piece: u64, l: Lent, answer: &[u64; 10]) -> bool {
+    if l.slots == 256 {
+        return line_right(input, piece, l, answer_of(answer));
+    }
+    slots_right(input, l.slots, line_of(answer))
+}
+
+// `c PIECE = KIND A B KIND A B LIST AREA0 AREA1 WORK`, or with `s` only `KIND A B`: from the answer
+// on. The input stands at the front of its buffer.
 fn take_case(line: &[u8], from: usize, numbers: &[u64], input: &[u8], l: Lent) -> Done {
     if numbers.len() != 1 {
         return malformed();
     }
-    let mut answer = [0u64; 3];
+    let mut answer = [0u64; 10];
     let a = take_numbers(line, from, &mut answer);
     if !a.right {
         return malformed();
     }
-    if a.count != 3 {
+    if a.count != answer_count(l) {
         return malformed();
     }
     if a.next != line.len() {
@@ -126,19 +160,8 @@ fn take_case(line: &[u8], from: usize, numbers: &[u64], input: &[u8], l: Lent) -
     if input.len() < size {
         return malformed();
     }
-    let stored = Stored {
-        kind: answer[0],
-        a: answer[1],
-        b: answer[2],
-    };
-    if try_case(&input[..size], numbers[0], l, stored) {
-        return Done {
-            outcome: Outcome::Right,
-            lent: new(),
-        };
-    }
     Done {
-        outcome: Outcome::Wrong,
+        outcome: outcome_of(try_case(&input[..size], numbers[0], l, &answer)),
         lent: new(),
     }
 }

@@ -1,6 +1,6 @@
 // An input with fewer slots than the program has: by Read, Start and Feed themselves.
 //     slots_right      held to its stored line
-use crate::trial::Stored;
+use crate::trial::Told;
 use crate::trial::same;
 use crate::trial::same_refusal;
 use cases::fill_numbers;
@@ -17,7 +17,7 @@ fn feed_right(
     area1: &mut [u64],
     events: &[u8],
     work: &mut [u64],
-    s: Stored,
+    s: Told,
 ) -> bool {
     match monitor::feed(list, state, area0, area1, events, work) {
         Answer::Given(last) => same(line::conclude(last), s),
@@ -32,7 +32,7 @@ fn start_right(
     area1: &mut [u64],
     events: &[u8],
     work: &mut [u64],
-    s: Stored,
+    s: Told,
 ) -> bool {
     match monitor::start(list, area0, area1, work) {
         Answer::Given(state) => feed_right(list, state, area0, area1, events, work, s),
@@ -47,7 +47,7 @@ fn read_right(
     area0: &mut [u64],
     area1: &mut [u64],
     work: &mut [u64],
-    s: Stored,
+    s: Told,
 ) -> bool {
     let mut list = [0u16; 16384];
     fill_numbers(&mut list);
@@ -68,7 +68,7 @@ fn parts_right(
     area0: &mut [u64],
     area1: &mut [u64],
     work: &mut [u64],
-    s: Stored,
+    s: Told,
 ) -> bool {
     fill_words(area0);
     fill_words(area1);
@@ -82,7 +82,7 @@ fn parts_right(
 }
 
 // With areas of so many slots, at most 256.
-pub fn slots_right(input: &[u8], slots: usize, s: Stored) -> bool {
+pub fn slots_right(input: &[u8], slots: usize, s: Told) -> bool {
     if 256 < slots {
         return false;
     }

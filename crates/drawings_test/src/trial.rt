@@ -1,6 +1,7 @@
-// One input through crate `line`, at once and in pieces, held to its stored line.
-//     line_right      both
-//     same            whether a line is the stored one
+// One input through crate `line`, at once and in pieces, held to its stored lines, and what `open`
+// keeps.
+//     line_right              all of it
+//     same, same_refusal      whether a line is the stored one
 use crate::case::Lent;
 use cases::fill_numbers;
 use cases::fill_words;
@@ -14,14 +15,29 @@ use table::Refusal;
 ghost use Prim.Native.Nat.{_≤_, _<_};
 ghost use lib.ListN.{length};
 
-// The stored line: 0 for running, 1 for failed, 2 for refused, and its two numbers.
-pub struct Stored {
+// A stored line: 0 for running, 1 for failed, 2 for refused, and its two numbers.
+pub struct Told {
     pub kind: u64,
     pub a: u64,
     pub b: u64,
 }
 
-fn is_stored(kind: u64, a: u64, b: u64, s: Stored) -> bool {
+// Of each buffer, 1 if `open` keeps it as it was filled, else 0.
+pub struct Kept {
+    pub list: u64,
+    pub area0: u64,
+    pub area1: u64,
+    pub work: u64,
+}
+
+// The line at once and in pieces, and what `open` keeps.
+pub struct Stored {
+    pub whole: Told,
+    pub pieces: Told,
+    pub kept: Kept,
+}
+
+fn is_stored(kind: u64, a: u64, b: u64, s: Told) -> bool {
     if kind != s.kind {
         return false;
     }
@@ -31,7 +47,7 @@ fn is_stored(kind: u64, a: u64, b: u64, s: Stored) -> bool {
     b == s.b
 }
 
-pub fn same(line: Line, s: Stored) -> bool {
+pub fn same(line: Line, s: Told) -> bool {
     match line {
         Line::Running(taken, count) => is_stored(0, taken, count, s),
         Line::Failed(place, taken) => is_stored(1, place, taken, s),
@@ -39,7 +55,7 @@ pub fn same(line: Line, s: Stored) -> bool {
     }
 }
 
-pub fn same_refusal(r: Refusal, s: Stored) -> bool {
+pub fn same_refusal(r: Refusal, s: Told) -> bool {
     is_stored(2, r.number as u64, r.place as u64, s)
 }
 
@@ -89,18 +105,22 @@ fn over(course: Course) -> Line {
     }
 }
 
-// Whether the buffers are as they were filled.
-fn all_kept(list: &[u16], area0: &[u64], area1: &[u64], work: &[u64]) -> bool {
-    if !kept_numbers(list) {
+// Whether a buffer was kept where it must be, and only there.
+fn is_due(kept: bool, due: u64) -> bool {
+    if kept { due == 1 } else { due == 0 }
+}
+
+fn all_due(list: &[u16], area0: &[u64], area1: &[u64], work: &[u64], k: Kept) -> bool {
+    if !is_due(kept_numbers(list), k.list) {
         return false;
     }
-    if !kept_words(area0) {
+    if !is_due(kept_words(area0), k.area0) {
         return false;
     }
-    if !kept_words(area1) {
+    if !is_due(kept_words(area1), k.area1) {
         return false;
     }
-    kept_words(work)
+    is_due(kept_words(work), k.work)
 }
 
 fn fill(list: &mut [u16], area0: &mut [u64], area1: &mut [u64], work: &mut [u64]) {
@@ -124,13 +144,13 @@ fn whole_right(
     area0: &mut [u64],
     area1: &mut [u64],
     work: &mut [u64],
-    s: Stored,
+    s: Told,
 ) -> bool {
     fill(list, area0, area1, work);
     same(line::line(input, list, area0, area1, work), s)
 }
 
-// What `open` gives of the front, and then the pieces. A wrong length keeps all that is lent.
+// What `open` gives of the front, and then the pieces.
 fn open_right(
     input: &[u8],
     piece: u64,
@@ -138,7 +158,7 @@ fn open_right(
     area0: &mut [u64],
     area1: &mut [u64],
     work: &mut [u64],
-    s: Stored,
+    s: Told,
 ) -> bool {
     let n = front_end(input.len());
     match line::open(&input[..n], list, area0, area1, work) {
@@ -154,14 +174,7 @@ fn open_right(
             ),
             s,
         ),
-        Opened::Refused(r) => {
-            if r.number == 1 {
-                if !all_kept(list, area0, area1, work) {
-                    return false;
-                }
-            }
-            same_refusal(r, s)
-        }
+        Opened::Refused(r) => same_refusal(r, s),
     }
 }
 
@@ -173,14 +186,29 @@ fn pieces_right(
     area0: &mut [u64],
     area1: &mut [u64],
     work: &mut [u64],
-    s: Stored,
+    s: Told,
 ) -> bool {
     fill(list, area0, area1, work);
     open_right(input, piece, list, area0, area1, work, s)
 }
 
-// Both ways, each on buffers that hold something.
-fn both_right(
+// What `open` keeps.
+fn kept_right(
+    input: &[u8],
+    list: &mut [u16],
+    area0: &mut [u64],
+    area1: &mut [u64],
+    work: &mut [u64],
+    k: Kept,
+) -> bool {
+    fill(list, area0, area1, work);
+    let n = front_end(input.len());
+    line::open(&input[..n], list, area0, area1, work);
+    all_due(list, area0, area1, work, k)
+}
+
+// Each on buffers that hold something.
+fn all_right(
     input: &[u8],
     piece: u64,
     list: &mut [u16],
@@ -189,10 +217,16 @@ fn both_right(
     work: &mut [u64],
     s: Stored,
 ) -> bool {
-    if !whole_right(input, list, area0, area1, work, s) {
+    let whole = s.whole;
+    if !whole_right(input, list, area0, area1, work, whole) {
         return false;
     }
-    pieces_right(input, piece, list, area0, area1, work, s)
+    let pieces = s.pieces;
+    if !pieces_right(input, piece, list, area0, area1, work, pieces) {
+        return false;
+    }
+    let kept = s.kept;
+    kept_right(input, list, area0, area1, work, kept)
 }
 
 pub fn line_right(input: &[u8], piece: u64, l: Lent, s: Stored) -> bool {
@@ -216,7 +250,7 @@ pub fn line_right(input: &[u8], piece: u64, l: Lent, s: Stored) -> bool {
     let mut area0 = [0u64; 4200];
     let mut area1 = [0u64; 4200];
     let mut work = [0u64; 8300];
-    both_right(
+    all_right(
         input,
         piece,
         &mut list[..list_len],

@@ -4,9 +4,11 @@ use table::Place;
 use table::Refusal;
 use table::Row;
 use table::SetEnd;
+use table::layout;
 ghost use mathlib.Core.Path.{_≡_};
 ghost use Prim.Native.Nat.{ℕ, _+_, _*_, _<_, _≤_, _^_};
 ghost use lib.ListN.{length};
+ghost use Rattle.table.specs.Layout.{rowsMost};
 ghost use Rattle.table.specs.Parse.{rowCount, RowRead, RowsRead, SetRead, SetsRead};
 
 // 2 to the power of an event.
@@ -77,7 +79,7 @@ fn read_rows(
     row: usize,
 ) -> Place
     requires { ⌜ (alphabet ≤ 64) × (at ≤ length (now list)) ⌝ }
-    requires { ⌜ (count ≤ 64) × (row + 64 ≤ 4096) × (length (now work) ≡ 8192) ⌝ }
+    requires { ⌜ (count ≤ 64) × (row + 64 ≤ rowsMost) × (length (now work) ≡ 8192) ⌝ }
     ensures { λ r.
         ⌜ RowsRead (now (list .entry)) alphabet count at row (now (work .entry)) (now (work .exit))
         r ⌝ }
@@ -109,7 +111,7 @@ fn rows_of(kind: u16, alphabet: u16) -> usize
 // The set at a place, its masks stored from word `row` on.
 fn read_set(list: &[u16], work: &mut [u64], alphabet: u16, at: usize, row: usize) -> SetEnd
     requires { ⌜ (1 ≤ alphabet) × (alphabet ≤ 64) × (at ≤ length (now list)) ⌝ }
-    requires { ⌜ (row + 64 ≤ 4096) × (length (now work) ≡ 8192) ⌝ }
+    requires { ⌜ (row + 64 ≤ rowsMost) × (length (now work) ≡ 8192) ⌝ }
     ensures { λ r.
         ⌜ SetRead (now (list .entry)) alphabet at row (now (work .entry)) (now (work .exit)) r ⌝ }
 {
@@ -137,7 +139,7 @@ fn read_set(list: &[u16], work: &mut [u64], alphabet: u16, at: usize, row: usize
     }
 }
 
-// So many sets: their masks from word 0 on, their words from word 7,168 on.
+// So many sets: their masks from word 0 on, and their words.
 pub fn read_sets(list: &[u16], work: &mut [u64], alphabet: u16, count: usize, at: usize) -> Place
     requires { ⌜ (1 ≤ alphabet) × (alphabet ≤ 64) × (at ≤ length (now list)) ⌝ }
     requires { ⌜ (count ≤ 64) × (length (now work) ≡ 8192) ⌝ }
@@ -154,7 +156,7 @@ pub fn read_sets(list: &[u16], work: &mut [u64], alphabet: u16, count: usize, at
                 kind,
                 row: end,
             } => {
-                work[7168 + s] = row as u64 * 2 + kind;
+                work[layout::SETS_AT + s] = row as u64 * 2 + kind;
                 p = next;
                 row = end;
                 s += 1;

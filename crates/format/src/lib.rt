@@ -7,13 +7,13 @@
 //     text_of               the text of a line
 mod answer;
 mod header;
-mod line;
+mod lines;
 mod text;
 
 pub use answer::Head;
 pub use answer::Line;
 pub use header::head;
-pub use line::conclude;
-pub use line::refused;
+pub use lines::conclude;
+pub use lines::refused;
 pub use text::Text;
 pub use text::text_of;

@@ -4,22 +4,22 @@
 --     terms-few, definitions-few                what keeps the words inside the work area
 --     alphabet-is, definitions-are, terms-are, body-is                 of the table and its definitions
 --     kind-is, right-is, called-is, parameter-is, enclosing-is         of a term, by the digits of its word
---     branches-is, reach-is                                            of a term, by its own words
+--     branches-is, reach-is                                            likewise
 --     fixed-holds, family-holds                 the word of the row that a prefix or a parallel reads
 -- Assumes nothing.
-use Prim.Native.Nat.{ℕ, suc, _+_, _/_, _%_, _<_, _≤_}
+use Prim.Native.Nat.{ℕ, _+_, _<_, _≤_}
 use native.Mathlib.Omega.{arith}
 use mathlib.Core.Path.{_≡_, refl, sym, _∙_}
 use mathlib.Core.Logic.{_⊎_, ⊎-elim}
-use mathlib.Core.List.{List, [], _∷_}
+use mathlib.Core.List.{List}
 use lib.ListN.{length, getD}
-use Rattle.numbers.specs.Every.{All}
 use Rattle.table.specs.Table.{SetRef, fixed, family, Term, stop, fail, prefix, choice, par, call, SetDef}
-use Rattle.table.specs.Table.{Definition, Table, termCount, bodyNumber, enclosing}
+use Rattle.table.specs.Table.{Table, termCount, bodyNumber, enclosing}
 use Rattle.table.specs.Context.{Each}
 use Rattle.table.specs.Fields.{Fields, OfRef, RefExists, ParamSmall}
 use Rattle.table.specs.References.Nodes.{node-links}
 use Rattle.table.specs.Width.{reach}
+use Rattle.table.specs.Width.Reach.{bodies-all}
 use Rattle.table.specs.Branches.{branches, bodyIn}
 use Rattle.table.specs.Branches.Capped.{capped}
 use Rattle.table.specs.Resolve.Laws.{reach-most}
@@ -31,6 +31,8 @@ use Rattle.table.specs.Node.Parts.{size-positive}
 use Rattle.table.specs.Node.Laws.{body-node, each-node, node-fits, spot-of}
 use Rattle.table.specs.Node.Numbers.{enclosing-at}
 use Rattle.table.specs.Member.{rowOf}
+use Rattle.table.specs.Layout.{termsAt, bodiesAt, alphabetAt, definitionCountAt, termCountAt, kindDigit}
+use Rattle.table.specs.Layout.{parameterDigit, prefixesDigit, rightDigit, targetDigit, reachDigit, branchesDigit}
 use Rattle.table.specs.Index.{targetOf, firstRow, Indexed, tableIn}
 use Rattle.table.specs.Index.Laws.{Digits, digits, left-inside}
 use Rattle.index.specs.Rows.{RowAt, fixed-row, family-row}
@@ -39,7 +41,7 @@ pub indexed-rules : {l w : List ℕ} → Indexed l w → Rules (tableIn l)
 indexed-rules x = list-out _ _ _ (x .taken) .rules
 
 indexed-digits : {l w : List ℕ} → Indexed l w → (n : ℕ) → n < termCount (tableIn l)
-    → Digits (tableIn l) n (getD w (4096 + n) 0)
+    → Digits (tableIn l) n (getD w (termsAt + n) 0)
 indexed-digits {l} {w} x n h = digits (tableIn l) w (indexed-rules x .fields) (x .structure) n h
 
 pub terms-few : {l w : List ℕ} → Indexed l w → termCount (tableIn l) ≤ 1024
@@ -80,13 +82,6 @@ ref-most (call d) h = omega arith
 parameter-most : (t : Table) → Fields t → (n : ℕ) → n < termCount t → parameterOf (refOf (termOf t n)) ≤ 4
 parameter-most t f n h = ref-most (termOf t n) (each-node (OfRef ParamSmall) t (f .parameters) n h)
 
--- what holds of the body of each number holds of each body
-bodies-all : (X : Term → Type 0) (ds : List Definition)
-    → ((d : ℕ) → d < length ds → X (bodyIn ds d)) → All (λ d. X (d .body)) ds
-unfolding bodyIn
-bodies-all X [] f = tt
-bodies-all X (d ∷ ds) f = (f 0 (omega arith), bodies-all X ds (λ i h. f (suc i) (omega arith)))
-
 reach-node : (t : Table) → Rules t → (n : ℕ) → n < termCount t → reach t (termOf t n) ≤ 8
 reach-node t r n h =
     each-node (λ p. reach t p ≤ 8) t (bodies-all (Each (λ p. reach t p ≤ 8)) (t .definitions) (reach-most t r)) n h
@@ -123,62 +118,68 @@ call-known t r n h k =
 -- ---- the answers
 
 module _ {l w : List ℕ} (x : Indexed l w) where
-  pub alphabet-is : (getD w 7305 0 ≡ tableIn l .alphabet) × (getD w 7305 0 ≤ 64)
+  pub alphabet-is : (getD w alphabetAt 0 ≡ tableIn l .alphabet) × (getD w alphabetAt 0 ≤ 64)
   alphabet-is = let e = x .structure .alphabet in (e, rw e (indexed-rules x .fields .alphabet-most))
 
   pub definitions-are :
-      (getD w 7306 0 ≡ length (tableIn l .definitions)) × (1 ≤ getD w 7306 0) × (getD w 7306 0 ≤ 32)
+      (getD w definitionCountAt 0 ≡ length (tableIn l .definitions))
+      × (1 ≤ getD w definitionCountAt 0) × (getD w definitionCountAt 0 ≤ 32)
   definitions-are =
       let e = x .structure .definitions in
       (e, rw e (indexed-rules x .fields .definitions-least), rw e (definitions-few x))
 
-  pub terms-are : (getD w 7307 0 ≡ termCount (tableIn l)) × (getD w 7307 0 ≤ 1024)
+  pub terms-are : (getD w termCountAt 0 ≡ termCount (tableIn l)) × (getD w termCountAt 0 ≤ 1024)
   terms-are = let e = x .structure .terms in (e, rw e (terms-few x))
 
   module _ (d : ℕ) (h : d < length (tableIn l .definitions)) where
-    pub body-is : (getD w (7232 + d) 0 ≡ bodyNumber (tableIn l) d) × (getD w (7232 + d) 0 < 1024)
+    pub body-is : (getD w (bodiesAt + d) 0 ≡ bodyNumber (tableIn l) d) × (getD w (bodiesAt + d) 0 < 1024)
     body-is =
         let e = x .structure .roots d (omega arith) in
         (e, rw e (body-below (tableIn l) (indexed-rules x .fields) d h))
 
   module _ (n : ℕ) (h : n < termCount (tableIn l)) where
-    pub kind-is : (getD w (4096 + n) 0 % 8 ≡ kindOf (termOf (tableIn l) n)) × (getD w (4096 + n) 0 % 8 ≤ 5)
+    pub kind-is :
+        (kindDigit (getD w (termsAt + n) 0) ≡ kindOf (termOf (tableIn l) n))
+        × (kindDigit (getD w (termsAt + n) 0) ≤ 5)
     kind-is = let e = indexed-digits x n h .kind in (e, rw e (kind-most (termOf (tableIn l) n)))
 
     pub right-is :
-        (getD w (4096 + n) 0 / 524288 % 2048 ≡ n + 1 + leftSize (termOf (tableIn l) n))
-        × (getD w (4096 + n) 0 / 524288 % 2048 ≤ 1024)
+        (rightDigit (getD w (termsAt + n) 0) ≡ n + 1 + leftSize (termOf (tableIn l) n))
+        × (rightDigit (getD w (termsAt + n) 0) ≤ 1024)
     right-is =
         let e = indexed-digits x n h .right in
         (e, omega (arith, node-fits (tableIn l) n h, left-inside (termOf (tableIn l) n), terms-few x))
 
     pub called-is : kindOf (termOf (tableIn l) n) ≡ 5
-        → (getD w (4096 + n) 0 / 1073741824 ≡ calledOf (termOf (tableIn l) n))
-        × (getD w (4096 + n) 0 / 1073741824 < length (tableIn l .definitions))
+        → (targetDigit (getD w (termsAt + n) 0) ≡ calledOf (termOf (tableIn l) n))
+        × (targetDigit (getD w (termsAt + n) 0) < length (tableIn l .definitions))
     called-is k =
         let e = indexed-digits x n h .target ∙ call-target (tableIn l .sets) (termOf (tableIn l) n) k in
         (e, rw e (call-known (tableIn l) (indexed-rules x) n h k))
 
     pub parameter-is :
-        (getD w (4096 + n) 0 / 8 % 8 ≡ parameterOf (refOf (termOf (tableIn l) n)))
-        × (getD w (4096 + n) 0 / 8 % 8 ≤ 4)
+        (parameterDigit (getD w (termsAt + n) 0) ≡ parameterOf (refOf (termOf (tableIn l) n)))
+        × (parameterDigit (getD w (termsAt + n) 0) ≤ 4)
     parameter-is =
         let e = indexed-digits x n h .parameter in
         (e, rw e (parameter-most (tableIn l) (indexed-rules x .fields) n h))
 
     pub enclosing-is :
-        (getD w (4096 + n) 0 / 256 % 64 ≡ enclosing (tableIn l) n) × (getD w (4096 + n) 0 / 256 % 64 < 32)
+        (prefixesDigit (getD w (termsAt + n) 0) ≡ enclosing (tableIn l) n)
+        × (prefixesDigit (getD w (termsAt + n) 0) < 32)
     enclosing-is =
         let e = indexed-digits x n h .prefixes in
         (e ∙ sym (enclosing-at (tableIn l) n h), rw e (spot-of (tableIn l) (indexed-rules x .fields) n h .prefixes))
 
     pub branches-is :
-        (getD w (6144 + n) 0 ≡ capped (branches (tableIn l) (termOf (tableIn l) n))) × (getD w (6144 + n) 0 ≤ 257)
+        (branchesDigit (getD w (termsAt + n) 0) ≡ capped (branches (tableIn l) (termOf (tableIn l) n)))
+        × (branchesDigit (getD w (termsAt + n) 0) ≤ 257)
     branches-is =
         let e = x .branching n h in (e, rw e (capped-most (branches (tableIn l) (termOf (tableIn l) n))))
 
     pub reach-is :
-        (getD w (5120 + n) 0 ≡ reach (tableIn l) (termOf (tableIn l) n)) × (getD w (5120 + n) 0 ≤ 8)
+        (reachDigit (getD w (termsAt + n) 0) ≡ reach (tableIn l) (termOf (tableIn l) n))
+        × (reachDigit (getD w (termsAt + n) 0) ≤ 8)
     reach-is = let e = x .reaches n h in (e, rw e (reach-node (tableIn l) (indexed-rules x) n h))
 
 -- ---- rows
@@ -212,18 +213,18 @@ module _ {l w : List ℕ} (i : Indexed l w) (n : ℕ) (h : n < termCount (tableI
       row-ref (RefExists (tableIn l .sets)) (termOf (tableIn l) n) k
       (each-node (OfRef (RefExists (tableIn l .sets))) (tableIn l) (indexed-rules i .fields .references) n h)
 
-  from : getD w (4096 + n) 0 / 1073741824 ≡ firstRow (tableIn l .sets) (setOf (refOf (termOf (tableIn l) n)))
+  from : targetDigit (getD w (termsAt + n) 0) ≡ firstRow (tableIn l .sets) (setOf (refOf (termOf (tableIn l) n)))
   from = indexed-digits i n h .target ∙ row-target (tableIn l .sets) (termOf (tableIn l) n) k
 
-  pub fixed-holds : getD w (4096 + n) 0 / 8 % 8 ≡ 0 → (v : ℕ)
-      → RowAt w (getD w (4096 + n) 0 / 1073741824) (rowOf (tableIn l) (refOf (termOf (tableIn l) n)) v)
+  pub fixed-holds : parameterDigit (getD w (termsAt + n) 0) ≡ 0 → (v : ℕ)
+      → RowAt w (targetDigit (getD w (termsAt + n) 0)) (rowOf (tableIn l) (refOf (termOf (tableIn l) n)) v)
   fixed-holds e v =
       rw from
       (fixed-row (tableIn l) w (indexed-rules i .fields) (i .structure .sets) (refOf (termOf (tableIn l) n)) exists
       (sym (indexed-digits i n h .parameter) ∙ e) v)
 
-  pub family-holds : (getD w (4096 + n) 0 / 8 % 8 ≡ 0 → ⊥) → (v : ℕ) → v < tableIn l .alphabet
-      → RowAt w (getD w (4096 + n) 0 / 1073741824 + v) (rowOf (tableIn l) (refOf (termOf (tableIn l) n)) v)
+  pub family-holds : (parameterDigit (getD w (termsAt + n) 0) ≡ 0 → ⊥) → (v : ℕ) → v < tableIn l .alphabet
+      → RowAt w (targetDigit (getD w (termsAt + n) 0) + v) (rowOf (tableIn l) (refOf (termOf (tableIn l) n)) v)
   family-holds e v b =
       rw from
       (family-row (tableIn l) w (indexed-rules i .fields) (i .structure .sets) (refOf (termOf (tableIn l) n)) exists

@@ -21,6 +21,7 @@ use Rattle.table.specs.Table.{SetRef, fixed, family, SetDef, one, each, Table}
 use Rattle.table.specs.Fields.{Ascending, EachRow, FamilyRows, IsOne, IsEach, RefExists, Fields}
 use Rattle.table.specs.Node.{setOf, parameterOf}
 use Rattle.table.specs.Member.{elem, rowIn, rowOf}
+use Rattle.table.specs.Layout.{rowsMost}
 use Rattle.table.specs.Index.{maskOf, setMasks, firstRow, SetsIndexed}
 
 -- ---- masks
@@ -137,7 +138,7 @@ ordered (each rs) v h l = all-at Ascending [] rs v h (omega (arith, length-map r
 
 -- word i is a mask, whose bits are the events of a row
 pub record RowAt (w : List ℕ) (i : ℕ) (row : List ℕ) : Type 0 where
-  pub inside : i < 4096
+  pub inside : i < rowsMost
   pub bit : (e : ℕ) → eqb (getD w i 0 / 2 ^ e % 2) 1 ≡ elem e row
 
 row-at : (t : Table) (w : List ℕ) → Fields t → SetsIndexed (t .sets) w → (s v : ℕ) → s < length (t .sets)

@@ -1,6 +1,7 @@
 // The index of an accepted table: what the monitor asks of it. Each function needs the list whose
 // table was judged and the work area in which `check` left its index; it says what the abstract
 // table of the list has.
+use table::layout;
 ghost use mathlib.Core.Path.{_≡_};
 ghost use mathlib.Core.Logic.{_⊎_};
 ghost use Prim.Native.Nat.{ℕ, _+_, _/_, _%_, _^_, _<_, _≤_};
@@ -19,7 +20,7 @@ pub fn alphabet(list: &[u16], work: &[u64]) -> u64
     requires { ⌜ Indexed (now list) (now work) ⌝ }
     ensures { λ r. ⌜ (r ≡ tableIn (now (list .entry)) .alphabet) × (r ≤ 64) ⌝ }
 {
-    work[7305]
+    work[layout::ALPHABET_AT]
 }
 
 // The number of definitions.
@@ -28,7 +29,7 @@ pub fn definition_count(list: &[u16], work: &[u64]) -> usize
     ensures { λ r.
         ⌜ (r ≡ length (tableIn (now (list .entry)) .definitions)) × (1 ≤ r) × (r ≤ 32) ⌝ }
 {
-    work[7306] as usize
+    work[layout::DEFINITION_COUNT_AT] as usize
 }
 
 // The number of terms.
@@ -36,7 +37,7 @@ pub fn term_count(list: &[u16], work: &[u64]) -> usize
     requires { ⌜ Indexed (now list) (now work) ⌝ }
     ensures { λ r. ⌜ (r ≡ termCount (tableIn (now (list .entry)))) × (r ≤ 1024) ⌝ }
 {
-    work[7307] as usize
+    work[layout::TERM_COUNT_AT] as usize
 }
 
 // The number of the body of definition d.
@@ -45,7 +46,7 @@ pub fn body(list: &[u16], work: &[u64], d: usize) -> usize
     requires { ⌜ d < length (tableIn (now list) .definitions) ⌝ }
     ensures { λ r. ⌜ (r ≡ bodyNumber (tableIn (now (list .entry))) d) × (r < 1024) ⌝ }
 {
-    work[7232 + d] as usize
+    work[layout::BODIES_AT + d] as usize
 }
 
 // The kind of term n: 0 STOP, 1 FAIL, 2 prefix, 3 choice, 4 parallel, 5 call.
@@ -54,7 +55,7 @@ pub fn kind(list: &[u16], work: &[u64], n: usize) -> u64
     requires { ⌜ n < termCount (tableIn (now list)) ⌝ }
     ensures { λ r. ⌜ (r ≡ kindOf (termOf (tableIn (now (list .entry))) n)) × (r ≤ 5) ⌝ }
 {
-    work[4096 + n] % 8
+    work[layout::TERMS_AT + n] % layout::KINDS
 }
 
 // The number of a choice's or a parallel's right side; a prefix's follower and a left side have the
@@ -65,7 +66,7 @@ pub fn right(list: &[u16], work: &[u64], n: usize) -> usize
     ensures { λ r.
         ⌜ (r ≡ n + 1 + leftSize (termOf (tableIn (now (list .entry))) n)) × (r ≤ 1024) ⌝ }
 {
-    (work[4096 + n] / 524288 % 2048) as usize
+    (work[layout::TERMS_AT + n] / layout::RIGHT_UNIT % layout::RIGHTS) as usize
 }
 
 // The definition that a call names.
@@ -77,7 +78,7 @@ pub fn called(list: &[u16], work: &[u64], n: usize) -> usize
         ⌜ (r ≡ calledOf (termOf (tableIn (now (list .entry))) n))
         × (r < length (tableIn (now (list .entry)) .definitions)) ⌝ }
 {
-    (work[4096 + n] / 1073741824) as usize
+    (work[layout::TERMS_AT + n] / layout::TARGET_UNIT % layout::TARGETS) as usize
 }
 
 // Of a prefix or a parallel: 0 where its set is of kind 0, else its parameter and 1.
@@ -87,7 +88,7 @@ pub fn parameter(list: &[u16], work: &[u64], n: usize) -> u64
     ensures { λ r.
         ⌜ (r ≡ parameterOf (refOf (termOf (tableIn (now (list .entry))) n))) × (r ≤ 4) ⌝ }
 {
-    work[4096 + n] / 8 % 8
+    work[layout::TERMS_AT + n] / layout::PARAMETER_UNIT % layout::PARAMETERS
 }
 
 // How many prefixes are around term n in its definition.
@@ -96,7 +97,7 @@ pub fn enclosing(list: &[u16], work: &[u64], n: usize) -> u64
     requires { ⌜ n < termCount (tableIn (now list)) ⌝ }
     ensures { λ r. ⌜ (r ≡ enclosingOf (tableIn (now (list .entry))) n) × (r < 32) ⌝ }
 {
-    work[4096 + n] / 256 % 64
+    work[layout::TERMS_AT + n] / layout::PREFIXES_UNIT % layout::PREFIX_COUNTS
 }
 
 // The branches of term n (document 01: openings), 257 standing for any greater number.
@@ -108,7 +109,7 @@ pub fn branches(list: &[u16], work: &[u64], n: usize) -> u64
         (termOf (tableIn (now (list .entry))) n)))
         × (r ≤ 257) ⌝ }
 {
-    work[6144 + n]
+    work[layout::TERMS_AT + n] / layout::BRANCHES_UNIT % layout::BRANCH_COUNTS
 }
 
 // The reach of term n.
@@ -119,7 +120,7 @@ pub fn reach(list: &[u16], work: &[u64], n: usize) -> u64
         ⌜ (r ≡ reachOf (tableIn (now (list .entry))) (termOf (tableIn (now (list .entry))) n))
         × (r ≤ 8) ⌝ }
 {
-    work[5120 + n]
+    work[layout::TERMS_AT + n] / layout::WIDTH_UNIT % layout::REACHES
 }
 
 // Whether a row's mask has the bit of an event.
@@ -141,9 +142,9 @@ pub fn holds(list: &[u16], work: &[u64], n: usize, v: u64, e: u64) -> bool
         ⌜ r ≡ inRow (tableIn (now (list .entry))) (refOf (termOf (tableIn (now (list .entry))) n)) v
         e ⌝ }
 {
-    let w = work[4096 + n];
-    let row = (w / 1073741824) as usize;
-    if w / 8 % 8 == 0 {
+    let w = work[layout::TERMS_AT + n];
+    let row = (w / layout::TARGET_UNIT % layout::TARGETS) as usize;
+    if w / layout::PARAMETER_UNIT % layout::PARAMETERS == 0 {
         return bit(work[row], e);
     }
     bit(work[row + v as usize], e)

@@ -1,5 +1,6 @@
 // Branches of terms (document 01: openings), counted up to 257: refusal 9.
 use table::First;
+use table::layout;
 ghost use mathlib.Core.Path.{_≡_};
 ghost use mathlib.Core.Option.{none};
 ghost use Prim.Native.Nat.{_+_, _*_, min};
@@ -49,22 +50,27 @@ fn branches_at(list: &[u16], work: &[u64], n: usize) -> u64
     requires { ⌜ BranchesAsked (tableIn (now list)) (now work) n ⌝ }
     ensures { λ r. ⌜ BranchesGiven (tableIn (now (list .entry))) (now (work .entry)) n r ⌝ }
 {
-    let w = work[4096 + n];
-    let kind = w % 8;
+    let w = work[layout::TERMS_AT + n];
+    let kind = w % layout::KINDS;
     match kind {
         0 | 2 => 1,
         1 => 0,
         3 => sum_capped(
-            work[6144 + n + 1],
-            work[6144 + (w / 524288 % 2048) as usize],
+            work[layout::TERMS_AT + n + 1] / layout::BRANCHES_UNIT % layout::BRANCH_COUNTS,
+            work[layout::TERMS_AT + (w / layout::RIGHT_UNIT % layout::RIGHTS) as usize]
+                / layout::BRANCHES_UNIT
+                % layout::BRANCH_COUNTS,
         ),
         4 => product_capped(
-            work[6144 + n + 1],
-            work[6144 + (w / 524288 % 2048) as usize],
+            work[layout::TERMS_AT + n + 1] / layout::BRANCHES_UNIT % layout::BRANCH_COUNTS,
+            work[layout::TERMS_AT + (w / layout::RIGHT_UNIT % layout::RIGHTS) as usize]
+                / layout::BRANCHES_UNIT
+                % layout::BRANCH_COUNTS,
         ),
         5 => {
-            let root = work[7232 + (w / 1073741824) as usize] as usize;
-            work[6144 + root]
+            let d = (w / layout::TARGET_UNIT % layout::TARGETS) as usize;
+            let root = work[layout::BODIES_AT + d] as usize;
+            work[layout::TERMS_AT + root] / layout::BRANCHES_UNIT % layout::BRANCH_COUNTS
         }
         6..=18446744073709551615 => 0,
     }
@@ -80,7 +86,9 @@ fn fill_branches(list: &[u16], work: &mut [u64], from: usize, to: usize)
     let mut n = to;
     while from < n {
         n -= 1;
-        work[6144 + n] = branches_at(list, work, n);
+        let branches = branches_at(list, work, n);
+        let w = work[layout::TERMS_AT + n];
+        work[layout::TERMS_AT + n] = w % layout::BRANCHES_UNIT + branches * layout::BRANCHES_UNIT;
     }
 }
 
@@ -91,12 +99,12 @@ fn fill_all_branches(list: &[u16], work: &mut [u64])
     ensures { λ _. ⌜ AllDone (tableIn (now (list .entry))) (now (work .entry))
         (now (work .exit)) ⌝ }
 {
-    let definitions = work[7306] as usize;
-    let terms = work[7307] as usize;
+    let definitions = work[layout::DEFINITION_COUNT_AT] as usize;
+    let terms = work[layout::TERM_COUNT_AT] as usize;
     let mut d = 0;
     while d < definitions {
-        let root = work[7232 + d] as usize;
-        let end = work[7232 + d + 1] as usize;
+        let root = work[layout::BODIES_AT + d] as usize;
+        let end = work[layout::BODIES_AT + d + 1] as usize;
         fill_branches(list, work, root, end);
         d += 1;
     }
@@ -108,8 +116,9 @@ fn excess_at(list: &[u16], work: &[u64], n: usize) -> bool
     requires { ⌜ ExcessAsked (tableIn (now list)) (now work) n ⌝ }
     ensures { λ r. ⌜ r ≡ exceeds (tableIn (now (list .entry))) n ⌝ }
 {
-    if work[4096 + n] / 128 % 2 == 1 {
-        256 < work[6144 + n]
+    let w = work[layout::TERMS_AT + n];
+    if w / layout::ENTRY_UNIT % layout::ENTRIES == 1 {
+        256 < w / layout::BRANCHES_UNIT % layout::BRANCH_COUNTS
     } else {
         false
     }
@@ -123,7 +132,7 @@ pub fn first_excess(list: &[u16], work: &mut [u64]) -> First
     ensures { λ r. ⌜ ExcessDone (now (list .entry)) (now (work .exit)) r ⌝ }
 {
     fill_all_branches(list, work);
-    let terms = work[7307] as usize;
+    let terms = work[layout::TERM_COUNT_AT] as usize;
     let mut n = 0;
     while n < terms {
         if excess_at(list, work, n) {

@@ -1,5 +1,6 @@
 // Widths of levels (document 01: hands): refusal 8; and the reach of terms.
 use table::First;
+use table::layout;
 ghost use mathlib.Core.Path.{_≡_};
 ghost use mathlib.Core.Option.{none};
 ghost use Prim.Native.Nat.{_<_, max};
@@ -21,11 +22,11 @@ fn call_width(list: &[u16], work: &[u64], d: usize, level: u64) -> u64
     requires { ⌜ Judging (now list) (now work) × (d < length (tableIn (now list) .definitions)) ⌝ }
     ensures { λ r. ⌜ r ≡ storedCall (tableIn (now (list .entry))) (now (work .entry)) level d ⌝ }
 {
-    let l = work[7265 + d];
+    let l = work[layout::LEVELS_AT + d];
     if l == level {
         1
     } else {
-        work[7297 + l as usize]
+        work[layout::WIDTHS_AT + l as usize]
     }
 }
 
@@ -34,17 +35,24 @@ fn width_at(list: &[u16], work: &[u64], n: usize, level: u64) -> u64
     requires { ⌜ WidthAsked (tableIn (now list)) (now work) n level ⌝ }
     ensures { λ r. ⌜ WidthGiven (tableIn (now (list .entry))) (now (work .entry)) n level r ⌝ }
 {
-    let w = work[4096 + n];
-    let kind = w % 8;
+    let w = work[layout::TERMS_AT + n];
+    let kind = w % layout::KINDS;
+    let right = (w / layout::RIGHT_UNIT % layout::RIGHTS) as usize;
     match kind {
         0 | 1 => 1,
-        2 => work[5120 + n + 1],
+        2 => work[layout::TERMS_AT + n + 1] / layout::WIDTH_UNIT,
         3 => larger(
-            work[5120 + n + 1],
-            work[5120 + (w / 524288 % 2048) as usize],
+            work[layout::TERMS_AT + n + 1] / layout::WIDTH_UNIT,
+            work[layout::TERMS_AT + right] / layout::WIDTH_UNIT,
         ),
-        4 => work[5120 + n + 1] + work[5120 + (w / 524288 % 2048) as usize],
-        5 => call_width(list, work, (w / 1073741824) as usize, level),
+        4 => {
+            work[layout::TERMS_AT + n + 1] / layout::WIDTH_UNIT
+                + work[layout::TERMS_AT + right] / layout::WIDTH_UNIT
+        }
+        5 => {
+            let d = w / layout::TARGET_UNIT % layout::TARGETS;
+            call_width(list, work, d as usize, level)
+        }
         6..=18446744073709551615 => 0,
     }
 }
@@ -59,7 +67,9 @@ fn fill_widths(list: &[u16], work: &mut [u64], from: usize, to: usize, level: u6
     let mut n = to;
     while from < n {
         n -= 1;
-        work[5120 + n] = width_at(list, work, n, level);
+        let width = width_at(list, work, n, level);
+        let w = work[layout::TERMS_AT + n];
+        work[layout::TERMS_AT + n] = w % layout::WIDTH_UNIT + width * layout::WIDTH_UNIT;
     }
 }
 
@@ -71,11 +81,11 @@ fn body_width(list: &[u16], work: &mut [u64], d: usize, level: u64) -> u64
         ⌜ BodyDone (tableIn (now (list .entry))) (now (work .entry)) (now (work .exit)) d level
         r ⌝ }
 {
-    if work[7265 + d] == level {
-        let root = work[7232 + d] as usize;
-        let end = work[7232 + d + 1] as usize;
+    if work[layout::LEVELS_AT + d] == level {
+        let root = work[layout::BODIES_AT + d] as usize;
+        let end = work[layout::BODIES_AT + d + 1] as usize;
         fill_widths(list, work, root, end, level);
-        work[5120 + root]
+        work[layout::TERMS_AT + root] / layout::WIDTH_UNIT
     } else {
         0
     }
@@ -87,7 +97,7 @@ fn level_width(list: &[u16], work: &mut [u64], level: u64) -> u64
     ensures { λ r.
         ⌜ LevelDone (tableIn (now (list .entry))) (now (work .entry)) (now (work .exit)) level r ⌝ }
 {
-    let definitions = work[7306] as usize;
+    let definitions = work[layout::DEFINITION_COUNT_AT] as usize;
     let mut widest = 0;
     let mut d = 0;
     while d < definitions {
@@ -110,10 +120,10 @@ pub fn first_wide_level(list: &[u16], work: &mut [u64]) -> First
         if 8 < w {
             return First::Broken(level as usize);
         }
-        work[7297 + level as usize] = w;
+        work[layout::WIDTHS_AT + level as usize] = w;
         level += 1;
     }
-    let terms = work[7307] as usize;
+    let terms = work[layout::TERM_COUNT_AT] as usize;
     fill_widths(list, work, 0, terms, 8);
     First::Nowhere
 }

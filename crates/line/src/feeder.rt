@@ -2,6 +2,7 @@
 ghost use mathlib.Core.Path.{_≡_};
 ghost use Rattle.state.specs.Record.{monitorOf};
 ghost use Rattle.line_spec.specs.Whole.{resumeOf};
+ghost use Rattle.line_spec.specs.Judged.{pieceEnd};
 ghost use Rattle.line.specs.Answers.{resumeSaid, AfterPiece};
 use crate::answer::Course;
 use format::Line;
@@ -44,4 +45,24 @@ pub fn after_piece(course: Course, last: bool) -> Course
         };
     }
     course
+}
+
+// One piece of events more, with which the input ended or did not.
+pub fn take_piece(
+    list: &[u16],
+    state: State,
+    area0: &mut [u64],
+    area1: &mut [u64],
+    events: &[u8],
+    last: bool,
+    work: &mut [u64],
+) -> Course
+    ensures { λ r.
+        ⌜ resumeSaid (now (list .entry)) r (now (area0 .exit)) (now (area1 .exit))
+        (now (work .exit))
+        ≡ pieceEnd last (resumeOf (now (list .entry))
+        (monitorOf state (now (area0 .entry)) (now (area1 .entry)))
+        (now (events .entry)) (now (work .entry))) ⌝ }
+{
+    after_piece(resume(list, state, area0, area1, events, work), last)
 }

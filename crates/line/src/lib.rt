@@ -4,6 +4,7 @@
 //     line                    a whole input
 //     open, resume, conclude  its front, each piece after it, its end
 //     after_piece             a course where the input ended, or did not
+//     take_piece              `resume` on a piece, and then `after_piece`
 //     head                    where the table and the events of an input are
 mod answer;
 mod feeder;
@@ -14,6 +15,7 @@ pub use answer::Course;
 pub use answer::Opened;
 pub use feeder::after_piece;
 pub use feeder::resume;
+pub use feeder::take_piece;
 pub use format::Head;
 pub use format::Line;
 pub use format::conclude;

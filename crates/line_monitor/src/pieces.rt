@@ -1,57 +1,56 @@
-// An input in pieces.
+// An input: its front, and then pieces as they are read.
+//     Told     what is said of it
 //     run      its front, then all the rest
-use crate::input;
-use crate::print::say;
+// `specs/Told.antt` has what each function promises.
+ghost use Prim.Native.Nat.{_≤_, _<_};
+ghost use mathlib.Core.Path.{_≡_};
+ghost use mathlib.Core.Bool.{false};
+ghost use lib.ListN.{length, take};
+ghost use Rattle.state.specs.Record.{monitorOf};
+ghost use Rattle.line_spec.specs.Opening.Front.{Lengths};
+ghost use Rattle.line_spec.specs.Whole.{resumeOf};
+ghost use Rattle.line.specs.Answers.{resumeSaid};
+ghost use Rattle.line.specs.declared.answer.Course.the-variants.{Going};
+ghost use Rattle.line_spec.specs.Judged.{pieceEnd};
+ghost use Rattle.input.specs.Reading.{Parts};
+ghost use Rattle.line_monitor.specs.Told.{Says, Followed, FrontFed};
 use format::Line;
+use input::Filled;
+use input::Part;
 use line::Course;
 use line::Opened;
 use state::State;
 
-// What came of a piece: the monitor goes on, its line is known, or the piece could not be read.
-enum Progress {
-    Going(State),
-    Said(Line),
+// The line of an input, or that it could not be read. A monitor that goes on is neither.
+pub enum Told {
+    Line(Line),
     Broken,
 }
 
-// After events that were the last of the input, or were not.
-fn after(course: Course, last: bool) -> Progress {
-    match line::after_piece(course, last) {
-        Course::Going(state) => Progress::Going(state),
-        Course::Over(line) => Progress::Said(line),
-    }
-}
-
-// Reads a piece and feeds it. The input ends where the piece is not filled.
+// Feeds a piece, so far as it was filled. A monitor that goes on has taken the whole of it.
 fn turn(
     list: &[u16],
     state: State,
     area0: &mut [u64],
     area1: &mut [u64],
-    piece: &mut [u8],
+    piece: &[u8],
+    part: Part,
     work: &mut [u64],
-) -> Progress {
-    let filled = input::fill(piece);
-    if filled.broken {
-        return Progress::Broken;
-    }
-    let n = filled.count;
-    let course = line::resume(list, state, area0, area1, &piece[..n], work);
-    after(course, n < piece.len())
+) -> Course
+    requires { ⌜ Parts (length (now piece)) part ⌝ }
+    ensures { λ r.
+        ⌜ resumeSaid (now (list .entry)) r (now (area0 .exit)) (now (area1 .exit))
+        (now (work .exit))
+        ≡ pieceEnd (part .last) (resumeOf (now (list .entry))
+        (monitorOf state (now (area0 .entry)) (now (area1 .entry)))
+        (take (part .count) (now (piece .entry))) (now (work .entry))) ⌝ }
+{
+    let n = part.count();
+    line::take_piece(list, state, area0, area1, &piece[..n], part.last(), work)
 }
 
-// Prints the line. No run leaves a monitor that goes on: the events taken are counted in 64 bits,
-// and refusal 12 comes before the turns are used up.
-fn finish(turn: Progress) {
-    match turn {
-        Progress::Going(state) => say(line::conclude(state)),
-        Progress::Said(line) => say(line),
-        Progress::Broken => input::fail(),
-    }
-}
-
-// Feeds the pieces that follow the front. A proved loop has to end, and nothing says that an input
-// does: the turns are counted down, from a number that no run uses up.
+// Reads and feeds the pieces that follow, until the input ends or a line stands. Each turn that
+// goes on takes a whole piece, and no more than 2^64-1 events are taken: so the loop ends.
 fn follow(
     list: &[u16],
     state: State,
@@ -59,21 +58,26 @@ fn follow(
     area1: &mut [u64],
     piece: &mut [u8],
     work: &mut [u64],
-) -> Progress {
+) -> Told
+    requires { ⌜ 0 < length (now piece) ⌝ }
+    ensures { λ r.
+        ⌜ Followed (length (now (piece .entry)))
+        (resumeSaid (now (list .entry)) (Going state) (now (area0 .entry)) (now (area1 .entry))
+        (now (work .entry))) r ⌝ }
+{
     let mut last = state;
-    let mut turns = u64::MAX;
-    while turns > 0 {
-        let t = turn(list, last, area0, area1, piece, work);
-        let Progress::Going(next) = t else {
-            return t;
+    loop {
+        let Filled::Bytes(part) = input::fill(piece) else {
+            return Told::Broken;
         };
-        last = next;
-        turns -= 1;
+        match turn(list, last, area0, area1, piece, part, work) {
+            Course::Going(next) => last = next,
+            Course::Over(line) => return Told::Line(line),
+        }
     }
-    Progress::Going(last)
 }
 
-// The events of the front, and then the pieces. The input ends where the front is not full.
+// The events of the front, with which the input ended or did not, and then the pieces.
 fn feed_front(
     list: &[u16],
     state: State,
@@ -82,30 +86,64 @@ fn feed_front(
     events: &[u8],
     last: bool,
     work: &mut [u64],
-) -> Progress {
-    let course = line::resume(list, state, area0, area1, events, work);
-    let t = after(course, last);
-    let Progress::Going(next) = t else {
-        return t;
-    };
-    let mut piece = io::large_buffer();
-    follow(list, next, area0, area1, &mut piece, work)
+) -> Told
+    ensures { λ r.
+        ⌜ FrontFed last (resumeOf (now (list .entry))
+        (monitorOf state (now (area0 .entry)) (now (area1 .entry)))
+        (now (events .entry)) (now (work .entry))) r ⌝ }
+{
+    match line::take_piece(list, state, area0, area1, events, last, work) {
+        Course::Going(next) => {
+            let mut piece = io::large_buffer();
+            follow(list, next, area0, area1, &mut piece, work)
+        }
+        Course::Over(line) => Told::Line(line),
+    }
 }
 
-pub fn run(front: &[u8], list: &mut [u16], area0: &mut [u64], area1: &mut [u64], work: &mut [u64]) {
-    let last = front.len() < 16387;
+// An input by its front, which is full where the input did not end with it.
+fn open_front(
+    front: &[u8],
+    last: bool,
+    list: &mut [u16],
+    area0: &mut [u64],
+    area1: &mut [u64],
+    work: &mut [u64],
+) -> Told
+    requires { ⌜ Lengths (now list) (now area0) (now area1) (now work) ⌝ }
+    requires { ⌜ (last ≡ false → 16387 ≤ length (now front)) ⌝ }
+    ensures { λ r. ⌜ Says last (now (front .entry)) r ⌝ }
+{
     match line::open(front, list, area0, area1, work) {
-        Opened::Started { state, count, next } => {
-            finish(feed_front(
-                &list[..count],
-                state,
-                area0,
-                area1,
-                &front[next..],
-                last,
-                work,
-            ));
-        }
-        Opened::Refused(refusal) => say(format::refused(refusal)),
+        Opened::Started { state, count, next } => feed_front(
+            &list[..count],
+            state,
+            area0,
+            area1,
+            &front[next..],
+            last,
+            work,
+        ),
+        Opened::Refused(refusal) => Told::Line(format::refused(refusal)),
     }
+}
+
+// What is said of an input whose front was filled so.
+pub fn run(front: &[u8], part: Part) -> Told
+    requires { ⌜ (length (now front) ≡ 16387) × Parts (length (now front)) part ⌝ }
+    ensures { λ r. ⌜ Says (part .last) (take (part .count) (now (front .entry))) r ⌝ }
+{
+    let mut list = [0u16; 16384];
+    let mut area0 = [0u64; 4096];
+    let mut area1 = [0u64; 4096];
+    let mut work = [0u64; 8192];
+    let n = part.count();
+    open_front(
+        &front[..n],
+        part.last(),
+        &mut list,
+        &mut area0,
+        &mut area1,
+        &mut work,
+    )
 }

@@ -36,7 +36,7 @@ use Rattle.monitor_spec.specs.Start.{startAccepted, startJudged, startOf}
 use Rattle.line_spec.specs.Line.{cut, headBy, headOf, verdictLine, stateLine, answerLine, fresh, monitorLeft}
 use Rattle.line_spec.specs.Line.{startedBy}
 use Rattle.line_spec.specs.Line.{startedLine, readLine, headLine, lineOf}
-use Rattle.line_spec.specs.Claims.{exceeding, Rows}
+use Rattle.line_spec.specs.Claims.{drawn, Rows}
 
 pub rows : Rows
 unfolding flatMap size sizes bodyOf bodyNumber termIn termOfDefs termAt prefixesIn enclosingIn enclosing
@@ -57,5 +57,5 @@ unfolding flatMap size sizes bodyOf bodyNumber termIn termOfDefs termAt prefixes
     startAccepted startJudged startOf
     carry later scanWith readNumber byteToken byteTokensWith byteTokens judgeBytes
     cut headBy headOf verdictLine stateLine answerLine fresh monitorLeft startedBy startedLine readLine headLine lineOf
-    exceeding Rows
-rows = (refl, refl, refl, refl, refl, refl, refl, refl, refl, refl, refl, refl, refl, refl, refl)
+    drawn Rows
+rows = (refl, refl, refl, refl, refl, refl, refl, refl, refl, refl, refl, refl, refl, refl, refl, refl, refl)

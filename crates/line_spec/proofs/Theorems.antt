@@ -1,32 +1,32 @@
 -- What `specs/Claims.antt` says, proved. Assumes nothing.
 use Rattle.line_spec.specs.Pieces.Joined.{pieces-whole}
 use Rattle.line_spec.proofs.Rows as computed
-use Rattle.line_spec.specs.Opening.Front.{lent-out, open-ways, open-course, open-began}
+use Rattle.line_spec.specs.Opening.Front.{lent-out, lent-in, open-ways, open-course, open-began}
 use Rattle.line_spec.specs.Lent.Laws.{fed-work, pieces-lent, whole-line}
 use Rattle.line_spec.specs.Lent.Ends.{ends-pieces}
 use Rattle.line_spec.specs.Claims.{LineIsLent, PiecesAreLent, OpenLeaves, OpenIsFront, OpenStarts, PiecesAreWhole}
 use Rattle.monitor_spec.specs.Feed.{feedOf}
 use Rattle.monitor_spec.specs.State.{Verdict}
-use borrow.Author.Tests.{eq-eqb}
 use Rattle.line_spec.specs.Line.Laws.{head-ways}
-use Rattle.line_spec.specs.Opening.{lentFit}
 use Rattle.line_spec.specs.Claims.{HeadsAre, LentExactly, ResumeLeaves, PieceEnds, LineLeaves}
 use Rattle.line_spec.specs.Line.{monitorLeft, verdictLine, stateLine}
 use Rattle.line_spec.specs.Pieces.{over, fed, fedBy, concludeOf, afterPiece}
 use Rattle.line_spec.specs.Opening.{openOf}
 use Rattle.line_spec.specs.Whole.{resumedBy, resumeOf, finished, wholeBy, wholeAfter, wholeOf}
 use mathlib.Core.Path.{refl, ap}
-use Rattle.line_spec.specs.Claims.{PieceAnyWork, EndsArePieces, Rows}
+use Rattle.line_spec.specs.Judged.Taken.{course-took}
+use Rattle.line_spec.specs.Judged.Laws.{front-line, follows-judged}
+use Rattle.line_spec.specs.Claims.{PieceAnyWork, EndsArePieces, GoingTakesAll, SaidIsLine, SaidIsJudged, Rows}
 
 pub heads-are : HeadsAre
 unfolding HeadsAre
 heads-are = head-ways
 
 pub lent-exactly : LentExactly
-unfolding LentExactly lentFit
+unfolding LentExactly
 lent-exactly l a b w = (
   λ e. let d = lent-out l a b w e in (d .list, d .area0, d .area1, d .work),
-  λ h. rw (eq-eqb _ _ (h .0), eq-eqb _ _ (h .1), eq-eqb _ _ (h .2), eq-eqb _ _ (h .3)) refl,
+  λ h. lent-in l a b w (record { list = h .0; area0 = h .1; area1 = h .2; work = h .3 }),
 )
 
 pub line-is-lent : LineIsLent
@@ -88,6 +88,18 @@ pieces-are-whole = pieces-whole
 pub piece-any-work : PieceAnyWork
 unfolding PieceAnyWork
 piece-any-work = fed-work
+
+pub going-takes-all : GoingTakesAll
+unfolding GoingTakesAll resumeOf resumedBy
+going-takes-all = course-took
+
+pub said-is-line : SaidIsLine
+unfolding SaidIsLine
+said-is-line = front-line
+
+pub said-is-judged : SaidIsJudged
+unfolding SaidIsJudged
+said-is-judged = follows-judged
 
 pub rows : Rows
 rows = computed.rows

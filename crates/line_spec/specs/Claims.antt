@@ -13,6 +13,9 @@
 --     OpenStarts        the record of `open` stands on the list and before the events, with a work area of zeros
 --     PiecesAreWhole    an input in pieces gives the line of the whole
 --     PieceAnyWork      a piece comes to the same course, whatever the work area held
+--     GoingTakesAll     a monitor that goes on has taken all of the piece
+--     SaidIsLine        a line that is said of the front where the input ended with it is that of the input
+--     SaidIsJudged      so it is where pieces follow
 --     Rows              the worked examples
 -- Assumes nothing.
 use Prim.Native.Nat.{ℕ, _≤_}
@@ -32,6 +35,7 @@ use Rattle.line_spec.specs.Pieces.{Course, going, over, afterPiece, fed,
 use Rattle.line_spec.specs.Opening.{lent, started, refuses, openOf, openCourse, OpenWay, Began}
 use Rattle.line_spec.specs.Whole.{resumeOf, wholeOf}
 use Rattle.line_spec.specs.Lent.{lentLine, lentPieces, lentEnds}
+use Rattle.line_spec.specs.Judged.{frontLeft, Took, Follows, Judged}
 
 -- "a number, that many table bytes, then events"; 2, 3 and 4 "before Read"
 unfoldable pub HeadsAre : Type 0
@@ -127,6 +131,23 @@ PieceAnyWork =
     (l : List ℕ) (m : Monitor) (es w : List ℕ) → length w ≡ 8192
     → fed l (feedOf l m es w) ≡ pieceOf (going l m) es
 
+-- "Refusals 11 to 13" end the input's course: so a piece that did not is taken whole, and at most 2^64-1 events are
+unfoldable pub GoingTakesAll : Type 0
+GoingTakesAll =
+    (l k : List ℕ) (m d : Monitor) (es w : List ℕ) → resumeOf l m es w .course ≡ going k d
+    → Took (m .state) (length es) (d .state)
+
+-- through lent buffers of the right lengths
+unfoldable pub SaidIsLine : Type 0
+SaidIsLine =
+    (s l a b w : List ℕ) → lent l a b w ≡ true → (x : Line)
+    → concludeOf (frontLeft s (openOf s l a b w) .course) ≡ x → lineOf s ≡ x
+
+unfoldable pub SaidIsJudged : Type 0
+SaidIsJudged =
+    (s l a b w : List ℕ) → lent l a b w ≡ true → (n : ℕ) (x : Line) → 16387 ≤ length s
+    → Follows n (frontLeft s (openOf s l a b w)) x → Judged n s x
+
 -- table B: "`03 02 00 01 00 00 01 01 01 00 02 00 02 01 05 00`"
 abbrev pub tableB : List ℕ
 tableB = 3 ∷ 2 ∷ 0 ∷ 1 ∷ 0 ∷ 0 ∷ 1 ∷ 1 ∷ 1 ∷ 0 ∷ 2 ∷ 0 ∷ 2 ∷ 1 ∷ 5 ∷ 0 ∷ []
@@ -139,33 +160,40 @@ stops =
     let eight = choice four four in
     choice eight eight
 
--- A = 1: (0 to STOP) choice (0 to those, in parallel over {} with themselves): 257 residuals after 0
-unfoldable pub exceeding : List ℕ
-exceeding =
+-- A = 1, sets {0} and {}; one definition
+unfoldable pub drawn : Term → List ℕ
+drawn p =
     numbersOf (record {
       alphabet = 1;
       sets = one (0 ∷ []) ∷ one [] ∷ [];
-      definitions = record {
-        level = 0;
-        body = choice (prefix (fixed 0) stop) (prefix (fixed 0) (par (fixed 1) stops stops));
-      } ∷ [];
+      definitions = record { level = 0; body = p } ∷ [];
     })
 
--- "The whole input `10`, table B, `00 01 00` prints `running 3 1`."; a place and the number taken; 11; 13 with 256
--- slots; the length number cut short, loose, over 16,384; no table; the table cut short, by Read; an alphabet of 65;
--- the table cut short "before Read", whatever it has
+-- 0 to sixteen STOPs in parallel over {} with themselves: 256 residuals after 0
+abbrev filling : Term
+filling = prefix (fixed 0) (par (fixed 1) stops stops)
+
+-- (0 to STOP) choice that: 257
+abbrev exceeding : Term
+exceeding = choice (prefix (fixed 0) stop) filling
+
+-- "The whole input `10`, table B, `00 01 00` prints `running 3 1`."; a place and the number taken; 11; "256 slots": 256
+-- residuals stand, 257 are 13; the length number cut short, loose, over 16,384, and 16,384; no table; the table cut
+-- short, by Read; an alphabet of 65; the table cut short "before Read", whatever it has
 unfoldable pub Rows : Type 0
 Rows =
     (lineOf (16 ∷ tableB ++ (0 ∷ 1 ∷ 0 ∷ [])) ≡ runs 3 1)
     × (lineOf (16 ∷ tableB ++ (0 ∷ 0 ∷ [])) ≡ fails 2 2)
     × (lineOf (16 ∷ tableB ++ (0 ∷ 0 ∷ 1 ∷ [])) ≡ fails 2 3)
     × (lineOf (16 ∷ tableB ++ (0 ∷ 1 ∷ 3 ∷ [])) ≡ refused 11 2)
-    × (lineOf (79 ∷ exceeding) ≡ runs 0 2)
-    × (lineOf (79 ∷ exceeding ++ (0 ∷ [])) ≡ refused 13 0)
+    × (lineOf (75 ∷ drawn filling ++ (0 ∷ [])) ≡ runs 1 256)
+    × (lineOf (79 ∷ drawn exceeding) ≡ runs 0 2)
+    × (lineOf (79 ∷ drawn exceeding ++ (0 ∷ [])) ≡ refused 13 0)
     × (lineOf [] ≡ refused 3 0)
     × (lineOf (128 ∷ []) ≡ refused 3 0)
     × (lineOf (128 ∷ 0 ∷ []) ≡ refused 4 0)
     × (lineOf (129 ∷ 128 ∷ 1 ∷ []) ≡ refused 2 0)
+    × (lineOf (128 ∷ 128 ∷ 1 ∷ []) ≡ refused 3 0)
     × (lineOf (0 ∷ []) ≡ refused 3 0)
     × (lineOf (1 ∷ 3 ∷ []) ≡ refused 3 1)
     × (lineOf (2 ∷ 65 ∷ 2 ∷ []) ≡ refused 5 0)

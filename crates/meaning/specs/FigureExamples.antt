@@ -193,12 +193,12 @@ one-then-other = chain-event (prefix-step tt) (chain-event (prefix-step tt) chai
 a-once : Parallel (is 0) A A (0 ∷ 0 ∷ []) → ⊥
 a-once h = ⊎-elim (λ p. ⊎-elim (λ q. q .1 .0 .1 .1) (λ q. q .0) (p .1 .2)) (λ p. p .0) (h .2)
 
--- a → STOP holds the empty trace now, and after 0
-now : NonEmpty A
-now = ([], tt)
+-- a → STOP holds the empty trace at first, and after 0
+at-first : NonEmpty A
+at-first = ([], tt)
 
-then : NonEmpty (after A 0)
-then = ([], (tt, tt))
+after-0 : NonEmpty (after A 0)
+after-0 = ([], (tt, tt))
 
 pub facts : Facts
 unfolding two member rowIn elem sub subSet subArg
@@ -210,9 +210,11 @@ facts =
       own = refl;
       beside-fail = λ h. h .1 .1;
       both-once = a-once;
-      left-goes-on = (([], tt), now, inl (tt, (([], (tt, tt)), then, inr (tt, inl (([], (tt, (tt, tt))), then)))));
-      right-goes-on = (now, ([], tt), inl (tt, (then, ([], (tt, tt)), inr (tt, inr (then, ([], (tt, (tt, tt))))))));
-      one-each = (now, now, inr (tt, inl (then, now, inr (tt, inr (then, then)))));
+      left-goes-on =
+          (([], tt), at-first, inl (tt, (([], (tt, tt)), after-0, inr (tt, inl (([], (tt, (tt, tt))), after-0)))));
+      right-goes-on =
+          (at-first, ([], tt), inl (tt, (after-0, ([], (tt, tt)), inr (tt, inr (after-0, ([], (tt, (tt, tt))))))));
+      one-each = (at-first, at-first, inr (tt, inl (after-0, at-first, inr (tt, inr (after-0, after-0)))));
       choice-viable = left-viable;
       choice-viable-too = right-viable;
       call-doomed = called-doomed;

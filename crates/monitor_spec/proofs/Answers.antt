@@ -4,7 +4,7 @@ use Prim.Native.Nat.{ℕ, _+_, _≤_}
 use native.Mathlib.Omega.{arith}
 use mathlib.Core.Path.{_≡_, refl, ap, ap₂, sym, subst, _∙_}
 use mathlib.Core.Bool.{Bool, true, false}
-use mathlib.Core.List.{List, [], _∷_, _++_}
+use mathlib.Core.List.{List, [], _∷_, _++_, append-nil}
 use mathlib.Core.Option.{Option, none, some}
 use lib.ListN.{length}
 use lib.Dec.{T}
@@ -22,7 +22,7 @@ use Rattle.monitor_spec.specs.Joined.{extend}
 use Rattle.monitor_spec.specs.Expected.{verdictOf, monitorAfter}
 use Rattle.monitor_spec.specs.Expected.Steps.{Fed}
 use Rattle.monitor_spec.specs.History.{Leaves}
-use Rattle.monitor_spec.specs.History.Laws.{append-nil, extends, measured, feed-refused, feed-goes}
+use Rattle.monitor_spec.specs.History.Laws.{extends, measured, feed-refused, feed-goes}
 use Rattle.monitor_spec.specs.Stops.{Stops, StoppedAt, AnswersOne, JudgesOne}
 use Rattle.monitor_spec.proofs.Endings.{T-true, true-T, false-T, not-true, none-answer, some-answer}
 use Rattle.monitor_spec.proofs.Endings.{ending-given, ending-stopped, stops-out, stops-in}

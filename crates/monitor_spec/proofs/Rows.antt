@@ -36,7 +36,7 @@ use Rattle.monitor_spec.specs.Feed.{presentSlots, nextSlots, nextVerdict
 use Rattle.monitor_spec.specs.Feed.{feedAccepted, feedJudged, feedOf}
 use Rattle.monitor_spec.specs.Start.{startAccepted, startJudged, startOf}
 use Rattle.monitor_spec.specs.Offer.{bitOf, bitsBelow, offerBits, offering, offerJudged, offerOf}
-use Rattle.monitor_spec.specs.View.{viewBy, viewOf}
+use Rattle.monitor_spec.specs.View.{partBy, viewPart, wordsIn, viewOf}
 use Rattle.monitor_spec.specs.History.{standing, callOn, history}
 use Rattle.monitor_spec.specs.Examples.{drawn, feedAfter, startAndFeed, rows, saysAll}
 use Rattle.monitor_spec.specs.Cases.{fed, afterCalls, afterStart, cases, casesHold}
@@ -98,5 +98,5 @@ unfolding flatMap size sizes bodyOf bodyNumber termIn termOfDefs termAt prefixes
     every allZero ascendsFrom ascends verdictFits recordFits areaFits consistent through
     presentSlots nextSlots nextVerdict taking takeEvent endingOf refusing feedAccepted feedJudged feedOf
     startAccepted startJudged startOf drawn feedAfter startAndFeed
-    bitOf bitsBelow offerBits offering offerJudged offerOf viewBy viewOf deep
+    bitOf bitsBelow offerBits offering offerJudged offerOf partBy viewPart wordsIn viewOf deep
 outcomes-stand = (refl, refl, refl)

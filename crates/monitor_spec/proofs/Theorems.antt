@@ -23,6 +23,7 @@ use Rattle.monitor_spec.specs.State.{Monitor, areasMeasured, workMeasure
 use Rattle.monitor_spec.specs.Consistent.{consistent}
 use Rattle.monitor_spec.specs.Consistent.Reading.{consistent-laid}
 use Rattle.monitor_spec.specs.Consistent.Laws.{laid-still}
+use Rattle.monitor_spec.specs.Views.Laws.{part-way}
 use Rattle.monitor_spec.specs.Joined.{residualCount, joined}
 use Rattle.monitor_spec.specs.Expected.{monitorAfter}
 use Rattle.monitor_spec.specs.Stops.{JudgesOne}
@@ -33,7 +34,7 @@ use Rattle.monitor_spec.specs.Claims.{ResidualsAreTraces, DefinitionsAre
 use Rattle.monitor_spec.specs.Claims.{CallsResolve, SlotsTell, SlotsOnce, ValidExactly, ConsistentExactly}
 use Rattle.monitor_spec.specs.Claims.{StartRefusedExactly, StartGives, StartAnswers, StartBuffers, StartExceeds}
 use Rattle.monitor_spec.specs.Claims.{FeedRefusedExactly, FeedStopsExactly, FeedGivesExactly, FeedBuffers}
-use Rattle.monitor_spec.specs.Claims.{StartFits, OfferRefusedExactly, OfferBits, OfferBuffers}
+use Rattle.monitor_spec.specs.Claims.{StartFits, OfferRefusedExactly, OfferBits, OfferBuffers, ViewsPart}
 use Rattle.monitor_spec.specs.Claims.{Judges, Answers, Histories, OffersTraces, ViewsResiduals, FeedKeeps}
 use Rattle.monitor_spec.specs.Claims.{Examples, Cases, Buffers}
 use Rattle.monitor_spec.proofs.Endings.{T-true, true-T}
@@ -153,6 +154,10 @@ feed-buffers l m es w = (feeds.feed-work l m es w, feeds.feed-keeps l m es w)
 pub offer-buffers : OfferBuffers
 unfolding OfferBuffers
 offer-buffers l m w = let (x, y) = offering.offer-keeps l m w in (offering.offer-work l m w, x, y)
+
+pub views-part : ViewsPart
+unfolding ViewsPart
+views-part = part-way
 
 pub start-exceeds : StartExceeds
 unfolding StartExceeds

@@ -1,13 +1,13 @@
 -- What stands in each lent buffer after a call (01, "Operations", "When the monitor declines"): whole outcomes of
 -- Start, Feed, Offer and View, word by word; the words themselves are written out here.
 --     Left, outcomes      what Start and Feed leave, beside what is expected
---     Shown, offered      what Offer leaves;  Part, views: what View hands back
+--     Shown, offered      what Offer leaves;  Viewed, Seen, views: what View hands back
 -- Assumes nothing.
 use Prim.Native.Nat.{ℕ}
 use mathlib.Core.Path.{_≡_}
 use mathlib.Core.List.{List, [], _∷_, _++_, map}
-use lib.ListN.{replicate}
-use Rattle.table.specs.Table.{fixed, stop, fail, prefix, choice, par, one}
+use lib.ListN.{length, replicate}
+use Rattle.table.specs.Table.{fixed, Term, stop, fail, prefix, choice, par, one}
 use Rattle.table.specs.Writing.{numbersOf}
 use Rattle.table.specs.Operations.{zeros}
 use Rattle.monitor_spec.specs.State.{Verdict, running, failedAt, Monitor, Answer, given, refused, stopped}
@@ -16,7 +16,7 @@ use Rattle.monitor_spec.specs.Feed.{counterMost, feedOf}
 use Rattle.monitor_spec.specs.Start.{startOf}
 use Rattle.monitor_spec.specs.Offer as Offer
 use Rattle.monitor_spec.specs.Offer.{OfferOutcome, offerOf}
-use Rattle.monitor_spec.specs.View.{viewOf}
+use Rattle.monitor_spec.specs.View.{Part, viewPart, viewOf}
 use Rattle.monitor_spec.specs.Examples.{tableB, drawn, a, b}
 use Rattle.monitor_spec.specs.Cases.{st, oneNode, threeNodes, word}
 
@@ -48,15 +48,27 @@ trailing = tableB ++ 0 ∷ []
 abbrev delayed : List ℕ
 delayed = drawn (b (par (fixed 2) (a stop) (a stop)))
 
--- A = 5; x in {1,2,3,4}, four times, to STOP
-unfoldable pub deep : List ℕ
-deep =
+-- an alphabet size, a set and a term: x in the set, four times, to the term
+unfoldable pub deep : ℕ → List ℕ → Term → List ℕ
+deep A es p =
     let any = prefix (fixed 0) in
     numbersOf (record {
-      alphabet = 5;
-      sets = one (1 ∷ 2 ∷ 3 ∷ 4 ∷ []) ∷ [];
-      definitions = record { level = 0; body = any (any (any (any stop))) } ∷ [];
+      alphabet = A;
+      sets = one es ∷ [];
+      definitions = record { level = 0; body = any (any (any (any p))) } ∷ [];
     })
+
+-- eight STOPs in parallel over {0}, and its slot: each of the fifteen terms is a node
+abbrev full : List ℕ
+full =
+    let two = par (fixed 0) stop stop in
+    let four = par (fixed 0) two two in
+    drawn (par (fixed 0) four four)
+
+abbrev fullSlot : List ℕ
+fullSlot =
+    15 ∷ map (λ (n : ℕ). word n 0)
+    (0 ∷ 1 ∷ 2 ∷ 3 ∷ 4 ∷ 5 ∷ 6 ∷ 7 ∷ 8 ∷ 9 ∷ 10 ∷ 11 ∷ 12 ∷ 13 ∷ 14 ∷ [])
 
 -- the slots of K7 at Start
 abbrev both : List ℕ
@@ -91,9 +103,19 @@ outcomes =
     -- 12: as before the event
     ∷ leaves (feedOf tableB (mon counterMost 1 running (zeros 16) (oneNode 0)) (0 ∷ []) (sevens 8192))
     (stopped 12 0 (st counterMost 1 running)) (zeros 16) (oneNode 0) (zeros 8192)
-    -- "term × 2^24 + m0 × 2^18 + m1 × 2^12 + m2 × 2^6 + m3": term 4 with the memory 4, 3, 2, 1
-    ∷ leaves (feedOf deep (mon 0 1 running (oneNode 0) (zeros 16)) (1 ∷ 2 ∷ 3 ∷ 4 ∷ []) (sevens 8192))
+    -- "term × 2^24 + m0 × 2^18 + m1 × 2^12 + m2 × 2^6 + m3": term 4 with the memory 4, 3, 2, 1; with 63 four times, and
+    -- after 63 once more term 5
+    ∷ leaves (feedOf (deep 5 (1 ∷ 2 ∷ 3 ∷ 4 ∷ []) stop) (mon 0 1 running (oneNode 0) (zeros 16))
+    (1 ∷ 2 ∷ 3 ∷ 4 ∷ []) (sevens 8192))
     (given (st 4 1 running)) (1 ∷ 68169857 ∷ zeros 14) (zeros 16) (zeros 8192)
+    ∷ leaves (feedOf (deep 64 (63 ∷ []) (prefix (fixed 0) stop)) (mon 4 1 running (1 ∷ 83886079 ∷ zeros 14) (zeros 16))
+    (63 ∷ []) (sevens 8192))
+    (given (st 5 1 running)) (zeros 16) (1 ∷ 100663295 ∷ zeros 14) (zeros 8192)
+    -- "A slot is 16 words": one with no word left over
+    ∷ leaves (startOf full (sevens 16) (sevens 16) (sevens 8192))
+    (given (st 0 1 running)) fullSlot (zeros 16) (zeros 8192)
+    ∷ leaves (feedOf full (mon 0 1 running fullSlot (zeros 16)) [] (sevens 8192))
+    (given (st 0 1 running)) fullSlot (zeros 16) (zeros 8192)
     -- failed: both areas zero
     ∷ leaves (feedOf tableB (mon 4 1 running (oneNode 0) (zeros 16)) (2 ∷ []) (sevens 8192))
     (given (st 5 0 (failedAt 5))) (zeros 16) (zeros 16) (zeros 8192)
@@ -111,6 +133,8 @@ outcomes =
     (refused 6 16) (sevens 16) (sevens 16) (zeros 8192)
     ∷ leaves (startOf seven (sevens 16) (sevens 32) (sevens 8192))
     (refused 1 0) (sevens 16) (sevens 32) (sevens 8192)
+    ∷ leaves (startOf seven (sevens 32) (sevens 16) (sevens 8192))
+    (refused 1 0) (sevens 32) (sevens 16) (sevens 8192)
     -- "a multiple of 16 from 16 to 4,096": 0 and 4,112 are not, 4,096 is
     ∷ leaves (startOf tableB [] [] (sevens 8192)) (refused 1 0) [] [] (sevens 8192)
     ∷ leaves (startOf tableB (sevens 4112) (sevens 4112) (sevens 8192))
@@ -150,25 +174,38 @@ offered =
     (sevens 16) (zeros 16) (sevens 1)
     ∷ []
 
-pub record Part : Type 0 where
-  pub got : List ℕ
-  pub expected : List ℕ
+-- a part, and its words
+pub record Viewed : Type 0 where
+  pub part : Part
+  pub words : List ℕ
 
-abbrev viewed : Monitor → List ℕ → Part
-viewed m x = record { got = viewOf m; expected = x }
+pub record Seen : Type 0 where
+  pub got : Viewed
+  pub expected : Viewed
+
+abbrev sees : Monitor → ℕ → List ℕ → Seen
+sees m k x =
+    record {
+      got = record { part = viewPart (m .state) (length (m .area0)) (length (m .area1)); words = viewOf m };
+      expected = record { part = record { area = k; words = length x }; words = x };
+    }
 
 -- any lengths, any record
-abbrev pub views : List Part
+abbrev pub views : List Seen
 views =
-    viewed (mon 0 1 running (oneNode 0 ++ sevens 3) []) (oneNode 0)
-    ∷ viewed (mon 1 1 running (sevens 16) (oneNode 0)) (oneNode 0)
-    ∷ viewed (mon 1 2 running (sevens 64) (oneNode 0)) []
-    ∷ viewed (mon 0 1 (failedAt 0) (sevens 64) []) []
-    ∷ viewed (mon 0 0 running (sevens 64) []) []
+    sees (mon 0 1 running (oneNode 0 ++ sevens 3) []) 0 (oneNode 0)
+    ∷ sees (mon 1 1 running (sevens 16) (oneNode 0)) 1 (oneNode 0)
+    ∷ sees (mon 0 0 running (sevens 64) []) 0 []
+    ∷ sees (mon 1 0 running (sevens 16) (sevens 16)) 1 []
+    -- "the empty beginning of area 0": too many for area 0, and for area 1; after failure
+    ∷ sees (mon 0 2 running (oneNode 0) (sevens 64)) 0 []
+    ∷ sees (mon 1 2 running (sevens 64) (oneNode 0)) 0 []
+    ∷ sees (mon 0 1 (failedAt 0) (sevens 64) []) 0 []
+    ∷ sees (mon 1 1 (failedAt 1) (sevens 16) (sevens 16)) 0 []
     ∷ []
 
 abbrev pub BuffersStand : Type 0
 BuffersStand =
     (map (λ (x : Left). x .got) outcomes ≡ map (λ (x : Left). x .expected) outcomes)
     × (map (λ (x : Shown). x .got) offered ≡ map (λ (x : Shown). x .expected) offered)
-    × (map (λ (x : Part). x .got) views ≡ map (λ (x : Part). x .expected) views)
+    × (map (λ (x : Seen). x .got) views ≡ map (λ (x : Seen). x .expected) views)

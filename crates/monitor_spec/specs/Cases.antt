@@ -90,6 +90,13 @@ wide =
     let four = par (fixed 0) two two in
     table3 (one (0 ∷ []) ∷ []) (def 0 (par (fixed 0) four four) ∷ def 0 (prefix (fixed 0) (call 0)) ∷ [])
 
+-- seven STOPs in parallel; 0 to those
+abbrev narrower : List ℕ
+narrower =
+    let two = par (fixed 0) stop stop in
+    let seven = par (fixed 0) (par (fixed 0) two two) (par (fixed 0) two stop) in
+    table3 (one (0 ∷ []) ∷ []) (def 0 seven ∷ def 0 (prefix (fixed 0) (call 0)) ∷ [])
+
 -- one slot with one node, and one with three
 abbrev pub oneNode : ℕ → List ℕ
 oneNode w = 1 ∷ w ∷ zeros 14
@@ -100,6 +107,10 @@ threeNodes u v w = 3 ∷ u ∷ v ∷ w ∷ zeros 12
 -- the node word of a term and the nearest event
 abbrev pub word : ℕ → ℕ → ℕ
 word n d = n * 16777216 + d * 262144
+
+-- the node word of a term and four events, the nearest first
+abbrev full : ℕ → ℕ → ℕ → ℕ → ℕ → ℕ
+full n d0 d1 d2 d3 = n * 16777216 + d0 * 262144 + d1 * 4096 + d2 * 64 + d3
 
 -- x in {0,1}
 abbrev either : Term → Term
@@ -149,14 +160,14 @@ cases =
     ∷ is (afterStart 1 tableB (feeds (0 ∷ []) ∷ short (0 ∷ []) ∷ feeds (1 ∷ []) ∷ [])) (said 2 1 running)
     ∷ is (afterStart 1 (drawn (b (par (fixed 2) (a stop) (a stop)))) (feeds (1 ∷ 0 ∷ []) ∷ feeds (2 ∷ []) ∷ []))
     (said 2 0 (failedAt 2))
-    -- the counter: 11 before 12, 12 only with an event
+    -- the counter: 11 before 12, 12 only with an event; 2^64-2 and 2^64-1
     ∷ is (fed tableB (st counterMost 1 running) (zeros 16) (oneNode 0) []) (said counterMost 1 running)
     ∷ is (fed tableB (st counterMost 1 running) (zeros 16) (oneNode 0) (3 ∷ []))
     (stopped 11 0 (st counterMost 1 running))
     ∷ is (fed tableB (st counterMost 1 running) (zeros 16) (oneNode 0) (0 ∷ []))
     (stopped 12 0 (st counterMost 1 running))
     ∷ is (fed tableB (st 18446744073709551614 1 running) (oneNode 0) (zeros 16) (0 ∷ 1 ∷ []))
-    (stopped 12 1 (st counterMost 1 running))
+    (stopped 12 1 (st 18446744073709551615 1 running))
     -- 12 before 13: two residuals after 0, one slot; 12 after failure
     ∷ is (fed eight (st counterMost 1 running) (zeros 16) (threeNodes (word 0 0) (word 1 0) (word 3 0)) (0 ∷ []))
     (stopped 12 0 (st counterMost 1 running))
@@ -178,9 +189,24 @@ cases =
     ∷ is (fed tableB (st 0 1 running) (oneNode (word 0 1)) (zeros 16) []) (refused 10 0)
     ∷ is (fed tableB (st 0 1 running) (oneNode (word 2 0)) (zeros 16) []) (refused 10 0)
     ∷ is (fed tableB (st 0 1 running) (oneNode (word 3 0)) (zeros 16) []) (refused 10 0)
+    -- "memory is below A, zero beyond the term's enclosing prefixes", event by event: four prefixes, three, two, one
+    ∷ is (fed (behind 0) (st 0 1 running) (oneNode (full 4 2 2 2 2)) (zeros 16) []) (said 0 1 running)
+    ∷ is (fed (behind 0) (st 0 1 running) (oneNode (full 4 2 3 2 2)) (zeros 16) []) (refused 10 0)
+    ∷ is (fed (behind 0) (st 0 1 running) (oneNode (full 4 2 2 3 2)) (zeros 16) []) (refused 10 0)
+    ∷ is (fed (behind 0) (st 0 1 running) (oneNode (full 4 2 2 2 3)) (zeros 16) []) (refused 10 0)
+    ∷ is (fed (behind 0) (st 0 1 running) (oneNode (full 3 2 2 2 0)) (zeros 16) []) (said 0 1 running)
+    ∷ is (fed (behind 0) (st 0 1 running) (oneNode (full 3 2 2 2 1)) (zeros 16) []) (refused 10 0)
+    ∷ is (fed (behind 0) (st 0 1 running) (oneNode (full 2 2 2 0 0)) (zeros 16) []) (said 0 1 running)
+    ∷ is (fed (behind 0) (st 0 1 running) (oneNode (full 2 2 2 1 0)) (zeros 16) []) (refused 10 0)
+    ∷ is (fed (behind 0) (st 0 1 running) (oneNode (full 1 2 1 0 0)) (zeros 16) []) (refused 10 0)
+    -- so of a parallel's own memory: an event; an event of 3; one beyond the enclosing prefixes
+    ∷ is (fed rowed (st 1 1 running) (zeros 16) (threeNodes (word 1 2) (word 2 2) (word 5 2)) []) (said 1 1 running)
+    ∷ is (fed rowed (st 1 1 running) (zeros 16) (threeNodes (word 1 3) (word 2 2) (word 5 2)) []) (refused 10 0)
+    ∷ is (fed eight (st 0 1 running) (threeNodes (word 0 1) (word 1 0) (word 3 0)) (zeros 16) []) (refused 10 0)
     -- equal slots twice; fewer counted than there are; the node count wrong; the other area not zero
     ∷ is (fed tableB (st 0 2 running) (oneNode 0 ++ oneNode 0) (zeros 32) []) (refused 10 0)
     ∷ is (fed tableB (st 0 1 running) (oneNode 0 ++ oneNode (word 1 0)) (zeros 32) []) (refused 10 0)
+    ∷ is (fed tableB (st 0 1 running) (oneNode 0 ++ 1 ∷ zeros 15) (zeros 32) []) (refused 10 0)
     ∷ is (fed tableB (st 0 1 running) (2 ∷ 0 ∷ zeros 14) (zeros 16) []) (refused 10 0)
     ∷ is (fed tableB (st 0 1 running) (oneNode 0) (zeros 15 ++ 1 ∷ []) []) (refused 10 0)
     -- a slot that stands after failure; words that are not zero behind a slot's nodes; FAIL, and a choice
@@ -194,8 +220,10 @@ cases =
     (said 0 2 running)
     ∷ is (fed mixed (st 0 2 running) (threeNodes (word 3 0) (word 4 0) (word 6 0) ++ oneNode (word 1 0)) (zeros 32) [])
     (refused 10 0)
-    -- "the leaves' reach sums to at most 8": the prefix beside a STOP has 8 + 1; a pair of two STOPs stands
+    -- "the leaves' reach sums to at most 8": the prefix beside a STOP has 8 + 1, where there is one STOP less 7 + 1; a
+    -- pair of two STOPs stands
     ∷ is (fed wide (st 0 1 running) (threeNodes (word 0 0) (word 3 0) (word 15 0)) (zeros 16) []) (refused 10 0)
+    ∷ is (fed narrower (st 0 1 running) (threeNodes (word 0 0) (word 3 0) (word 13 0)) (zeros 16) []) (said 0 1 running)
     ∷ is (fed wide (st 0 1 running) (threeNodes (word 0 0) (word 3 0) (word 4 0)) (zeros 16) []) (said 0 1 running)
     -- 1: lent lengths, before everything else; then 2 to 9, before 10
     ∷ is (fed tableB (st 0 1 running) (zeros 8) (zeros 8) []) (refused 1 0)

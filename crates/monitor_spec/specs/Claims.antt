@@ -11,6 +11,7 @@
 --     FeedRefusedExactly, FeedStopsExactly, FeedGivesExactly  Feed
 --     OfferRefusedExactly, OfferBits                          Offer
 --     StartBuffers, FeedBuffers, OfferBuffers                 areas and work words on every input
+--     ViewsPart               View, on every input: which area, how many words, and which
 --     StartExceeds            capacity exceeded at Start, exactly, on an accepted table
 --     Judges                  demand 2: one list fed to a fresh monitor
 --     Answers                 what a call along a history answers, exactly: 1, 11, 12, 13 with places, or a record
@@ -46,7 +47,7 @@ use Rattle.monitor_spec.specs.Start.{startOf}
 use Rattle.monitor_spec.specs.Feed.{feedOf}
 use Rattle.monitor_spec.specs.Offer as Offer
 use Rattle.monitor_spec.specs.Offer.{offers, offerOf}
-use Rattle.monitor_spec.specs.View.{viewOf}
+use Rattle.monitor_spec.specs.View.{viewPart, viewOf}
 use Rattle.monitor_spec.specs.Joined.{Call, residualCount, joined}
 use Rattle.monitor_spec.specs.Meaning.{denote, Sound, Some}
 use Rattle.monitor_spec.specs.Proper.{Proper}
@@ -56,6 +57,7 @@ use Rattle.monitor_spec.specs.Progress.{LeavesAt, FeedStops, FeedGives}
 use Rattle.monitor_spec.specs.History.{callOn, history, Fresh, slotsLent, start, Leaves, Along, AfterCalls}
 use Rattle.monitor_spec.specs.Stops.{AnswersOne, JudgesOne}
 use Rattle.monitor_spec.specs.Offers.{OffersJust}
+use Rattle.monitor_spec.specs.Views.{PartWay}
 use Rattle.monitor_spec.specs.Examples.{rows, saysAll}
 use Rattle.monitor_spec.specs.Cases.{cases, casesHold}
 use Rattle.monitor_spec.specs.Buffers.{BuffersStand}
@@ -180,6 +182,10 @@ OfferBuffers =
     (l : List ℕ) (m : Monitor) (w : List ℕ)
     → WorkLeft (m .area0) (m .area1) w (offerOf l m w .work)
     × (offerOf l m w .area0 ≡ m .area0) × (offerOf l m w .area1 ≡ m .area1)
+
+-- 01: "View hands back the part of whichever of the two areas holds the residuals. If count × 16 exceeds that area, .."
+unfoldable pub ViewsPart : Type 0
+ViewsPart = (m : Monitor) → PartWay m (viewPart (m .state) (length (m .area0)) (length (m .area1))) (viewOf m)
 
 -- 01: "crowded: residuals .. at Start, exceed the slots", place 0, when refusal 1 is not met
 unfoldable pub StartExceeds : Type 0

@@ -20,6 +20,7 @@ pub mod Progress
 pub mod History
 pub mod Stops
 pub mod Offers
+pub mod Views
 pub mod Examples
 pub mod Cases
 pub mod Buffers

@@ -12,6 +12,7 @@ use crate::lent::no_record;
 use crate::lent::record_of;
 use crate::lent::with_record;
 use cases::Outcome;
+use cases::digest_words;
 use cases::outcome_of;
 use monitor::Answer;
 use monitor::Offered;
@@ -77,13 +78,10 @@ fn lent_right(area0: &[u64], area1: &[u64], work: &[u64], stored: &[u64]) -> boo
     if stored.len() != 2 {
         return false;
     }
-    if areas::digest(areas::digest(1, area0), area1) != stored[0] {
+    if digest_words(digest_words(1, area0), area1) != stored[0] {
         return false;
     }
-    if stored[1] == 1 {
-        return areas::are_junk(work, u64::MAX);
-    }
-    cases::zero_words(work)
+    cases::stands(work, stored[1])
 }
 
 pub fn judge(

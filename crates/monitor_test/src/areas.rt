@@ -1,10 +1,8 @@
 // Words in lent areas.
 //     long_numbers .. events              buffers as long as any that the file asks for
 //     clear, fill                         zeros; junk, no word of it 0
-//     are_junk                            whether there is that junk
 //     put_words                           words put at an area's beginning, where they fit
 //     begins                              whether an area begins with these words
-//     digest                              one number for all words
 ghost use mathlib.Core.Path.{_≡_};
 ghost use lib.ListN.{length};
 
@@ -69,17 +67,6 @@ pub fn fill(area: &mut [u64], first: u64) {
     }
 }
 
-pub fn are_junk(area: &[u64], first: u64) -> bool {
-    let mut i = 0;
-    while i < area.len() {
-        if area[i] != junk(first, i) {
-            return false;
-        }
-        i += 1;
-    }
-    true
-}
-
 pub fn put_words(numbers: &[u64], area: &mut [u64]) -> bool {
     if area.len() < numbers.len() {
         return false;
@@ -104,21 +91,4 @@ pub fn begins(area: &[u64], words: &[u64]) -> bool {
         i += 1;
     }
     true
-}
-
-// A digest with half a word more.
-fn digest_half(d: u64, half: u64) -> u64 {
-    (d % 4294967291 * 16777619 + half % 4294967296) % 4294967291
-}
-
-// The digest d, and then each word of an area, its lower half first.
-pub fn digest(first: u64, area: &[u64]) -> u64 {
-    let mut d = first;
-    let mut i = 0;
-    while i < area.len() {
-        let w = area[i];
-        d = digest_half(digest_half(d, w), w / 4294967296);
-        i += 1;
-    }
-    d
 }

@@ -28,7 +28,7 @@ fn start(
     l: Lent,
     stored: &[u64],
 ) -> Done {
-    areas::fill(work, u64::MAX);
+    cases::fill_words(work);
     let answer = monitor::start(list, area0, area1, work);
     judge(answer, area0, area1, work, l, stored)
 }
@@ -62,7 +62,7 @@ fn feed(
     l: Lent,
     stored: &[u64],
 ) -> Done {
-    areas::fill(work, u64::MAX);
+    cases::fill_words(work);
     let answer = monitor::feed(list, state_of(l), area0, area1, events, work);
     judge(answer, area0, area1, work, l, stored)
 }
@@ -125,7 +125,7 @@ fn offer(
     l: Lent,
     stored: &[u64],
 ) -> Done {
-    areas::fill(work, u64::MAX);
+    cases::fill_words(work);
     let answer = monitor::offer(list, state_of(l), area0, area1, work);
     Done {
         outcome: judge_offered(answer, area0, area1, work, stored),

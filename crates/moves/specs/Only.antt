@@ -8,7 +8,6 @@
 --     Movable, Marked               the marked leaves are such
 --     ShortTree, Only               what `only_at` asks and says
 --     Rooted, WayIn                 what `way_of` asks and says
---     Follows, Landing, Lands       what `land` asks and says
 --     Carries, Rest, Rebuilds       what `carry`, `rebuild` and `extend` ask
 -- The laws are in `Only/Marks.antt` (marks and the words rebuilt), `Only/Moved.antt` (the words of several results),
 -- `Only/Laws.antt` and `Only/Pair.antt` (the residuals after the event), `Only/Ways.antt` and `Only/Turns.antt` (the
@@ -27,7 +26,6 @@ use Rattle.moves.specs.declared.only.Moves.{Moves}
 use Rattle.moves.specs.declared.only.Way.{Way}
 use Rattle.moves.specs.declared.only.Way.the-variants.{Still, Moving, Many}
 use Rattle.moves.specs.declared.only.WayAt.{WayAt}
-use Rattle.moves.specs.declared.rebuilding.Landed.{Landed}
 use Rattle.residual.specs.Words.{nodeWord, termOfWord, kindAt, holdsAt}
 use Rattle.residual.specs.Residual.{Residual, leaf, pair, words, pushAll, Resolves, resolvedInto}
 use Rattle.residual.specs.Distinct.{window}
@@ -187,24 +185,6 @@ pub record Rooted (t : Table) (area : List ℕ) (k n : ℕ) : Type 0 where
 pub record WayIn (t : Table) (e : ℕ) (area : List ℕ) (k n : ℕ) (v : Way) : Type 0 where
   pub of : (r : Residual) (ws : List ℕ) → drop k area ≡ words r ++ ws → Valid t r → n ≡ length (words r)
       → v ≡ wayOf t e r
-
-pub record Follows (t : Table) (bound e w : ℕ) (slot : List ℕ) : Type 0 where
-  pub single : Single t e w
-  pub event : e < 64
-  pub whole : bound ≡ length (t .definitions)
-  pub room : getD slot 0 0 + length (option t e w 0) ≤ 15
-  pub size : length slot ≡ 16
-
--- where calls of the follower come to: the residual is that of term n with memory m
-pub record Landing (t : Table) (e w : ℕ) (slot : List ℕ) (b n m k : ℕ) : Type 0 where
-  pub resolves : Resolves t b n m 0 slot
-  pub same : resolvedInto t n m 0 slot ≡ pushAll slot (option t e w 0)
-  pub kind : k ≡ kindOf (termOf t n)
-
--- where all of them have come to: there is no call
-pub record Lands (t : Table) (e w : ℕ) (slot : List ℕ) (l : Landed) : Type 0 where
-  pub landing : Landing t e w slot (l .bound) (l .term) (l .memory) (l .kind)
-  pub ended : l .kind ≡ 5 → ⊥
 
 pub record Carries (t : Table) (bound e w m : ℕ) (slot : List ℕ) : Type 0 where
   pub event : e < 64

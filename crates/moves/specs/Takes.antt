@@ -1,19 +1,30 @@
 -- Whether a residual may take an event (01, "Operations": "exactly when the residuals after e, crowded or not, are
 -- not empty"), of the tree whose words stand at a place of an area.
---     TreeAt     a tree's words stand there
---     Takes      what is said of it
+--     leafTakes   whether a prefix may
+--     TreeAt      a tree's words stand there
+--     Takes       what is said of it
 -- The laws are in `Takes/Counts.antt` (how many residuals there are) and `Takes/Laws.antt`. Assumes nothing.
 use Prim.Native.Nat.{ℕ, _+_}
 use mathlib.Core.Path.{_≡_}
+use mathlib.Core.Bool.{Bool, true, false}
 use mathlib.Core.List.{List, _++_}
 use lib.ListN.{length, drop}
 use lib.Dec.{ltb}
 use Rattle.table.specs.Table.{Table}
 use Rattle.walk.specs.declared.nodes.Tree.{Tree}
 use Rattle.residual.specs.Residual.{Residual, words, after}
+use Rattle.table.specs.Branches.{branches}
+use Rattle.table.specs.Branches.Capped.{capped}
+use Rattle.table.specs.Node.{termOf}
+use Rattle.residual.specs.Words.{termOfWord, holdsAt}
 use Rattle.walk.specs.Forest.{Valid}
 pub mod Counts
 pub mod Laws
+
+-- of a prefix's word: its set holds the event, and its follower has a branch
+unfoldable pub leafTakes : Table → ℕ → ℕ → Bool
+leafTakes t e w =
+    elim (holdsAt t e w) [ true ↦ ltb 0 (capped (branches t (termOf t (termOfWord w + 1)))) | false ↦ false ]
 
 pub record TreeAt (t : Table) (area : List ℕ) (k : ℕ) : Type 0 where
   pub tree : Residual

@@ -183,24 +183,33 @@ fn only_at(list: &[u16], work: &[u64], area: &[u64], k: usize, e: u64) -> WayAt
     ensures { λ r. ⌜ Only (tableIn (now (list .entry))) e (now (area .entry)) k r ⌝ }
 {
     let w = area[k];
+    let next = k + 1;
     match kind_at(list, work, w) {
         2 => {
             let way = leaf_way(list, work, w, e);
-            WayAt { way, next: k + 1 }
+            WayAt { way, next }
         }
         4 => {
-            let a = only_at(list, work, area, k + 1, e);
+            let a = only_at(list, work, area, next, e);
             let p = a.next;
             let b = only_at(list, work, area, p, e);
             let left = a.way;
             let right = b.way;
             let way = pair_way(left, right, holds_at(list, work, w, e), p - k);
-            let next = b.next;
-            WayAt { way, next }
+            let end = b.next;
+            WayAt { way, next: end }
         }
-        0 | 1 | 3 | 5..=18446744073709551615 => WayAt {
+        0 | 3 | 5 => WayAt {
             way: Way::Still,
-            next: k + 1,
+            next,
+        },
+        1 => WayAt {
+            way: Way::Still,
+            next,
+        },
+        6..=18446744073709551615 => WayAt {
+            way: Way::Still,
+            next,
         },
     }
 }
@@ -213,10 +222,13 @@ pub fn way_of(list: &[u16], work: &[u64], area: &[u64], k: usize, n: usize, e: u
 {
     if n == 1 {
         let w = area[k];
-        if kind_at(list, work, w) == 2 {
-            return leaf_way(list, work, w, e);
-        }
-        return Way::Still;
+        return match kind_at(list, work, w) {
+            2 => leaf_way(list, work, w, e),
+            0 | 3 | 5 => Way::Still,
+            4 => Way::Still,
+            1 => Way::Still,
+            6..=18446744073709551615 => Way::Still,
+        };
     }
     let tree = only_at(list, work, area, k, e);
     tree.way

@@ -1,7 +1,8 @@
 // The words of a residual's results, rebuilt node by node. The definitions are in
 // `specs/Only.antt`.
+use residual::Landed;
+use residual::descend;
 use residual::memory_of;
-use residual::node;
 use residual::push;
 use residual::remember;
 use residual::resolve_at;
@@ -12,41 +13,7 @@ ghost use Prim.Native.Nat.{_%_};
 ghost use Rattle.table.specs.Index.{tableIn, Indexed};
 ghost use Rattle.residual.specs.Residual.{pushAll};
 ghost use Rattle.residual.specs.Distinct.{window, empty};
-ghost use Rattle.moves.specs.Only.{grown, rebuilt, Follows, Carries, Rebuilds, Lands};
-
-// A term with a memory, whose only residual is looked for: its calls name definitions below
-// `bound`.
-pub struct Landed {
-    pub term: usize,
-    pub memory: u64,
-    pub bound: usize,
-    pub kind: u64,
-}
-
-// Where the calls of a prefix's follower come to. The slot, which is not read, names in the
-// contract what the residual there is to follow.
-fn land(list: &[u16], work: &[u64], bound: usize, e: u64, w: u64, slot: &[u64]) -> Landed
-    requires { ⌜ Indexed (now list) (now work) ⌝ }
-    requires { ⌜ Follows (tableIn (now list)) bound e w (now slot) ⌝ }
-    ensures { λ r. ⌜ Lands (tableIn (now (list .entry))) e w (now (slot .entry)) r ⌝ }
-{
-    let mut n = term_of(w) + 1;
-    let mut m = remember(e, memory_of(w));
-    let mut b = bound;
-    let mut k = index::kind(list, work, n);
-    while k == 5 {
-        b = index::called(list, work, n);
-        n = index::body(list, work, b);
-        m = 0;
-        k = index::kind(list, work, n);
-    }
-    Landed {
-        term: n,
-        memory: m,
-        bound: b,
-        kind: k,
-    }
-}
+ghost use Rattle.moves.specs.Only.{grown, rebuilt, Carries, Rebuilds};
 
 // The result of the residual with n nodes from p on, whose marked leaves take the event.
 pub fn rebuild(
@@ -78,19 +45,26 @@ pub fn rebuild(
             j += 1;
             continue;
         }
-        let l = land(list, work, bound, e, w, &s);
-        let k = l.kind;
-        match k {
-            0 | 2 => {
+        let t = term_of(w) + 1;
+        let x = remember(e, memory_of(w));
+        match descend(list, work, bound, t, x, 0, &s) {
+            Landed::Nothing => {
+                return s;
+            }
+            Landed::Leaf(y) => {
                 let c = s[0] + 1;
-                s[c as usize] = node(l.term, l.memory);
+                s[c as usize] = y;
                 s[0] = c;
                 m /= 2;
                 j += 1;
-                continue;
             }
-            1 | 3..=18446744073709551615 => {
-                s = resolve_term(list, work, l.bound, l.term, l.memory, 0, s);
+            Landed::Pair {
+                bound: b,
+                term,
+                memory,
+                index,
+            } => {
+                s = resolve_term(list, work, b, term, memory, index, s);
                 m /= 2;
                 j += 1;
             }

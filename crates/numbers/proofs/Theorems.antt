@@ -1,14 +1,26 @@
 -- The claims of `specs/Claims.antt`, proved from the laws of `specs/Number/`, and the worked examples, by computing.
 -- Assumes nothing.
 use Rattle.numbers.specs.Claims.{ReadBack, Canonical, TruncatedExactly, MalformedExactly, RefusalNumbers}
-use Rattle.numbers.specs.Claims.{AtMostThree, Fewest, ByteCount, Limit}
-use mathlib.Core.Path.{sym}
+use Rattle.numbers.specs.Claims.{Coding, AtMostThree, Fewest, ByteCount, Limit}
+use native.Mathlib.Omega.{arith}
+use Prim.Native.Nat.{ℕ, _^_, _≤_, _<_}
+use mathlib.Core.Path.{sym, subst}
 use Rattle.numbers.specs.Examples.{Examples}
-use Rattle.numbers.specs.Number.{groups, carry, later, scanWith}
+use Rattle.numbers.specs.Number.{groups, bytesOf, carry, later, scanWith, readNumber, InGroups}
+use Rattle.numbers.specs.Number.Coding.{groups-in, in-groups}
 use Rattle.numbers.specs.Number.Groups.{limit-65536, scan-written, scan-is-written}
 use Rattle.numbers.specs.Number.Unread.{truncated-out, truncated-in, malformed-out, malformed-in}
 use Rattle.numbers.specs.Number.Laws.{bytes-few, fewest as few-groups, length-bytesOf}
 use Rattle.numbers.specs.Position.Laws.{number-3, number-4}
+
+-- "at most three": numbers to 65,535 have three groups
+three-groups : (v : ℕ) → v ≤ 65535 → v < 128 ^ 3
+three-groups v l = omega arith
+
+pub coding : Coding
+unfolding Coding bytesOf
+coding v s l =
+    ((λ e. subst (InGroups v) (sym e) (groups-in 2 v (three-groups v l))), in-groups 2 v s (three-groups v l))
 
 pub read-back : ReadBack
 unfolding ReadBack
@@ -47,5 +59,5 @@ unfolding Limit
 limit = limit-65536
 
 pub examples : Examples
-unfolding Examples groups carry later scanWith
+unfolding Examples groups bytesOf carry later scanWith readNumber
 examples = tt

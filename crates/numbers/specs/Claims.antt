@@ -1,5 +1,6 @@
 -- What this crate proves of the definitions that its contracts cite: statements only.
 -- The proof of each is in `proofs/Theorems.antt`, under the same name.
+--     Coding         the bytes of a number are those that 01's sentence calls for, and no others are
 --     ReadBack       what is written is read back
 --     Canonical      whatever is read is just what would be written, and fits
 --     TruncatedExactly, MalformedExactly    when nothing is read: bytes that end within a number, and all others
@@ -9,8 +10,8 @@
 --     ByteCount      how many bytes a number has, by its size
 --     Limit          the numbers of three bytes are those up to 65,535
 --     Examples       the worked examples, in `Examples.antt`
--- The first four are of any count of bytes (`more` after the first) and any greatest last byte, `top`, the last two of
--- these for `top` from 1 on.
+-- ReadBack, Canonical and the next two are of any count of bytes (`more` after the first) and any greatest last byte,
+-- `top`, the last two of these for `top` from 1 on.
 -- Assumes nothing.
 use Prim.Native.Nat.{ℕ, _≤_, _<_}
 use mathlib.Core.Path.{_≡_}
@@ -20,10 +21,15 @@ use lib.ListN.{length, drop}
 use Rattle.numbers.specs.Number.{Bytes, groups, bytesOf, value, truncated, malformed, scanWith, limitOf, Scanned}
 use Rattle.numbers.specs.Every.{All}
 use Rattle.numbers.specs.Number.{valueOf, byteCount}
-use Rattle.numbers.specs.Number.{IncompleteWith, IllWrittenWith, Incomplete, IllWritten}
+use Rattle.numbers.specs.Number.{InGroups, IncompleteWith, IllWrittenWith, Incomplete, IllWritten}
 use Rattle.numbers.specs.Position.{refusalNumber, readAt}
 
--- 01, "Numbers and table": "A number is written in groups of seven bits, lowest group first"
+-- 01, "Numbers and table": "A number is written in groups of seven bits, lowest group first; a byte's top bit is set
+-- when another group follows. It has the fewest bytes"
+unfoldable pub Coding : Type 0
+Coding = (v : ℕ) (s : List ℕ) → v ≤ 65535 → (s ≡ bytesOf v) ↔ InGroups v s
+
+-- 00, demand 2: "a written one reads back to its numbers", of one number
 unfoldable pub ReadBack : Type 0
 ReadBack =
     (more top v : ℕ) (s : List ℕ) → v < limitOf more top

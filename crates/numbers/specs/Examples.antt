@@ -1,5 +1,5 @@
 -- Worked numbers: 01's own ("127 is `7F`, 128 is `80 01`"), the edges beside them, and two of ten bytes.
---     Row        some bytes, and what is read at their head
+--     Row        a way to read and write, some bytes, and what is read at their head
 --     holds      a row's bytes are read so, and a number that is read is written so
 --     rows       the examples;  Examples: all of them hold
 -- Assumes nothing.
@@ -8,11 +8,11 @@ use mathlib.Core.Bool.{Bool, true, false, _&&_}
 use mathlib.Core.List.{List, [], _∷_, _++_}
 use lib.ListN.{replicate}
 use lib.Dec.{T, eqb}
-use Rattle.numbers.specs.Number.{groups, Scan, value, truncated, malformed, scanWith}
+use Rattle.numbers.specs.Number.{groups, bytesOf, Scan, value, truncated, malformed, scanWith, readNumber}
 
 pub record Row : Type 0 where
-  pub more : ℕ
-  pub top : ℕ
+  pub read : List ℕ → Scan
+  pub write : ℕ → List ℕ
   pub bytes : List ℕ
   pub outcome : Scan
 
@@ -29,28 +29,28 @@ code (value v n s) = 0 ∷ v ∷ n ∷ s
 code truncated = 1 ∷ []
 code malformed = 2 ∷ []
 
-abbrev pub writtenSo : ℕ → List ℕ → Scan → Bool
-writtenSo more bytes (value v n s) = same (groups more v ++ s) bytes
-writtenSo more bytes truncated = true
-writtenSo more bytes malformed = true
+abbrev pub writtenSo : (ℕ → List ℕ) → List ℕ → Scan → Bool
+writtenSo write bytes (value v n s) = same (write v ++ s) bytes
+writtenSo write bytes truncated = true
+writtenSo write bytes malformed = true
 
 abbrev pub holds : Row → Bool
 holds r =
-    same (code (scanWith (r .more) (r .top) (r .bytes))) (code (r .outcome))
-    && writtenSo (r .more) (r .bytes) (r .outcome)
+    same (code (r .read (r .bytes))) (code (r .outcome))
+    && writtenSo (r .write) (r .bytes) (r .outcome)
 
 abbrev pub every : (Row → Bool) → List Row → Bool
 every p [] = true
 every p (r ∷ rs) = p r && every p rs
 
 -- ---- the rows
--- of three bytes at most
+-- 01's own numbers
 abbrev pub short : List ℕ → Scan → Row
-short s x = record { more = 2; top = 3; bytes = s; outcome = x }
+short s x = record { read = readNumber; write = bytesOf; bytes = s; outcome = x }
 
 -- of ten bytes at most
 abbrev pub long : List ℕ → Scan → Row
-long s x = record { more = 9; top = 1; bytes = s; outcome = x }
+long s x = record { read = scanWith 9 1; write = groups 9; bytes = s; outcome = x }
 
 abbrev pub rows : List Row
 rows =
@@ -58,10 +58,11 @@ rows =
     short (127 ∷ []) (value 127 1 [])
     ∷ short (128 ∷ 1 ∷ []) (value 128 2 [])
     ∷ short (255 ∷ 255 ∷ 3 ∷ []) (value 65535 3 [])
-    -- `80 00`, `FF FF 04`, `FF FF 84`, `80 80 00`
+    -- `80 00`, `FF FF 04`, `FF FF 84`, `80 80 80 01`, `80 80 00`
     ∷ short (128 ∷ 0 ∷ []) malformed
     ∷ short (255 ∷ 255 ∷ 4 ∷ []) malformed
     ∷ short (255 ∷ 255 ∷ 132 ∷ []) malformed
+    ∷ short (128 ∷ 128 ∷ 128 ∷ 1 ∷ []) malformed
     ∷ short (128 ∷ 128 ∷ 0 ∷ []) malformed
     -- nothing, `80`, `80 80`
     ∷ short [] truncated

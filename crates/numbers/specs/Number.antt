@@ -5,22 +5,26 @@
 --     byteCount, listBytes  how many bytes a number takes; the bytes of a list of numbers
 --     limitOf               the first number that no longer fits
 --     Scanned               what was read is just what would be written
+--     InGroups              some bytes are those of a number, by 01's sentence alone
 --     Incomplete            bytes that end within a number;  IllWritten: bytes with no number at their head, nor the
 --                           beginning of one;  IncompleteWith, IllWrittenWith: of any count of bytes
 -- `more` is how many bytes may follow the first, `top` the greatest value of the last byte that may stand: 2 and 3
 -- here, 9 and 1 for numbers of 64 bits. The laws for any two are in `Number/Groups.antt`, `Number/Unread.antt` and, of
--- how far a scan goes, `Number/Extent.antt`; those for 2 and 3 in `Number/Laws.antt`. Assumes nothing.
+-- how far a scan goes, `Number/Extent.antt`; those for 2 and 3 in `Number/Laws.antt`; those of `InGroups` in
+-- `Number/Coding.antt`. Assumes nothing.
 use Prim.Native.Nat.{ℕ, zero, suc, _+_, _-_, _*_, _/_, _%_, _^_, _≤_, _<_}
 use mathlib.Core.Bool.{cond}
 use mathlib.Core.List.{List, [], _∷_, _++_}
 use mathlib.Core.Path.{_≡_}
-use lib.ListN.{length}
+use mathlib.Core.Logic.{_↔_}
+use lib.ListN.{length, getD}
 use lib.Dec.{ltb, leb, eqb}
 use Rattle.numbers.specs.Every.{All}
 pub mod Groups
 pub mod Extent
 pub mod Unread
 pub mod Laws
+pub mod Coding
 
 -- a byte is below 256
 abbrev pub Bytes : List ℕ → Type 0
@@ -94,6 +98,19 @@ pub record Scanned (more top : ℕ) (s : List ℕ) (v n : ℕ) (rest : List ℕ)
   pub whole : s ≡ groups more v ++ rest
   pub small : v < limitOf more top
   pub taken : n ≡ length (groups more v)
+
+-- 01, "Numbers and table": the bytes s of the number v, byte by byte: byte i is `getD s i 0`
+pub record InGroups (v : ℕ) (s : List ℕ) : Type 0 where
+  pub bytes : Bytes s
+  -- "A number is written in groups of seven bits, lowest group first": the seven bits of v from bit 7 × i on
+  pub group : (i : ℕ) → i < length s → getD s i 0 % 128 ≡ v / 128 ^ i % 128
+  -- "a byte's top bit is set when another group follows"
+  pub top : (i : ℕ) → i < length s → (128 ≤ getD s i 0) ↔ (suc i < length s)
+  -- the groups are all of v; there is one at least
+  pub whole : v < 128 ^ length s
+  pub some : 1 ≤ length s
+  -- "It has the fewest bytes"
+  pub fewest : (n : ℕ) → 1 ≤ n → v < 128 ^ n → length s ≤ n
 
 -- 01, "When the monitor declines": 3, "cut short": the bytes of some number begin with s, and go on
 pub record IncompleteWith (more top : ℕ) (s : List ℕ) : Type 0 where

@@ -4,6 +4,7 @@ use crate::terms::read_term;
 use table::Refusal;
 use table::Spot;
 use table::TermEnd;
+use table::layout;
 ghost use Prim.Native.Nat.{_<_, _≤_};
 ghost use lib.ListN.{length};
 ghost use Rattle.table.specs.Index.{setsIn};
@@ -38,8 +39,8 @@ fn read_definition(
             place: at,
         });
     }
-    work[7232 + d] = n as u64;
-    work[7265 + d] = level as u64;
+    work[layout::BODIES_AT + d] = n as u64;
+    work[layout::LEVELS_AT + d] = level as u64;
     read_term(
         list,
         work,

@@ -1,36 +1,31 @@
-// Storing a term as a word, with the place of its kind in the list beside it; and reading a term
-// without terms in it.
-//     word = kind + 2^3 * parameter + 2^6 * parallel + 2^7 * entry + 2^8 * prefixes + 2^14 * own
-//            + 2^19 * right + 2^30 * target
+// Storing a term as a word, whose digits `table::layout` has; reading a term without terms in it.
 use table::Head;
 use table::Refusal;
 use table::Spot;
 use table::TermEnd;
+use table::layout;
 ghost use mathlib.Core.Path.{_≡_};
 ghost use Prim.Native.Nat.{_+_, _<_, _≤_};
-ghost use lib.ListN.{length, set};
-ghost use Rattle.table.specs.Index.{setsIn, packed};
-ghost use Rattle.table.specs.Parse.{SpotFits, HeadFits};
+ghost use lib.ListN.{length};
+ghost use Rattle.table.specs.Index.{setsIn};
+ghost use Rattle.table.specs.Parse.{SpotFits, HeadFits, WordStored};
 ghost use Rattle.table.specs.Parse.Terms.{LeafRead, TermReadBy, callRest};
 
 // Stores term n, whose right side, if it has one, has the number `right`.
 pub fn store_term(work: &mut [u64], n: usize, h: Head, right: usize)
     requires { ⌜ (length (now work) ≡ 8192) × (n < 1024) × (right ≤ 1024) × HeadFits h ⌝ }
-    ensures { λ _.
-        ⌜ now (work .exit)
-        ≡ set
-        (set (now (work .entry)) (4096 + n)
-        (packed (h .spot) (h .kind) (h .parameter) right (h .target))) (5120 + n) (h .place) ⌝ }
+    ensures { λ _. ⌜ WordStored h n right (now (work .entry)) (now (work .exit)) ⌝ }
 {
     let s = h.spot;
     let low = h.kind
-        + h.parameter * 8
-        + s.parallel * 64
-        + s.entry * 128
-        + s.prefixes * 256
-        + s.own * 16384;
-    work[4096 + n] = low + right as u64 * 524288 + h.target * 1073741824;
-    work[5120 + n] = h.place as u64;
+        + h.parameter * layout::PARAMETER_UNIT
+        + s.parallel * layout::PARALLEL_UNIT
+        + s.entry * layout::ENTRY_UNIT
+        + s.prefixes * layout::PREFIXES_UNIT
+        + s.own * layout::OWN_UNIT;
+    work[layout::TERMS_AT + n] = low
+        + right as u64 * layout::RIGHT_UNIT
+        + h.target * layout::TARGET_UNIT;
 }
 
 // A term without terms in it, whose numbers end before `next`.
@@ -66,7 +61,6 @@ pub fn read_call(list: &[u16], work: &mut [u64], at: usize, n: usize, spot: Spot
             parameter: 0,
             target: d,
             spot,
-            place: at,
         },
         p + 1,
     )

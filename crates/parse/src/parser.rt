@@ -5,6 +5,7 @@ use table::Judged;
 use table::Place;
 use table::Refusal;
 use table::TermEnd;
+use table::layout;
 ghost use mathlib.Core.Path.{_≡_};
 ghost use lib.ListN.{length};
 ghost use Rattle.table.specs.Parse.{ParseDone};
@@ -12,16 +13,18 @@ ghost use Rattle.table.specs.Parse.Header.{Header};
 ghost use Rattle.table.specs.Parse.Structure.{counted};
 ghost use Prim.Native.Nat.{_≤_};
 
-// Stores the alphabet size, the number of definitions and of terms, and where the body after the
-// last would stand.
-fn store_counts(work: &mut [u64], alphabet: u16, definitions: usize, terms: usize)
+// Stores the alphabet size, the number of definitions and of terms, the place where the definitions
+// start, and where the body after the last would stand.
+fn store_counts(work: &mut [u64], alphabet: u16, definitions: usize, terms: usize, start: usize)
     requires { ⌜ (length (now work) ≡ 8192) × (definitions ≤ 32) ⌝ }
-    ensures { λ _. ⌜ now (work .exit) ≡ counted (now (work .entry)) alphabet definitions terms ⌝ }
+    ensures { λ _.
+        ⌜ now (work .exit) ≡ counted (now (work .entry)) alphabet definitions terms start ⌝ }
 {
-    work[7232 + definitions] = terms as u64;
-    work[7305] = alphabet as u64;
-    work[7306] = definitions as u64;
-    work[7307] = terms as u64;
+    work[layout::BODIES_AT + definitions] = terms as u64;
+    work[layout::ALPHABET_AT] = alphabet as u64;
+    work[layout::DEFINITION_COUNT_AT] = definitions as u64;
+    work[layout::TERM_COUNT_AT] = terms as u64;
+    work[layout::START_AT] = start as u64;
 }
 
 // The definitions of a table, whose number stands at a place, and the end of the list.
@@ -56,7 +59,7 @@ fn parse_definitions(list: &[u16], work: &mut [u64], sets: usize, at: usize) -> 
                     place: next,
                 });
             }
-            store_counts(work, list[0], count, terms);
+            store_counts(work, list[0], count, terms, at + 1);
             Judged::Accepted
         }
         TermEnd::NoTerm(r) => Judged::Declined(r),

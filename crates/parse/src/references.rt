@@ -1,6 +1,7 @@
 // Reading a set reference: a set number and, for a kind 1 set, a parameter.
 use table::Reference;
 use table::Refusal;
+use table::layout;
 ghost use Prim.Native.Nat.{_≤_};
 ghost use lib.ListN.{length};
 ghost use Rattle.table.specs.Index.{setsIn};
@@ -25,7 +26,7 @@ pub fn read_reference(list: &[u16], work: &[u64], sets: usize, at: usize) -> Ref
             place: at,
         });
     }
-    let w = work[7168 + s];
+    let w = work[layout::SETS_AT + s];
     let p = at + 1;
     if w % 2 == 0 {
         return Reference::Found {

@@ -13,7 +13,7 @@ use table::Reference;
 use table::Refusal;
 use table::Spot;
 use table::TermEnd;
-ghost use Prim.Native.Nat.{_+_, _<_, _≤_};
+ghost use Prim.Native.Nat.{ℕ, _+_, _<_, _≤_};
 ghost use lib.ListN.{length};
 ghost use Rattle.table.specs.Index.{setsIn};
 ghost use Rattle.table.specs.Node.{followerSpot};
@@ -66,7 +66,6 @@ pub fn read_term(
                 parameter: 0,
                 target: 0,
                 spot,
-                place: at,
             },
             at + 1,
         ),
@@ -78,7 +77,6 @@ pub fn read_term(
                 parameter: 0,
                 target: 0,
                 spot,
-                place: at,
             },
             at + 1,
         ),
@@ -100,7 +98,6 @@ pub fn read_term(
                         parameter,
                         target,
                         spot,
-                        place: at,
                     },
                 )
             }
@@ -112,7 +109,6 @@ pub fn read_term(
                 parameter: 0,
                 target: 0,
                 spot,
-                place: at,
             };
             read_sides(list, work, sets, at + 1, n, deep - 1, h, side(spot))
         }
@@ -127,7 +123,6 @@ pub fn read_term(
                     parameter,
                     target,
                     spot,
-                    place: at,
                 };
                 read_sides(list, work, sets, next, n, deep - 1, h, beside(spot))
             }
@@ -141,7 +136,7 @@ pub fn read_term(
     }
 }
 
-// A prefix's follower at a place; then the prefix, number n, is stored.
+// A prefix's follower at a place; then the prefix, number n, whose kind stands at i, is stored.
 fn read_follower(
     list: &[u16],
     work: &mut [u64],
@@ -155,11 +150,10 @@ fn read_follower(
     requires { ⌜ (at ≤ length (now list)) × (n < 1024) ⌝ }
     requires { ⌜ HeadFits h × (h .spot .prefixes + deep < 32) ⌝ }
     ensures { λ res.
-        ⌜ ((r : SetRef)
-        → HeadOf (setsIn (now (list .entry))) h (followerSpot (h .spot)) at (before r)
+        ⌜ ((i : ℕ) (r : SetRef)
+        → HeadOf (setsIn (now (list .entry))) h i (followerSpot (h .spot)) at (before r)
         → TermReadBy (followerOf (setsIn (now (list .entry))) deep n r) (setsIn (now (list .entry)))
-        (now (list .entry)) (h .spot) n (h .place) at (now (work .entry)) (now (work .exit))
-        res) ⌝ }
+        (now (list .entry)) (h .spot) n i at (now (work .entry)) (now (work .exit)) res) ⌝ }
 {
     let s = h.spot;
     match read_term(list, work, sets, at, n + 1, deep, follower(s)) {
@@ -185,10 +179,9 @@ fn read_sides(
     requires { ⌜ SetsReady (now list) (now work) sets ⌝ }
     requires { ⌜ (at ≤ length (now list)) × (n < 1024) × HeadFits h × SpotFits inner deep ⌝ }
     ensures { λ res.
-        ⌜ ((g : Joint) → TwoSided g → HeadOf (setsIn (now (list .entry))) h inner at g
+        ⌜ ((i : ℕ) (g : Joint) → TwoSided g → HeadOf (setsIn (now (list .entry))) h i inner at g
         → TermReadBy (sidesOf (setsIn (now (list .entry))) deep n g) (setsIn (now (list .entry)))
-        (now (list .entry)) (h .spot) n (h .place) at (now (work .entry)) (now (work .exit))
-        res) ⌝ }
+        (now (list .entry)) (h .spot) n i at (now (work .entry)) (now (work .exit)) res) ⌝ }
 {
     match read_term(list, work, sets, at, n + 1, deep, inner) {
         TermEnd::NextTerm { next, terms } => {

@@ -6,6 +6,7 @@
 --     after                           the residuals after an event
 --     pushed, pushAll                 a slot with one word more, with several more
 --     Resolves, resolvedInto          what resolving the i-th residual of a term asks; the slot it gives
+--     Lands                           where the way to it comes to
 -- The laws are in `Residual/Resolved.antt`, `Kinds.antt` and `Nth.antt` (lists), `Pushed.antt`, `Into.antt` and
 -- `Ways.antt` (slots), and `Descent.antt`. Assumes nothing.
 use Prim.Native.Nat.{ℕ, zero, suc, _+_, _<_, _≤_}
@@ -17,6 +18,8 @@ use lib.Dec.{eqb}
 use Rattle.table.specs.Table.{Term, stop, fail, prefix, choice, par, call, Table, size, bodyNumber, termCount}
 use Rattle.table.specs.Branches.{branches, bodyIn}
 use Rattle.table.specs.Node.{termOf, kindOf}
+use Rattle.residual.specs.declared.descent.Landed.{Landed}
+use Rattle.residual.specs.declared.descent.Landed.the-variants.{Nothing, Leaf, Pair}
 use Rattle.residual.specs.Words.{nodeWord, remember, inSet}
 use Rattle.residual.specs.Lawful.{Below}
 pub mod Resolved
@@ -109,6 +112,14 @@ pub record Resolves (t : Table) (bound n m i : ℕ) (slot : List ℕ) : Type 0 w
 -- the i-th resolved residual of term n, written into a slot
 unfoldable pub resolvedInto : Table → ℕ → ℕ → ℕ → List ℕ → List ℕ
 resolvedInto t n m i slot = pushAll slot (words (nth (resolved t n m) i))
+
+-- where the way to it comes to, through choices and calls: its node word, or a parallel that has it. A residual that
+-- there is has such a place
+unfoldable pub Lands : Table → ℕ → ℕ → ℕ → List ℕ → Landed → Type 0
+Lands t n m i slot Nothing = ⊥
+Lands t n m i slot (Leaf w) = (getD slot 0 0 < 15) × (pushed slot w ≡ resolvedInto t n m i slot)
+Lands t n m i slot (Pair b k x j) =
+    Resolves t b k x j slot × (resolvedInto t k x j slot ≡ resolvedInto t n m i slot)
 
 -- the same of definition d
 pub record ResolvesDefinition (t : Table) (d i : ℕ) (slot : List ℕ) : Type 0 where

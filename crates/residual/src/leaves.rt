@@ -1,7 +1,7 @@
 // A leaf's distinct results: the indices of the residuals of a term that did not occur before.
 // A result is compared with those kept by its key first. The definitions are in
 // `specs/Distinct.antt`.
-use crate::descend::resolve_at;
+use crate::descent::resolve_at;
 use slots::store;
 ghost use mathlib.Core.Path.{_≡_};
 ghost use Prim.Native.Nat.{_+_, _*_, _<_, _≤_};

@@ -1,12 +1,14 @@
 // Residuals as words (01, "Residuals"): node words, the residuals that a term is resolved to, and a
 // leaf's distinct results. The definitions are in `specs/`; `specs/Lib.antt` lists them in reading
 // order.
-mod descend;
+mod descent;
 mod leaves;
 mod resolve;
 mod words;
 
-pub use descend::resolve_at;
+pub use descent::Landed;
+pub use descent::descend;
+pub use descent::resolve_at;
 pub use leaves::distinct;
 pub use resolve::push;
 pub use resolve::resolve_definition;

@@ -39,6 +39,7 @@ pub fn resolve_term(
     let k = index::kind(list, work, n);
     match k {
         0 | 2 => push(slot, node(n, m)),
+        1 => slot,
         3 => {
             let r = index::right(list, work, n);
             let c = index::branches(list, work, n + 1);
@@ -56,7 +57,7 @@ pub fn resolve_term(
             resolve_term(list, work, bound, r, m, i % c, t)
         }
         5 => resolve_definition(list, work, index::called(list, work, n), i, slot),
-        1 | 6..=18446744073709551615 => slot,
+        6..=18446744073709551615 => slot,
     }
 }
 

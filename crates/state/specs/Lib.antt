@@ -1,5 +1,6 @@
 -- What the code on a caller's state promises in terms of the monitor's specification (crate monitor_spec), in reading
--- order: the record and the answers; valid slots. Assumes nothing.
+-- order: the record, the answers and View's part; valid slots. Assumes nothing.
 pub mod Record
 pub mod Answers
+pub mod Viewed
 pub mod Walk

@@ -4,7 +4,7 @@
 --     counted, failing, holding        one event more; failed; so many residuals held
 --     Successor                        the record after an event
 --     lengthsFit                       lent lengths, as numbers
--- The laws are in `Record/`: `Laws`; `View`, of what View hands back. Assumes nothing.
+-- The laws are in `Record/Laws.antt`. Assumes nothing.
 use Prim.Native.Nat.{ℕ, suc, _%_}
 use mathlib.Core.Path.{_≡_}
 use mathlib.Core.Bool.{Bool, _&&_}
@@ -17,7 +17,6 @@ use Rattle.state.specs.declared.record.State.{State as StateCode}
 use Rattle.monitor_spec.specs.State.{Verdict, running, failedAt, State, Monitor}
 use Rattle.monitor_spec.specs.Feed.{counterMost, taking}
 pub mod Laws
-pub mod View
 
 -- "running or failed at a place"
 abbrev pub verdictOf : VerdictCode → Verdict

@@ -8,11 +8,30 @@ use residual::kind_at;
 use residual::memory_of;
 use residual::remember;
 use residual::term_of;
-ghost use Prim.Native.Nat.{_+_, _*_, _≤_};
+ghost use mathlib.Core.Path.{_≡_};
+ghost use Prim.Native.Nat.{_+_, _*_, _<_, _≤_};
 ghost use lib.ListN.{length};
+ghost use lib.Dec.{eqb};
+ghost use Rattle.table.specs.Table.{termCount};
 ghost use Rattle.table.specs.Index.{tableIn, Indexed};
+ghost use Rattle.residual.specs.Words.{termOfWord, kindAt};
 ghost use Rattle.walk.specs.Course.{nodeCount};
 ghost use Rattle.step.specs.Prepared.{Sound, NodeFilled, Blanked, Fills};
+
+// Whether a node is a prefix, by the kind of its term. A residual's other nodes are STOP and pairs.
+fn is_prefix(list: &[u16], work: &[u64], w: u64) -> bool
+    requires { ⌜ Indexed (now list) (now work) ⌝ }
+    requires { ⌜ termOfWord w < termCount (tableIn (now list)) ⌝ }
+    ensures { λ r. ⌜ r ≡ eqb (kindAt (tableIn (now (list .entry))) w) 2 ⌝ }
+{
+    match kind_at(list, work, w) {
+        2 => true,
+        0 | 3 | 5 => false,
+        4 => false,
+        1 => false,
+        6..=18446744073709551615 => false,
+    }
+}
 
 // Fills node k's part of the store: the number of its results and their indices.
 fn prepare_node(list: &[u16], work: &[u64], bound: usize, e: u64, store: &mut [u64], k: usize)
@@ -25,7 +44,7 @@ fn prepare_node(list: &[u16], work: &[u64], bound: usize, e: u64, store: &mut [u
 {
     let w = store[k];
     let at = k * 257;
-    if kind_at(list, work, w) != 2 {
+    if !is_prefix(list, work, w) {
         store[at] = 0;
         return;
     }

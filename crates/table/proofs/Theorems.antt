@@ -22,6 +22,7 @@ use Rattle.table.specs.BytesRefused.Given.{refused-bytes-in}
 use Rattle.table.specs.Equations.{branches-call, resolve-call, width-level, resolve-count}
 use Rattle.table.specs.Examples.Laws.{numbers-hold, tables-hold, counts-hold, longs-hold}
 use Rattle.table.specs.Examples.Laws.{reads-hold, writes-hold}
+use Rattle.table.specs.Bounds.Laws.{bounds-hold}
 use Rattle.table.specs.Operations.Laws as operations
 use Rattle.table.specs.Operations.Ways.{read-ways, write-ways}
 use Rattle.table.specs.Claims.{ReadLeaves, WriteLeaves}
@@ -29,7 +30,7 @@ use Rattle.table.specs.Claims.{NumberReadsBack, NumberCanonical, TableRe
 use Rattle.table.specs.Claims.{AcceptedExactly, AcceptedBytesExactly, AcceptedWritesBack, WrittenReadsBack}
 use Rattle.table.specs.Claims.{RefusedExactly, RefusedBytesExactly, ManyAtTerm, FieldsAreMarks}
 use Rattle.table.specs.Claims.{BranchesOfCall, ResolvedCall, WidthOfLevel, ResolvedCount, ReadFills, Examples}
-use Rattle.table.specs.Claims.{ResolvedReach, ReachMost, CappedBranches}
+use Rattle.table.specs.Claims.{ResolvedReach, ReachMost, CappedBranches, Bounds}
 
 pub number-reads-back : NumberReadsBack
 unfolding NumberReadsBack
@@ -131,3 +132,7 @@ read-fills = operations.read-fills
 pub examples : Examples
 unfolding Examples
 examples = (numbers-hold, tables-hold, counts-hold, longs-hold, reads-hold, writes-hold)
+
+pub bounds : Bounds
+unfolding Bounds
+bounds = bounds-hold

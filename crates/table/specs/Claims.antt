@@ -15,7 +15,7 @@
 --     BranchesOfCall, ResolvedCall, WidthOfLevel, ResolvedCount    01's sentences on calls, as equations
 --     ReadLeaves, WriteLeaves             what Read and Write give, by the lent lengths and the judgement
 --     ReadFills                           Read's output keeps its length
---     Examples                            worked inputs
+--     Examples, Bounds                    worked inputs; both sides of each bound, and which of two refusals is given
 -- Assumes nothing.
 use Prim.Native.Nat.{ℕ, _+_, _≤_, _<_, _-_}
 use mathlib.Core.Path.{_≡_}
@@ -42,6 +42,8 @@ use Rattle.table.specs.Branches.Capped.{capped, cappedWith, allCapped}
 use Rattle.table.specs.Resolve.{Memory, noMemory, resolve, reachSum}
 use Rattle.table.specs.Equations.{callCount}
 use Rattle.table.specs.Examples.{every, numberRows, tableRows, countRows, longRows, readRows, writeRows}
+use Rattle.table.specs.Bounds.{alphabetRows, setRows, definitionRows, parameterRows, callRows, widthRows}
+use Rattle.table.specs.Bounds.{branchRows, orderRows}
 use Rattle.table.specs.Rules.{Rules}
 use Rattle.table.specs.Marks.{tableMarks, Shape}
 use Rattle.table.specs.Parser.Mark.{Mark, numbers, Pass}
@@ -158,3 +160,9 @@ unfoldable pub Examples : Type 0
 Examples =
     T (every numberRows) × T (every tableRows) × T (every countRows) × T (every longRows) × T (every readRows)
     × T (every writeRows)
+
+-- 01, "Numbers and table": each number of it, on both sides; "When the monitor declines": "Order"
+unfoldable pub Bounds : Type 0
+Bounds =
+    T (every alphabetRows) × T (every setRows) × T (every definitionRows) × T (every parameterRows)
+    × T (every callRows) × T (every widthRows) × T (every branchRows) × T (every orderRows)

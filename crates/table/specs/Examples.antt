@@ -53,11 +53,6 @@ abbrev pub deep : ℕ → List ℕ
 deep zero = 0 ∷ []
 deep (suc n) = 2 ∷ 0 ∷ deep n
 
--- a choice of n + 1 STOPs
-abbrev pub stops : ℕ → List ℕ
-stops zero = 0 ∷ []
-stops (suc n) = 3 ∷ 0 ∷ stops n
-
 -- n parallels over set 0, then a term
 abbrev pub beside : ℕ → List ℕ → List ℕ
 beside zero p = p
@@ -127,10 +122,13 @@ abbrev pub tower : ℕ → ℕ → List ℕ
 tower d zero = []
 tower d (suc n) = 0 ∷ (eightCalls d ++ tower (suc d) n)
 
--- 01, "Hands of a term", "at most 8"; "256 openings stand, 257 is 9"; "at most 1,024"
+-- 01, "Hands of a term", "at most 8"; "call to its own level 1": definition 0 is a prefix to a call of itself;
+-- "256 openings stand, 257 is 9"; "at most 1,024"
 unfoldable pub countRows : List Bool
 countRows =
-    listIs (S0 ++ (1 ∷ 2 ∷ beside 8 (1 ∷ []))) 8 2
+    listIs (S0 ++ (2 ∷ 0 ∷ 2 ∷ 0 ∷ 5 ∷ 0 ∷ []) ++ (1 ∷ callsBeside 7)) 0 42
+    ∷ listIs (S0 ++ (2 ∷ 0 ∷ 2 ∷ 0 ∷ 5 ∷ 0 ∷ []) ++ (1 ∷ callsBeside 8)) 8 1
+    ∷ listIs (S0 ++ (1 ∷ 2 ∷ beside 8 (1 ∷ []))) 8 2
     ∷ listIs (S0 ++ (1 ∷ 2 ∷ beside 7 (1 ∷ []))) 0 29
     ∷ listIs (S0 ++ (3 ∷ 0 ∷ beside 7 (0 ∷ [])) ++ (0 ∷ 2 ∷ 0 ∷ 0 ∷ []) ++ (1 ∷ 4 ∷ 0 ∷ 5 ∷ 1 ∷ 0 ∷ [])) 8 1
     ∷ listIs (S0 ++ (2 ∷ 0 ∷ beside 7 (0 ∷ [])) ++ (0 ∷ 2 ∷ 0 ∷ 5 ∷ 0 ∷ [])) 0 34
@@ -156,9 +154,9 @@ abbrev pub copies : ℕ → List ℕ → List ℕ
 copies zero l = []
 copies (suc n) l = l ++ copies n l
 
--- A = 64 and n kind 1 sets of full rows
-abbrev pub fullSets : ℕ → List ℕ
-fullSets n = 64 ∷ n ∷ copies n (1 ∷ copies 64 (64 ∷ upTo 64 []))
+-- A = 64, four kind 1 sets of full rows, and set 4, {}: 16,648 numbers
+abbrev pub overlong : List ℕ
+overlong = 64 ∷ 5 ∷ (copies 4 (1 ∷ copies 64 (64 ∷ upTo 64 [])) ++ (0 ∷ 0 ∷ []))
 
 -- A = 64, three kind 1 sets of full rows, and a fourth of 59 full rows, one of n events and four of none
 abbrev pub nearlyFull : ℕ → List ℕ
@@ -166,16 +164,17 @@ nearlyFull n =
     let full : List ℕ = 64 ∷ upTo 64 [] in
     64 ∷ 4 ∷ (copies 3 (1 ∷ copies 64 full) ++ (1 ∷ (copies 59 full ++ (n ∷ upTo n (replicate 4 0)))))
 
--- 01, "Numbers and table": "A table is at most 16,384 bytes"
--- 01, "When the monitor declines": "2 (its bytes would be too many) stands right after 9"
+-- 01: "A table is at most 16,384 bytes"; "2 (its bytes would be too many) stands right after 9"
 unfoldable pub longRows : List Bool
 longRows =
     bytesAre (nearlyFull 55 ++ (1 ∷ 0 ∷ 0 ∷ [])) 0 16384
     ∷ listIs (nearlyFull 55 ++ (1 ∷ 0 ∷ 0 ∷ [])) 0 16384
     ∷ bytesAre (nearlyFull 56 ++ (1 ∷ 0 ∷ 0 ∷ [])) 2 0
     ∷ listIs (nearlyFull 56 ++ (1 ∷ 0 ∷ 0 ∷ [])) 2 0
-    ∷ listIs (fullSets 4 ++ (1 ∷ 0 ∷ 0 ∷ [])) 2 0
-    ∷ listIs (fullSets 4 ++ (1 ∷ 0 ∷ 5 ∷ 9 ∷ [])) 7 16649
+    ∷ listIs (overlong ++ (1 ∷ 0 ∷ 0 ∷ [])) 2 0
+    ∷ listIs (overlong ++ (1 ∷ 0 ∷ 5 ∷ 9 ∷ [])) 7 16651
+    ∷ listIs (overlong ++ (1 ∷ 0 ∷ copies 8 (4 ∷ 4 ∷ 0 ∷ [])) ++ (0 ∷ [])) 8 0
+    ∷ listIs (overlong ++ (1 ∷ 0 ∷ 3 ∷ balanced 8) ++ (0 ∷ [])) 9 0
     ∷ []
 
 -- ---- Read and Write
@@ -218,8 +217,10 @@ tooManyOpenings = S0 ++ (1 ∷ 0 ∷ 3 ∷ balanced 8) ++ (0 ∷ [])
 unfoldable pub readRows : List Bool
 readRows =
     leaves (readOf tableB (junk 16384) (junk 8192)) 0 16 (tableB ++ zeros 16368) (zeros 8192)
+    ∷ leaves (readOf tableB (junk 16383) (junk 8192)) 1 0 (junk 16383) (junk 8192)
     ∷ leaves (readOf tableB (junk 16385) (junk 8192)) 1 0 (junk 16385) (junk 8192)
     ∷ leaves (readOf tableB (junk 16384) (junk 8191)) 1 0 (junk 16384) (junk 8191)
+    ∷ leaves (readOf (zeros 16385) (junk 16384) (junk 8193)) 1 0 (junk 16384) (junk 8193)
     ∷ readRefuses (zeros 16385) 2 0
     ∷ readRefuses (3 ∷ 2 ∷ 0 ∷ []) 3 3
     ∷ readRefuses (128 ∷ 0 ∷ []) 4 0
@@ -237,6 +238,7 @@ writeRows =
     ∷ leaves (writeOf tableB (junk 16) (junk 8192)) 0 16 tableB (zeros 8192)
     ∷ leaves (writeOf tableB (junk 15) (junk 8192)) 1 0 (junk 15) (zeros 8192)
     ∷ leaves (writeOf tableB (junk 20) (junk 8191)) 1 0 (junk 20) (junk 8191)
+    ∷ leaves (writeOf (tableB ++ (0 ∷ [])) (junk 20) (junk 8193)) 1 0 (junk 20) (junk 8193)
     ∷ leaves (writeOf (tableB ++ (0 ∷ [])) [] (junk 8192)) 6 16 [] (zeros 8192)
     ∷ writeRefuses (nearlyFull 56 ++ (1 ∷ 0 ∷ 0 ∷ [])) 2 0
     ∷ writeRefuses (3 ∷ 2 ∷ 0 ∷ []) 3 3

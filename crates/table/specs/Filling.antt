@@ -1,5 +1,5 @@
 -- What the functions that store widths and branches in the work area ask and promise.
---     Kept                                          the words outside a part are as they were
+--     Kept, ReachKept                               the words outside a part, and the reach of terms, are as they were
 --     storedCall                                    what a call counts in a level, by the stored widths of levels
 --     WidthKnown, WidthAsked, WidthGiven            the width of one term
 --     WidthsAsked, WidthsFilled                     the widths of the terms from one number up to another
@@ -22,6 +22,7 @@ use Rattle.table.specs.Width.{widthWith, widest}
 use Rattle.table.specs.Branches.{branches, bodyIn}
 use Rattle.table.specs.Branches.Capped.{capped}
 use Rattle.table.specs.Node.{Node, nodeAt, termOf}
+use Rattle.table.specs.Layout.{termsAt, setsAt, widthsAt, branchCounts, widthDigit, reachDigit, branchesDigit}
 use Rattle.table.specs.Index.{Structured, Branching}
 pub mod Kinds
 pub mod Spans
@@ -30,6 +31,7 @@ pub mod Widths
 pub mod Levels
 pub mod Wide
 pub mod Branches
+pub mod Fill
 pub mod Bodies
 pub mod Excess
 
@@ -42,10 +44,10 @@ Kept a b w w' = (x : ℕ) → ((a ≤ x) × (x < b) → ⊥) → getD w' x 0 ≡
 -- "call to its own level 1, to a lower level that level's hands"
 unfoldable pub storedCall : Table → List ℕ → ℕ → ℕ → ℕ
 storedCall t w level d =
-    cond (eqb (levelIn (t .definitions) d) level) 1 (getD w (7297 + levelIn (t .definitions) d) 0)
+    cond (eqb (levelIn (t .definitions) d) level) 1 (getD w (widthsAt + levelIn (t .definitions) d) 0)
 
 pub record WidthKnown (t : Table) (w : List ℕ) (calls : ℕ → ℕ) (n : ℕ) : Type 0 where
-  pub value : getD w (5120 + n) 0 ≡ widthWith calls (termOf t n)
+  pub value : widthDigit (getD w (termsAt + n) 0) ≡ widthWith calls (termOf t n)
   pub small : widthWith calls (termOf t n) ≤ 8 * size (termOf t n)
 
 -- where term n is a call, it names a definition, and counts at most 8
@@ -78,7 +80,7 @@ pub record WidthsAsked (t : Table) (w : List ℕ) (from to level : ℕ) : Type 0
 
 pub record WidthsFilled (t : Table) (w w' : List ℕ) (from to level : ℕ) : Type 0 where
   pub structure : Structured t w'
-  pub kept : Kept (5120 + from) (5120 + to) w w'
+  pub kept : Kept (termsAt + from) (termsAt + to) w w'
   pub known : (n : ℕ) → from ≤ n → n < to → WidthKnown t w' (storedCall t w level) n
 
 -- the widths of the levels below are stored
@@ -87,7 +89,7 @@ pub record LevelAsked (t : Table) (w : List ℕ) (level : ℕ) : Type 0 where
   pub structure : Structured t w
   pub linked : firstWrong t ≡ none
   pub inside : level ≤ 7
-  pub lower : (k : ℕ) → k < level → getD w (7297 + k) 0 ≤ 8
+  pub lower : (k : ℕ) → k < level → getD w (widthsAt + k) 0 ≤ 8
 
 -- what body d adds to a level: its width, or 0 where it is of another level
 unfoldable pub bodyWidth : Table → List ℕ → ℕ → ℕ → ℕ
@@ -96,18 +98,23 @@ bodyWidth t w level d =
 
 pub record BodyDone (t : Table) (w w' : List ℕ) (d level r : ℕ) : Type 0 where
   pub structure : Structured t w'
-  pub kept : Kept 5120 6144 w w'
+  pub kept : Kept termsAt setsAt w w'
   pub value : r ≡ bodyWidth t w level d
 
 pub record LevelDone (t : Table) (w w' : List ℕ) (level r : ℕ) : Type 0 where
   pub structure : Structured t w'
-  pub kept : Kept 5120 6144 w w'
+  pub kept : Kept termsAt setsAt w w'
   pub value : r ≡ widest (widthWith (storedCall t w level)) level (t .definitions)
 
 -- ---- branches
 
 abbrev pub BranchesKnown : Table → List ℕ → ℕ → Type 0
-BranchesKnown t w n = getD w (6144 + n) 0 ≡ capped (branches t (termOf t n))
+BranchesKnown t w n = branchesDigit (getD w (termsAt + n) 0) ≡ capped (branches t (termOf t n))
+
+-- the reach of every term is as it was
+abbrev pub ReachKept : List ℕ → List ℕ → Type 0
+ReachKept w w' =
+    (n : ℕ) → n < 1024 → reachDigit (getD w' (termsAt + n) 0) ≡ reachDigit (getD w (termsAt + n) 0)
 
 abbrev pub prefixesAt : Table → ℕ → ℕ
 prefixesAt t n = nodeAt t n .spot .prefixes
@@ -120,6 +127,7 @@ pub record BranchesAsked (t : Table) (w : List ℕ) (n : ℕ) : Type 0 where
 
 -- right, where the words that it is made from are: those behind with no more prefixes around them, and a called body's
 pub record BranchesGiven (t : Table) (w : List ℕ) (n r : ℕ) : Type 0 where
+  pub small : r < branchCounts
   pub value :
       ((j : ℕ) → n < j → j < n + size (termOf t n) → prefixesAt t j ≤ prefixesAt t n → BranchesKnown t w j)
       → ((d : ℕ) → termOf t n ≡ call d → BranchesKnown t w (bodyNumber t d))
@@ -141,7 +149,8 @@ CallsReady t w from to most =
 
 pub record BranchesFilled (t : Table) (w w' : List ℕ) (from to : ℕ) : Type 0 where
   pub structure : Structured t w'
-  pub kept : Kept (6144 + from) (6144 + to) w w'
+  pub kept : Kept (termsAt + from) (termsAt + to) w w'
+  pub reaches : ReachKept w w'
   pub known : (most : ℕ) → CallsReady t w from to most
       → (n : ℕ) → from ≤ n → n < to → prefixesAt t n ≤ most → BranchesKnown t w' n
 
@@ -152,7 +161,7 @@ pub record AllAsked (t : Table) (w : List ℕ) : Type 0 where
 
 pub record AllDone (t : Table) (w w' : List ℕ) : Type 0 where
   pub structure : Structured t w'
-  pub kept : Kept 6144 7168 w w'
+  pub reaches : ReachKept w w'
   pub branching : Branching t w'
 
 -- ---- the test of refusal 9

@@ -1,21 +1,20 @@
 -- The index of a table in the work area (ours; 01 leaves the work area's use open).
 --     maskOf, setMasks, firstRow, setWord    a row as a mask; a set's masks, first row and word
---     wordOf                                 a term's word
+--     wordOf                                 the structure of a term's word
 --     SetsIndexed, Structured                the sets, and also the terms and definitions, stand in the work area
---     Placed, Reaching, Branching            so do places, reach and branches of the terms
+--     Reaching, Branching                    so do reach and branches of the terms
 --     Indexed                                the index of an accepted number list
--- Words: rows 0 to 4,095, terms from 4,096, reach (places while judging) from 5,120, branches from 6,144, sets from
--- 7,168, bodies from 7,232, levels from 7,265, widths of levels from 7,297, counts from 7,305.
--- The laws are in `Index/Laws.antt`, `Index/Places.antt` and `Index/Sets.antt`. Assumes nothing.
-use Prim.Native.Nat.{ℕ, zero, suc, _+_, _*_, _^_, _<_, _≤_, min}
+-- `Layout.antt` has where each part stands, and the digits of a word. The laws are in `Index/Laws.antt`,
+-- `Index/Places.antt`, `Index/Heads.antt` and `Index/Sets.antt`. Assumes nothing.
+use Prim.Native.Nat.{ℕ, _+_, _*_, _^_, _<_, _≤_}
 use mathlib.Core.Path.{_≡_}
-use mathlib.Core.List.{List, [], _∷_, _++_, flatMap, map}
+use mathlib.Core.List.{List, [], _∷_, flatMap, map}
 use lib.ListN.{length, getD, take}
 use lib.Dec.{leb}
 use mathlib.Core.Bool.{_&&_}
 use Rattle.table.specs.declared.terms.Spot.{Spot}
-use Rattle.table.specs.Table.{SetRef, Term, stop, fail, prefix, choice, par, call, SetDef, one, each}
-use Rattle.table.specs.Table.{Definition, Table, size, termCount, bodyNumber}
+use Rattle.table.specs.Table.{Term, stop, fail, prefix, choice, par, call, SetDef, one, each}
+use Rattle.table.specs.Table.{Table, termCount, bodyNumber}
 use Rattle.table.specs.Tokens.{listTokens}
 use Rattle.table.specs.Parser.{Result, got, refused, number, andThen, times}
 use Rattle.table.specs.Grammar.{eventSet, table}
@@ -23,10 +22,14 @@ use Rattle.table.specs.References.{levelIn}
 use Rattle.table.specs.Width.{reach}
 use Rattle.table.specs.Branches.{branches}
 use Rattle.table.specs.Branches.Capped.{capped}
-use Rattle.table.specs.Judge.{Judgement, accepted, judgeList}
-use Rattle.table.specs.Node.{Node, nodeAt, termOf, kindOf, leftSize, refOf, setOf, parameterOf}
+use Rattle.table.specs.Judge.{accepted, judgeList}
+use Rattle.table.specs.Node.{Node, nodeAt, termOf, kindOf, leftSize, refOf, setOf, parameterOf, definitionsAt}
+use Rattle.table.specs.Layout.{rowsMost, termsAt, setsAt, bodiesAt, levelsAt, alphabetAt, definitionCountAt}
+use Rattle.table.specs.Layout.{termCountAt, startAt, parameterUnit, parallelUnit, entryUnit, prefixesUnit}
+use Rattle.table.specs.Layout.{ownUnit, rightUnit, targetUnit, structureOf, reachDigit, branchesDigit}
 pub mod Laws
 pub mod Places
+pub mod Heads
 pub mod Sets
 
 -- ---- sets
@@ -53,9 +56,9 @@ setWord sets s = firstRow sets s * 2 + kindOfSet (getD sets s (one []))
 
 pub record SetsIndexed (sets : List SetDef) (w : List ℕ) : Type 0 where
   pub few : length sets ≤ 64
-  pub rows-few : length (flatMap setMasks sets) ≤ 4096
+  pub rows-few : length (flatMap setMasks sets) ≤ rowsMost
   pub rows : (i : ℕ) → i < length (flatMap setMasks sets) → getD w i 0 ≡ getD (flatMap setMasks sets) i 0
-  pub words : (s : ℕ) → s < length sets → getD w (7168 + s) 0 ≡ setWord sets s
+  pub words : (s : ℕ) → s < length sets → getD w (setsAt + s) 0 ≡ setWord sets s
 
 -- ---- terms
 
@@ -67,11 +70,11 @@ targetOf sets (choice p q) = 0
 targetOf sets (par r p q) = firstRow sets (setOf r)
 targetOf sets (call d) = d
 
--- the digits of a term's word
+-- the digits of a term's structure
 unfoldable pub packed : Spot → ℕ → ℕ → ℕ → ℕ → ℕ
 packed s kind parameter right target =
-    kind + parameter * 8 + s .parallel * 64 + s .entry * 128 + s .prefixes * 256 + s .own * 16384 + right * 524288
-    + target * 1073741824
+    kind + parameter * parameterUnit + s .parallel * parallelUnit + s .entry * entryUnit + s .prefixes * prefixesUnit
+    + s .own * ownUnit + right * rightUnit + target * targetUnit
 
 unfoldable pub wordOf : List SetDef → ℕ → Node → ℕ
 wordOf sets n x =
@@ -81,22 +84,21 @@ wordOf sets n x =
 pub record Structured (t : Table) (w : List ℕ) : Type 0 where
   pub whole : length w ≡ 8192
   pub sets : SetsIndexed (t .sets) w
-  pub words : (n : ℕ) → n < termCount t → getD w (4096 + n) 0 ≡ wordOf (t .sets) n (nodeAt t n)
-  pub roots : (d : ℕ) → d ≤ length (t .definitions) → getD w (7232 + d) 0 ≡ bodyNumber t d
-  pub levels : (d : ℕ) → d < length (t .definitions) → getD w (7265 + d) 0 ≡ levelIn (t .definitions) d
-  pub alphabet : getD w 7305 0 ≡ t .alphabet
-  pub definitions : getD w 7306 0 ≡ length (t .definitions)
-  pub terms : getD w 7307 0 ≡ termCount t
-
--- while judging: the index of each term's kind among the numbers
-abbrev pub Placed : Table → List ℕ → Type 0
-Placed t w = (n : ℕ) → n < termCount t → getD w (5120 + n) 0 ≡ nodeAt t n .place
+  pub words : (n : ℕ) → n < termCount t
+      → structureOf (getD w (termsAt + n) 0) ≡ wordOf (t .sets) n (nodeAt t n)
+  pub roots : (d : ℕ) → d ≤ length (t .definitions) → getD w (bodiesAt + d) 0 ≡ bodyNumber t d
+  pub levels : (d : ℕ) → d < length (t .definitions) → getD w (levelsAt + d) 0 ≡ levelIn (t .definitions) d
+  pub alphabet : getD w alphabetAt 0 ≡ t .alphabet
+  pub definitions : getD w definitionCountAt 0 ≡ length (t .definitions)
+  pub terms : getD w termCountAt 0 ≡ termCount t
+  pub start : getD w startAt 0 ≡ definitionsAt t
 
 abbrev pub Reaching : Table → List ℕ → Type 0
-Reaching t w = (n : ℕ) → n < termCount t → getD w (5120 + n) 0 ≡ reach t (termOf t n)
+Reaching t w = (n : ℕ) → n < termCount t → reachDigit (getD w (termsAt + n) 0) ≡ reach t (termOf t n)
 
 abbrev pub Branching : Table → List ℕ → Type 0
-Branching t w = (n : ℕ) → n < termCount t → getD w (6144 + n) 0 ≡ capped (branches t (termOf t n))
+Branching t w =
+    (n : ℕ) → n < termCount t → branchesDigit (getD w (termsAt + n) 0) ≡ capped (branches t (termOf t n))
 
 -- ---- the table of a number list
 

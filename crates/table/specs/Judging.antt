@@ -18,15 +18,13 @@ use Rattle.table.specs.declared.answer.First.{First}
 use Rattle.table.specs.declared.answer.First.the-variants.{Nowhere, Broken}
 use Rattle.table.specs.declared.answer.Judged.{Judged}
 use Rattle.table.specs.declared.answer.Judged.the-variants.{Accepted, Declined}
-use Rattle.table.specs.Table.{Table}
 use Rattle.table.specs.Tokens.{listTokens}
 use Rattle.table.specs.Fields.{Fields}
-use Rattle.table.specs.References.{firstWrong}
 use Rattle.table.specs.Width.{tooWide}
 use Rattle.table.specs.Branches.{tooManyBranches}
 use Rattle.table.specs.Judge.{accepted, declined, judge, judgeList}
 use Rattle.table.specs.Operations.{zeros}
-use Rattle.table.specs.Index.{Structured, Placed, Reaching, Branching, Indexed, tableIn}
+use Rattle.table.specs.Index.{Structured, Reaching, Branching, Indexed, tableIn}
 pub mod Laws
 
 pub record Judging (l w : List ℕ) : Type 0 where

@@ -25,9 +25,11 @@ pub mod Operations
 pub mod Answers
 pub mod Node
 pub mod Member
+pub mod Layout
 pub mod Index
 pub mod Parse
 pub mod Judging
 pub mod Filling
 pub mod Examples
+pub mod Bounds
 pub mod Claims

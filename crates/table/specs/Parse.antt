@@ -1,13 +1,14 @@
 -- What the reading functions promise: what the grammar's parsers give at a place of a number list, and what then stands
 -- in the work area.
 --     RowRead, RowsRead, SetRead, SetsRead               a row; rows; a set; the sets
---     ReferenceRead, TermStored, TermRead, DefinitionsRead   a set reference; a term's words; a term; the definitions
+--     ReferenceRead, WordStored, TermStored      a set reference; a term's own word; the words of a term
+--     TermRead, DefinitionsRead                          a term; the definitions
 --     ParseDone                                          the whole table
 -- Assumes nothing.
 use Prim.Native.Nat.{ℕ, zero, suc, _+_, _<_, _≤_}
 use mathlib.Core.Path.{_≡_}
-use mathlib.Core.List.{List, [], _∷_, map}
-use lib.ListN.{length, getD}
+use mathlib.Core.List.{List, [], map}
+use lib.ListN.{length, getD, set}
 use Rattle.table.specs.declared.answer.Refusal.{Refusal}
 use Rattle.table.specs.declared.answer.Place.{Place}
 use Rattle.table.specs.declared.answer.Place.the-variants.{At, Stop}
@@ -23,14 +24,16 @@ use Rattle.table.specs.declared.terms.Reference.{Reference}
 use Rattle.table.specs.declared.terms.Reference.the-variants.{Found, NoReference}
 use Rattle.table.specs.declared.terms.TermEnd.{TermEnd}
 use Rattle.table.specs.declared.terms.TermEnd.the-variants.{NextTerm, NoTerm}
-use Rattle.table.specs.Table.{SetRef, Term, SetDef, Definition, Table, size, sizes}
+use Rattle.table.specs.Table.{SetRef, Term, SetDef, Definition, size, sizes}
 use Rattle.table.specs.Tokens.{listTokens, tokensAt}
-use Rattle.table.specs.Parser.{Parser, Result, got, refused, times}
+use Rattle.table.specs.Parser.{Result, got, refused, times}
 use Rattle.table.specs.Grammar.{row, eventSet, setRef, termWith, definitionsOf, table}
 use Rattle.table.specs.References.{levelIn}
 use Rattle.table.specs.Judge.{declined, judge}
 use Rattle.table.specs.Node.{nodes, nodesFrom, noNode, setOf, parameterOf}
-use Rattle.table.specs.Index.{maskOf, setMasks, kindOfSet, firstRow, wordOf, SetsIndexed, Structured, Placed}
+use Rattle.table.specs.Layout.{rowsMost, termsAt, setsAt, bodiesAt, levelsAt, widthsAt, widthUnit, targets}
+use Rattle.table.specs.Layout.{structureOf}
+use Rattle.table.specs.Index.{maskOf, setMasks, kindOfSet, firstRow, packed, wordOf, SetsIndexed, Structured}
 use Rattle.table.specs.Index.{setsIn, tableIn}
 pub mod Overlay
 pub mod Terms
@@ -58,7 +61,7 @@ pub record SpotFits (s : Spot) (deep : ℕ) : Type 0 where
 pub record HeadFits (h : Head) : Type 0 where
   pub kind : h .kind ≤ 5
   pub parameter : h .parameter ≤ 4
-  pub target : h .target ≤ 65535
+  pub target : h .target < targets
   pub parallel : h .spot .parallel ≤ 1
   pub entry : h .spot .entry ≤ 1
   pub prefixes : h .spot .prefixes ≤ 32
@@ -129,7 +132,7 @@ pub record ReferenceFound (sets : List SetDef) (l : List ℕ) (i target paramete
   pub reference : SetRef
   pub parsed : setRef sets (tokensAt l i) ≡ got reference (tokensAt l j)
   pub row : target ≡ firstRow sets (setOf reference)
-  pub row-few : target ≤ 4096
+  pub row-few : target ≤ rowsMost
   pub digit : parameter ≡ parameterOf reference
   pub digit-few : parameter ≤ 4
   pub within : j ≤ length l
@@ -138,13 +141,17 @@ abbrev pub ReferenceRead : List SetDef → List ℕ → ℕ → Reference → Ty
 ReferenceRead sets l i (Found target parameter j) = ReferenceFound sets l i target parameter j
 ReferenceRead sets l i (NoReference r) = Stops (setRef sets (tokensAt l i)) r
 
--- the words and places of the terms of p, from number n on, and nothing else, were stored
+-- the word of a term with this head and this right side, and nothing else, was stored; it is a structure
+pub record WordStored (h : Head) (n right : ℕ) (w w' : List ℕ) : Type 0 where
+  pub written : w' ≡ set w (termsAt + n) (packed (h .spot) (h .kind) (h .parameter) right (h .target))
+  pub small : packed (h .spot) (h .kind) (h .parameter) right (h .target) < widthUnit
+
+-- the words of the terms of p, from number n on, and nothing else, were stored
 pub record TermStored (sets : List SetDef) (s : Spot) (n i : ℕ) (p : Term) (w w' : List ℕ) : Type 0 where
   pub same : length w' ≡ length w
-  pub words : (k : ℕ) → k < size p → getD w' (4096 + (n + k)) 0 ≡ wordOf sets (n + k) (getD (nodes s i p) k noNode)
-  pub places : (k : ℕ) → k < size p → getD w' (5120 + (n + k)) 0 ≡ getD (nodes s i p) k noNode .place
-  pub kept : (x : ℕ) → ((4096 + n ≤ x) × (x < 4096 + (n + size p)) → ⊥)
-      → ((5120 + n ≤ x) × (x < 5120 + (n + size p)) → ⊥) → getD w' x 0 ≡ getD w x 0
+  pub words : (k : ℕ) → k < size p
+      → structureOf (getD w' (termsAt + (n + k)) 0) ≡ wordOf sets (n + k) (getD (nodes s i p) k noNode)
+  pub kept : (x : ℕ) → ((termsAt + n ≤ x) × (x < termsAt + (n + size p)) → ⊥) → getD w' x 0 ≡ getD w x 0
 
 pub record TermFound (sets : List SetDef) (l : List ℕ) (s : Spot) (deep n i : ℕ) (w w' : List ℕ) (j m : ℕ)
     : Type 0 where
@@ -166,11 +173,12 @@ pub record DefinitionsFound (sets : List SetDef) (l : List ℕ) (count i : ℕ) 
   pub terms : m ≡ sizes definitions
   pub few : m ≤ 1024
   pub same : length w' ≡ length w
-  pub words : (k : ℕ) → k < m → getD w' (4096 + k) 0 ≡ wordOf sets k (getD (nodesFrom 0 i definitions) k noNode)
-  pub places : (k : ℕ) → k < m → getD w' (5120 + k) 0 ≡ getD (nodesFrom 0 i definitions) k noNode .place
-  pub roots : (d : ℕ) → d < count → getD w' (7232 + d) 0 ≡ sizes (lib.ListN.take d definitions)
-  pub levels : (d : ℕ) → d < count → getD w' (7265 + d) 0 ≡ levelIn definitions d
-  pub kept : (x : ℕ) → ((4096 ≤ x) × (x < 6144) → ⊥) → ((7232 ≤ x) × (x < 7297) → ⊥) → getD w' x 0 ≡ getD w x 0
+  pub words : (k : ℕ) → k < m
+      → structureOf (getD w' (termsAt + k) 0) ≡ wordOf sets k (getD (nodesFrom 0 i definitions) k noNode)
+  pub roots : (d : ℕ) → d < count → getD w' (bodiesAt + d) 0 ≡ sizes (lib.ListN.take d definitions)
+  pub levels : (d : ℕ) → d < count → getD w' (levelsAt + d) 0 ≡ levelIn definitions d
+  pub kept : (x : ℕ) → ((termsAt ≤ x) × (x < setsAt) → ⊥) → ((bodiesAt ≤ x) × (x < widthsAt) → ⊥)
+      → getD w' x 0 ≡ getD w x 0
   pub within : j ≤ length l
 
 abbrev pub DefinitionsRead : List SetDef → List ℕ → ℕ → ℕ → List ℕ → List ℕ → TermEnd → Type 0
@@ -183,7 +191,6 @@ DefinitionsRead sets l count i w w' (NoTerm r) =
 pub record Whole (l w : List ℕ) : Type 0 where
   pub parsed : table (listTokens 0 l) ≡ got (tableIn l) (listTokens (length l) [])
   pub structure : Structured (tableIn l) w
-  pub places : Placed (tableIn l) w
 
 abbrev pub ParseDone : List ℕ → List ℕ → Judged → Type 0
 ParseDone l w' Accepted = Whole l w'

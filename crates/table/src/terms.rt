@@ -10,13 +10,12 @@ pub struct Spot {
     pub own: u64,
 }
 
-// What a term's word and place say apart from its right side.
+// What a term's word says apart from its right side.
 pub struct Head {
     pub kind: u64,
     pub parameter: u64,
     pub target: u64,
     pub spot: Spot,
-    pub place: usize,
 }
 
 // A set reference: the set's first row, 0 or the parameter and 1, and the place after it; or why

@@ -89,24 +89,39 @@ fn try_case(kind: u8, numbers: &[u64], l: Lengths, s: Stored) -> Outcome {
     }
 }
 
-// ` NUMBER PLACE`, up to the line's end: the stored answer.
+// ` NUMBER PLACE OUTPUT WORK`; the check has no output.
+fn stored_of(kind: u8, answer: &[u64; 4]) -> Stored {
+    if kind == b'c' {
+        return Stored {
+            number: answer[0],
+            place: answer[1],
+            output: 0,
+            work: answer[2],
+        };
+    }
+    Stored {
+        number: answer[0],
+        place: answer[1],
+        output: answer[2],
+        work: answer[3],
+    }
+}
+
+// The stored answer, up to the line's end.
 fn take_answer(line: &[u8], from: usize, numbers: &[u64], l: Lengths) -> Outcome {
-    let mut answer = [0u64; 2];
+    let kind = byte_at(line, 0);
+    let mut answer = [0u64; 4];
     let a = take_numbers(line, from, &mut answer);
     if !a.right {
         return Outcome::Malformed;
     }
-    if a.count != 2 {
+    if a.count != answer_count(kind) {
         return Outcome::Malformed;
     }
     if a.next != line.len() {
         return Outcome::Malformed;
     }
-    let stored = Stored {
-        number: answer[0],
-        place: answer[1],
-    };
-    try_case(byte_at(line, 0), numbers, l, stored)
+    try_case(kind, numbers, l, stored_of(kind, &answer))
 }
 
 // ` n n .. =`: the input.
@@ -128,6 +143,11 @@ fn take_input(line: &[u8], from: usize, l: Lengths) -> Outcome {
 // How many lengths stand before the colon. The check's work area has the right one.
 fn length_count(kind: u8) -> usize {
     if kind == b'c' { 0 } else { 2 }
+}
+
+// How many numbers stand at the line's end.
+fn answer_count(kind: u8) -> usize {
+    if kind == b'c' { 3 } else { 4 }
 }
 
 pub fn try_line(line: &[u8]) -> Outcome {

@@ -4,7 +4,8 @@
 --     Ready, Served           what holds of the store; the trees that are to take the event are prepared
 --     Place, walked           a place in the walk, and what the walk gives from there
 --     leafRest                what is left of a leaf's results
---     flagged, Told, Stands   what is said of a tree at a node; a tree stands there
+--     flagged, pairTakes      whether a tree may take the event, by the store; a pair by its sides
+--     Told, Stands            what is said of a tree at a node; a tree stands there
 -- A store has the residual's slot from 0 on, and for node k the number of its results at k * 257 and their indices
 -- after it. The laws are in `Course/`: `Nodes` (can_at), `Flags` (prepared trees), `Places`, `Pairs` and `Leaves` (the
 -- walk). Assumes nothing.
@@ -111,6 +112,14 @@ flagged t e store k (pair n m l r) =
         | true ↦ true
         | false ↦ flagged t e store (k + 1 + length (words l)) r
       ]
+    ]
+
+-- whether a pair may, by its left side, its right side, and whether its set holds the event: then both must
+unfoldable pub pairTakes : Bool → Bool → Bool → Bool
+pairTakes left right held =
+    elim held [
+      | true ↦ elim left [ true ↦ right | false ↦ false ]
+      | false ↦ elim left [ true ↦ true | false ↦ right ]
     ]
 
 -- that, and where the next one starts

@@ -3,3 +3,4 @@
 pub mod Walk
 pub mod Forest
 pub mod Course
+pub mod Kinds

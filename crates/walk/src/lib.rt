@@ -3,4 +3,5 @@
 mod nodes;
 
 pub use nodes::Tree;
+pub use nodes::pair_takes;
 pub use nodes::walk;

@@ -13,15 +13,48 @@ use slots::put;
 ghost use mathlib.Core.Path.{_≡_};
 ghost use Prim.Native.Nat.{ℕ, _+_, _*_, _<_, _≤_};
 ghost use lib.ListN.{length, getD};
+ghost use lib.Dec.{eqb};
 ghost use Rattle.table.specs.Index.{tableIn, Indexed};
-ghost use Rattle.residual.specs.Words.{kindAt};
+ghost use Rattle.table.specs.Table.{termCount};
+ghost use Rattle.residual.specs.Words.{termOfWord, kindAt};
 ghost use Rattle.slots.specs.Holding.{Gave};
-ghost use Rattle.walk.specs.Course.{nodeCount, Ready, Place, walked, Stands, Told};
+ghost use Rattle.walk.specs.Course.{nodeCount, Ready, Place, walked, pairTakes, Stands, Told};
 
 // Of the tree at a node: whether it may take the event, and the node after it.
 pub struct Tree {
     pub moves: bool,
     pub next: usize,
+}
+
+// Whether a node is a pair, by the kind of its term. A residual's other nodes are STOP and prefixes.
+fn is_pair(list: &[u16], work: &[u64], w: u64) -> bool
+    requires { ⌜ Indexed (now list) (now work) ⌝ }
+    requires { ⌜ termOfWord w < termCount (tableIn (now list)) ⌝ }
+    ensures { λ r. ⌜ r ≡ eqb (kindAt (tableIn (now (list .entry))) w) 4 ⌝ }
+{
+    match kind_at(list, work, w) {
+        4 => true,
+        0 | 2 | 5 => false,
+        3 => false,
+        1 => false,
+        6..=18446744073709551615 => false,
+    }
+}
+
+// Whether a pair may take the event, by its sides: both, or one of them.
+pub fn pair_takes(left: bool, right: bool, held: bool) -> bool
+    ensures { λ r. ⌜ r ≡ pairTakes left right held ⌝ }
+{
+    if held {
+        if left {
+            return right;
+        }
+        return false;
+    }
+    if left {
+        return true;
+    }
+    right
 }
 
 // Whether the tree at node k may take the event, and the node after it.
@@ -32,33 +65,13 @@ pub fn can_at(list: &[u16], work: &[u64], store: &[u64], bound: usize, e: u64, k
     ensures { λ r. ⌜ Told (tableIn (now (list .entry))) e (now (store .entry)) k r ⌝ }
 {
     let w = store[k];
-    if kind_at(list, work, w) == 4 {
+    if is_pair(list, work, w) {
         let a = can_at(list, work, store, bound, e, k + 1);
         let p = a.next;
         let b = can_at(list, work, store, bound, e, p);
-        let q = b.next;
-        if holds_at(list, work, w, e) {
-            if a.moves {
-                return Tree {
-                    moves: b.moves,
-                    next: q,
-                };
-            }
-            return Tree {
-                moves: false,
-                next: q,
-            };
-        }
-        if a.moves {
-            return Tree {
-                moves: true,
-                next: q,
-            };
-        }
-        return Tree {
-            moves: b.moves,
-            next: q,
-        };
+        let moves = pair_takes(a.moves, b.moves, holds_at(list, work, w, e));
+        let next = b.next;
+        return Tree { moves, next };
     }
     let f = store[k * 257];
     Tree {
@@ -95,15 +108,15 @@ pub fn walk(
     }
     let w = store[k];
     let rest = modes / 2;
-    let kind = kind_at(list, work, w);
+    let pair = is_pair(list, work, w);
     if modes % 2 == 0 {
         let s = push(slot, w);
-        if kind == 4 {
+        if pair {
             return walk(list, work, store, bound, e, k + 1, rest * 4, s, area, count);
         }
         return walk(list, work, store, bound, e, k + 1, rest, s, area, count);
     }
-    if kind == 4 {
+    if pair {
         return walk_pair(list, work, store, bound, e, k, rest, slot, area, count);
     }
     walk_leaf(list, work, store, bound, e, k, rest, slot, area, count)

@@ -34,7 +34,7 @@ use Rattle.monitor_spec.specs.Feed.{presentSlots, nextSlots, nextVerdict, takin
 use Rattle.monitor_spec.specs.Feed.{feedAccepted, feedJudged, feedOf}
 use Rattle.monitor_spec.specs.Start.{startAccepted, startJudged, startOf}
 use Rattle.monitor_spec.specs.Offer.{bitOf, bitsBelow, offerBits, offering, offerJudged, offerOf}
-use Rattle.monitor_spec.specs.View.{viewBy, viewOf}
+use Rattle.monitor_spec.specs.View.{partBy, viewPart}
 use Rattle.table.specs.Operations.{measured, readJudged, readOf, writeJudged, writeOf}
 use Rattle.words.specs.Words.{recordMeasured, verdictIn, stateIn, failureWords, wordsOf}
 use Rattle.words.specs.Tables as tables
@@ -42,7 +42,7 @@ use Rattle.words.specs.Tables.{valueOf, tableCall, readCall, writeCall}
 use Rattle.words.specs.Calls as calls
 use Rattle.words.specs.Calls.{numberOf, recordAfter, monitorCall, monitorIn, unmeasured}
 use Rattle.words.specs.Calls.{startCall, feedCall, offerNumber, offerValue, offerCall}
-use Rattle.words.specs.Calls.{areaOf, viewing, viewCall}
+use Rattle.words.specs.Calls.{viewing, viewCall}
 use Rattle.words.specs.Examples.{started, fed, offered, viewed, RowsHold}
 
 pub rows-hold : RowsHold
@@ -63,9 +63,10 @@ unfolding flatMap size sizes bodyOf bodyNumber termIn termOfDefs termAt prefixes
     presentSlots nextSlots nextVerdict taking takeEvent endingOf refusing feedAccepted feedJudged feedOf
     startAccepted startJudged startOf
     carry later scanWith readNumber byteToken byteTokensWith byteTokens judgeBytes
-    measured readJudged readOf writeJudged writeOf bitOf bitsBelow offerBits offering offerJudged offerOf viewBy viewOf
+    measured readJudged readOf writeJudged writeOf bitOf bitsBelow offerBits offering offerJudged offerOf
+    partBy viewPart
     recordMeasured verdictIn stateIn failureWords wordsOf tables.numberOf valueOf tableCall readCall writeCall
     numberOf calls.placeOf recordAfter monitorCall monitorIn unmeasured startCall feedCall
-    offerNumber offerValue calls.offering offerCall areaOf viewing viewCall started fed offered viewed RowsHold
+    offerNumber offerValue calls.offering offerCall viewing viewCall started fed offered viewed RowsHold
 rows-hold =
-    (refl, refl, refl, refl, refl, refl, refl, refl, refl, refl, refl, refl, refl, refl, refl, refl, refl, refl, refl)
+    (refl, refl, refl, refl, refl, refl, refl, refl, refl, refl, refl, refl, refl, refl, refl, refl, refl, refl)

@@ -4,7 +4,7 @@
 --     OfferCall, OfferTold, offerCall           of Offer
 --     ViewCall, viewCall                        of View
 -- The laws are in `Calls/Laws.antt`. Assumes nothing.
-use Prim.Native.Nat.{ℕ, _%_}
+use Prim.Native.Nat.{ℕ}
 use mathlib.Core.Path.{_≡_}
 use mathlib.Core.Bool.{Bool, true, false}
 use mathlib.Core.List.{List}
@@ -15,7 +15,7 @@ use Rattle.monitor_spec.specs.Start.{startOf}
 use Rattle.monitor_spec.specs.Feed.{feedOf}
 use Rattle.monitor_spec.specs.Offer.{Offered, offers, OfferOutcome, offerOf}
 use Rattle.monitor_spec.specs.Offer as operation
-use Rattle.monitor_spec.specs.View.{viewOf}
+use Rattle.monitor_spec.specs.View.{Part, viewPart}
 use Rattle.words.specs.Words.{recordMeasured, stateIn, wordsOf}
 pub mod Laws
 
@@ -155,18 +155,14 @@ pub record ViewCall : Type 0 where
 abbrev pub viewSaid : ℕ → ℕ → ViewCall
 viewSaid n k = record { count = n; area = k }
 
--- "The present area is taken mod 2"; "the empty beginning of area 0", and ours: any part without words is said of
--- area 0
-unfoldable pub areaOf : ℕ → ℕ → ℕ
-areaOf count taken = elim (eqb count 0) [ true ↦ 0 | false ↦ taken % 2 ]
-
-unfoldable pub viewing : State → List ℕ → ViewCall
-viewing s part = record { count = length part; area = areaOf (length part) (s .taken) }
+-- of the part that View hands back; ours: any part without words is said of area 0
+unfoldable pub viewing : Part → ViewCall
+viewing p = record { count = p .words; area = elim (eqb (p .words) 0) [ true ↦ 0 | false ↦ p .area ] }
 
 -- record, areas; View "never refuses", so a record that is not of four words has no words to show
 unfoldable pub viewCall : List ℕ → List ℕ → List ℕ → ViewCall
 viewCall r a b =
     elim (recordMeasured r) [
-      | true ↦ viewing (stateIn r) (viewOf (monitorIn r a b))
+      | true ↦ viewing (viewPart (stateIn r) (length a) (length b))
       | false ↦ record { count = 0; area = 0 }
     ]

@@ -4,7 +4,7 @@
 -- Assumes nothing.
 use Prim.Native.Nat.{ℕ}
 use mathlib.Core.Path.{_≡_}
-use mathlib.Core.List.{List, [], _∷_, _++_}
+use mathlib.Core.List.{List, [], _∷_, _++_, map}
 use Rattle.table.specs.Operations.{zeros}
 use Rattle.monitor_spec.specs.State.{running, failedAt}
 use Rattle.words.specs.Words.{stateIn}
@@ -61,9 +61,10 @@ RowsHold =
     × (offered (fed (0 ∷ [])) .value ≡ 2)
     × (offered (fed (0 ∷ 1 ∷ [])) .value ≡ 1)
     × (offered (fed (0 ∷ 0 ∷ [])) .value ≡ 0)
-    × (viewed (fed (0 ∷ [])) ≡ calls.viewSaid 16 1)
-    × (viewed (fed (0 ∷ 1 ∷ [])) ≡ calls.viewSaid 16 0)
-    × (viewed (fed (0 ∷ 0 ∷ [])) ≡ calls.viewSaid 0 0)
+    × (map viewed (fed (0 ∷ []) ∷ fed (0 ∷ 1 ∷ []) ∷ fed (0 ∷ 0 ∷ []) ∷ [])
+    ≡ calls.viewSaid 16 1 ∷ calls.viewSaid 16 0 ∷ calls.viewSaid 0 0 ∷ [])
+    -- ours: no words of area 1 are said of area 0
+    × (viewCall (four 1 0 0 0) (zeros 32) (zeros 32) ≡ calls.viewSaid 0 0)
     -- a word above 1 is read as failed; the place of a running record is not read
     × (stateIn (four 5 0 7 2) ≡ record { taken = 5; count = 0; verdict = failedAt 2 })
     × (stateIn (four 5 1 0 9) ≡ record { taken = 5; count = 1; verdict = running })

@@ -3,6 +3,7 @@
 
 use crate::monitor::*;
 use reference::monitor::history::{digest, BUFFER};
+use reference::summary::group;
 
 struct Replay<'a> {
     monitor: &'a dyn Monitor,
@@ -12,7 +13,8 @@ struct Replay<'a> {
     buffers: [Vec<u64>; 2],
 }
 
-// The number of calls; or the first line whose answer is another one.
+// The number of calls; or the first line whose answer is another one, or is not where it is stored
+// wrong on purpose.
 pub fn replay(monitor: &dyn Monitor, text: &str) -> Result<usize, String> {
     let mut replay = Replay {
         monitor,
@@ -21,15 +23,19 @@ pub fn replay(monitor: &dyn Monitor, text: &str) -> Result<usize, String> {
         lengths: [0; 2],
         buffers: [vec![0; BUFFER], vec![0; BUFFER]],
     };
-    let mut calls = 0;
-    for (i, line) in text.lines().enumerate().filter(|(_, line)| !line.starts_with('#')) {
+    let (mut calls, mut wrong) = (0, false);
+    for (i, line) in text.lines().enumerate() {
+        if line.starts_with('#') {
+            wrong = group(line).map_or(wrong, |(_, wrong)| wrong);
+            continue;
+        }
         let (done, stored) = line.split_once('=').unwrap_or((line, ""));
         let fields: Vec<&str> = done.split_whitespace().collect();
         let numbers: Option<Vec<u64>> = fields[1..].iter().map(|f| f.parse().ok()).collect();
         let numbers = numbers.ok_or(format!("line {}: not numbers", i + 1))?;
         if let Some(answer) = replay.line(fields[0], &numbers) {
             calls += 1;
-            if answer != stored.trim() {
+            if (answer != stored.trim()) != wrong {
                 return Err(format!("line {}: {answer}, not{stored}", i + 1));
             }
         }

@@ -1,4 +1,4 @@
-"""tools/try, with tools/reference in place of the program."""
+"""tools/try with tools/reference in place of the program, and with the program's code without its proof."""
 
 import subprocess
 import tempfile
@@ -27,6 +27,13 @@ class Try(unittest.TestCase):
         self.assertEqual(status, 0)
         about = "event 2, counted from 1, is arrive_2"
         self.assertIn(f"line     failed 2 2\n         {about}\n", output)
+
+    def test_unproved(self):
+        """The kit runs the program's code as it is; `Unproved` in tools/trying/engines.py says what can hinder it."""
+        status, output, errors = tried("--unproved", "table_b", "0", "0", "1")
+        self.assertEqual(status, 0, errors)
+        self.assertIn("NOT PROVED: the program's own code", output)
+        self.assertIn("line     failed 2 3\n         event 2, counted from 1, is 0\n", output)
 
     def test_own_drawing(self):
         """A refusal is shown in the drawing; a line that was not expected is status 1."""

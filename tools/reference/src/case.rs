@@ -1,5 +1,6 @@
 // One case of test data: a call and, where it is known beforehand, its answer.
 //     Case, Group         a case, and cases that try the same thing
+//     digest              one number for what stands in a buffer
 //     all_of_fault, all_of_table      a fault or an accepted table as Read, Write and check
 
 use crate::damage::Fault;
@@ -20,6 +21,8 @@ pub enum Call {
 pub struct Case {
     pub call: Call,
     pub known: Option<(u8, usize)>,
+    // a stored number that is wrong on purpose: its index, and what is stored
+    pub wrong: Option<(usize, u64)>,
 }
 
 pub struct Group {
@@ -27,25 +30,61 @@ pub struct Group {
     pub cases: Vec<Case>,
 }
 
+// What a digest of these becomes by each number after them, which is below 2^32.
+pub fn digest(first: u64, numbers: impl IntoIterator<Item = u64>) -> u64 {
+    numbers.into_iter().fold(first, |d, n| (d * 16_777_619 + n) % 4_294_967_291)
+}
+
+// An output as it was lent, but for what it begins with.
+fn output<T: Into<u64> + Copy>(begins: &[T], length: usize, junk: fn(u64) -> u64) -> u64 {
+    let rest = (begins.len()..length).map(|i| junk(i as u64));
+    digest(1, begins.iter().map(|&n| n.into()).chain(rest))
+}
+
+// The work area: 0 if it is zero, 1 if it is kept, 2 if it holds an index.
+const ZERO: u64 = 0;
+const KEPT: u64 = 1;
+const INDEX: u64 = 2;
+
 impl Case {
     pub fn known(call: Call, answer: (u8, usize)) -> Self {
-        Case { call, known: Some(answer) }
+        Case { call, known: Some(answer), wrong: None }
     }
 
     pub fn unknown(call: Call) -> Self {
-        Case { call, known: None }
+        Case { call, known: None, wrong: None }
     }
 
-    // The answer given by this implementation.
-    pub fn answer(&self) -> (u8, usize) {
-        let answer = match &self.call {
-            Call::Read { bytes, out_len, work_len } => read(bytes, *out_len, *work_len).answer,
-            Call::Write { list, out_len, work_len } => write(list, *out_len, *work_len).answer,
-            Call::Check { list } => check(list),
+    pub fn known_numbers(&self) -> Option<[u64; 2]> {
+        self.known.map(|(number, place)| [number as u64, place as u64])
+    }
+
+    // What is given by this implementation: NUMBER PLACE OUTPUT WORK, of the check
+    // NUMBER PLACE WORK.
+    pub fn given(&self) -> Vec<u64> {
+        let numbers = |answer: Answer| match answer {
+            Ok(count) => [0, count as u64],
+            Err(refusal) => [refusal.number as u64, refusal.place as u64],
         };
-        match answer {
-            Ok(count) => (0, count),
-            Err(refusal) => (refusal.number, refusal.place),
+        let work = |kept: bool| if kept { KEPT } else { ZERO };
+        match &self.call {
+            Call::Read { bytes, out_len, work_len } => {
+                let Outcome { answer, output: begins, work_kept } =
+                    read(bytes, *out_len, *work_len);
+                let left = output(&begins, *out_len, |i| 65_535 - i % 16_411);
+                [&numbers(answer)[..], &[left, work(work_kept)]].concat()
+            }
+            Call::Write { list, out_len, work_len } => {
+                let Outcome { answer, output: begins, work_kept } =
+                    write(list, *out_len, *work_len);
+                let left = output(&begins, *out_len, |i| 255 - i % 251);
+                [&numbers(answer)[..], &[left, work(work_kept)]].concat()
+            }
+            Call::Check { list } => {
+                let answer = check(list);
+                let left = if answer.is_ok() { INDEX } else { ZERO };
+                [&numbers(answer)[..], &[left]].concat()
+            }
         }
     }
 
@@ -56,8 +95,7 @@ impl Case {
         }
     }
 
-    pub fn line(&self) -> String {
-        let (number, place) = self.answer();
+    pub fn line(&self, stored: &[u64]) -> String {
         let (head, input) = match &self.call {
             Call::Read { bytes, out_len, work_len } => {
                 (format!("r {out_len} {work_len} :"), joined(bytes))
@@ -67,7 +105,7 @@ impl Case {
             }
             Call::Check { list } => ("c :".to_string(), joined(list)),
         };
-        format!("{head}{input} = {number} {place}")
+        format!("{head}{input} ={}", joined(stored))
     }
 }
 

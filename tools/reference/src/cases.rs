@@ -6,6 +6,7 @@ mod input;
 mod length;
 mod limit;
 mod mixed;
+mod wrong;
 
 pub use input::loose_forms;
 pub use mixed::change;
@@ -14,11 +15,13 @@ use crate::case::*;
 use crate::damage::CLAUSES;
 use crate::generate::{small, MIDDLE, SMALL};
 use crate::random::Random;
+use crate::summary::head;
 use crate::worked;
 use input::*;
 use length::*;
 use limit::*;
 use mixed::*;
+use wrong::*;
 
 // Where the file comes from, but for the seed and the count.
 const SOURCE: &str = "\
@@ -29,12 +32,20 @@ const SOURCE: &str = "\
 
 pub const HEAD: &str = "\
 # One case per line, fields separated by one space, numbers in decimal:
-#     r OUTLEN WORKLEN : b b .. = NUMBER PLACE    Read of these bytes
-#     w OUTLEN WORKLEN : n n .. = NUMBER PLACE    Write of this number list
-#     c : n n .. = NUMBER PLACE                   the check of this number list
+#     r OUTLEN WORKLEN : b b .. = NUMBER PLACE OUTPUT WORK    Read of these bytes
+#     w OUTLEN WORKLEN : n n .. = NUMBER PLACE OUTPUT WORK    Write of this number list
+#     c : n n .. = NUMBER PLACE WORK                          the check of this number list
 # No number stands between `:` and `=` where the input is empty. NUMBER is 0 for a result, else
 # the refusal's; PLACE is the refusal's place, or for a result r: the count of numbers, w: the
 # count of bytes, c: the number of terms.
+# Before a call word i of the work area is 2^64 - 1 - i, number i of Read's output
+# 65535 - i mod 16411, byte i of Write's 255 - i mod 251. OUTPUT is a digest of the output after
+# it: from 1, for each number or byte n
+#     d := (d * 16777619 + n) mod 4294967291
+# WORK is 0 if the work area must be all zero, 1 if it must stand as it was, 2 if it must hold an
+# index and so is not all zero.
+# Where a group begins with `# wrong` instead of `# group`, each stored answer is wrong on purpose
+# in one number, and a test program must find it wrong.
 # In every accepted table here each number is below 128: numbers and bytes are the same.
 # An input has at most 16,500 numbers, an output at most 16,500, a work area at most 8,300.
 ";
@@ -95,6 +106,10 @@ pub fn groups(seed: u64, count: usize) -> Vec<Group> {
     add("wild_references", &|random| drawn(random, part(6), wild_references));
     add("random_changes_of_bytes", &|random| drawn(random, part(8), changed_bytes));
     add("random_changes_of_lists", &|random| drawn(random, part(8), changed_list));
+    add("stored_number", &wrong_number);
+    add("stored_place", &wrong_place);
+    add("stored_output", &wrong_output);
+    add("stored_work", &wrong_work);
     groups
 }
 
@@ -107,18 +122,17 @@ pub fn file(seed: u64, count: usize) -> Result<String, String> {
     let mut text = format!("{SOURCE}{seed} --count {count}\n");
     text += HEAD;
     for Group { name, cases } in groups(seed, count) {
-        text += &format!("# group {name}\n");
-        for case in cases {
-            let line = case.line();
-            let answer = case.answer();
-            if case.known.is_some_and(|known| known != answer) {
-                let line: String = line.chars().take(200).collect();
-                return Err(format!(
-                    "group {name}: known {:?}, given {answer:?}: {line}",
-                    case.known
-                ));
+        text += &head(name, cases.iter().all(|case| case.wrong.is_some()));
+        for case in &cases {
+            let mut stored = case.given();
+            if case.known_numbers().is_some_and(|known| known != stored[..2]) {
+                let line: String = case.line(&stored).chars().take(200).collect();
+                return Err(format!("group {name}: known {:?}, given: {line}", case.known));
             }
-            text += &line;
+            if let Some((at, other)) = case.wrong {
+                stored[at] = other;
+            }
+            text += &case.line(&stored);
             text.push('\n');
         }
     }

@@ -29,3 +29,5 @@ pub mod worked;
 
 #[cfg(test)]
 mod properties;
+#[cfg(test)]
+mod stored;

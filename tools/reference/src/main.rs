@@ -18,8 +18,9 @@ reference: another implementation of the CSP_E line monitor, for test answers
         and about M cases drawn at random. The same seed and count give the same file.
 
     reference summary FILE
-        Prints what the test program prints of a file of test data when every answer is the
-        stored one: a line `NAME CASES` for each group, then `ok`.
+        Prints what the test program prints of a file of test data when every case comes out as
+        its group says: a line `NAME CASES` for each group, which goes on where its stored
+        answers are wrong on purpose, then `ok`.
 
     reference line FILE
         Prints the line that the program prints of a file as its standard input.
@@ -29,16 +30,14 @@ reference: another implementation of the CSP_E line monitor, for test answers
         and about M drawn at random. The same seed and count give the same file.
 
     reference lines-summary FILE
-        Prints what the test program prints of a file of inputs when every line is the stored
-        one: a line `NAME CASES` for each group, then `ok`.
+        Prints the same of a file of inputs.
 
     reference histories --seed N --count M
         Writes test data of the monitor to standard output: the histories worked by hand, and
         about M drawn at random. The same seed and count give the same file.
 
     reference monitor-summary FILE
-        Prints what the monitor's test program prints of a file of histories when every answer
-        is the stored one: a line `NAME CALLS` for each group, then `ok`.
+        Prints the same of a file of histories, whose cases are its calls.
 
     reference replay FILE
         Makes the calls of a file of histories again. Prints the same as monitor-summary, or the

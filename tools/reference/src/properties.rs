@@ -6,6 +6,7 @@ use crate::generate::*;
 use crate::numbers::bytes_of_list;
 use crate::operations::*;
 use crate::random::Random;
+use crate::stored;
 use crate::table::*;
 
 // Read after Write gives the list back, and Write after Read the bytes.
@@ -78,21 +79,32 @@ fn faults_are_met() {
     }
 }
 
-// The data file: reproducible, not too long, few long lines.
+// The stored file: not too long, few long lines.
 #[test]
 fn data_file() {
-    let text = file(1, 4_000).expect("known answers");
-    assert_eq!(text, file(1, 4_000).expect("known answers"));
+    let text = stored::text("table_test/data/tables.txt");
     assert!(text.len() < 4_000_000);
-    let mut long = 0;
-    let mut cases = 0;
-    for case in groups(1, 4_000).iter().flat_map(|group| &group.cases) {
-        cases += 1;
-        assert!(case.input_len() <= MOST_INPUT);
-        if case.input_len() > LONG_LINE {
-            long += 1;
+    let inputs: Vec<usize> = text
+        .lines()
+        .filter(|line| !line.starts_with('#'))
+        .map(|line| line.split(" = ").next().map_or(0, |call| stored::numbers(call).len()))
+        .collect();
+    // the lengths of Read's and Write's output and work area are counted too
+    assert!(inputs.iter().all(|&numbers| numbers <= MOST_INPUT + 2));
+    assert!(inputs.iter().filter(|&&numbers| numbers > LONG_LINE).count() <= MOST_LONG_LINES);
+    assert!(inputs.len() >= 3_000);
+}
+
+// What is stored wrong on purpose is wrong.
+#[test]
+fn wrong_cases() {
+    let mut wrong = 0;
+    for group in groups(1, 0) {
+        for case in group.cases.iter().filter(|case| case.wrong.is_some()) {
+            let (at, other) = case.wrong.expect("a wrong number");
+            assert_ne!(case.given()[at], other, "{}", group.name);
+            wrong += 1;
         }
     }
-    assert!(long <= MOST_LONG_LINES);
-    assert!(cases >= 3_000);
+    assert!(wrong >= 100);
 }

@@ -58,3 +58,10 @@ mod tests {
         assert_eq!(random.next(), 0x6E78_9E6A_A1B9_65F4);
     }
 }
+
+// The numbers next to one, for an answer that is stored wrong on purpose.
+pub fn beside(given: u64) -> Vec<u64> {
+    let above = given.checked_add(1);
+    let below = given.checked_sub(1);
+    above.into_iter().chain(below).collect()
+}

@@ -16,6 +16,7 @@ use Rattle.table.specs.Tokens.{tokensAt}
 use Rattle.table.specs.Parser.{refused, got, times}
 use Rattle.table.specs.Parser.Steps.{ReadsPlain, none, reads-snoc, times-done, times-stop}
 use Rattle.table.specs.Grammar as grammar
+use Rattle.table.specs.Layout.{setsAt}
 use Rattle.table.specs.Index.{setMasks, kindOfSet, SetsIndexed}
 use Rattle.table.specs.Index.Sets.{masks-snoc, indexed-none, indexed-snoc}
 use Rattle.table.specs.Parse.{SetFound, SetRead, SetsFound}
@@ -58,7 +59,7 @@ module _ (l : List ℕ) (A count at : ℕ) (w : List ℕ) where
 
 module _ {l : List ℕ} {A count at : ℕ} {w w' : List ℕ} {s p row : ℕ} (h : Head l A count at w w' s p row) where
   next-set : (w'' : List ℕ) (next kind end x : ℕ) → SetFound l A p row w' w'' next kind end → s < count
-      → x ≡ row * 2 + kind → Head l A count at w (set w'' (7168 + s) x) (s + 1) next end
+      → x ≡ row * 2 + kind → Head l A count at w (set w'' (setsAt + s) x) (s + 1) next end
   next-set w'' next kind end x f b e =
       let c = h .counted in
       let r = h .rows in
@@ -82,7 +83,7 @@ module _ {l : List ℕ} {A count at : ℕ} {w w' : List ℕ} {s p row : ℕ} (h 
         indexed = indexed-snoc (h .sets) v w' w'' row s x (h .indexed) r (omega arith) (omega arith) (omega arith)
             (omega arith) (f .words .written) (f .words .kept) (e ∙ ap (λ (k : ℕ). row * 2 + k) (f .kinds));
         long = g;
-        same = length-set w'' (7168 + s) x ∙ u ∙ t;
+        same = length-set w'' (setsAt + s) x ∙ u ∙ t;
         count-few = d;
         few = omega arith;
         within = f .within;
@@ -90,7 +91,7 @@ module _ {l : List ℕ} {A count at : ℕ} {w w' : List ℕ} {s p row : ℕ} (h 
 
   pub head-next : (w'' : List ℕ) (next kind end x : ℕ) (r : SetEnd) → r ≡ NextSet next kind end
       → SetRead l A p row w' w'' r → s < count → x ≡ row * 2 + kind
-      → Head l A count at w (set w'' (7168 + s) x) (s + 1) next end
+      → Head l A count at w (set w'' (setsAt + s) x) (s + 1) next end
   head-next w'' next kind end x r is told b e =
       next-set w'' next kind end x (subst (λ (y : SetEnd). SetRead l A p row w' w'' y) is told) b e
 

@@ -14,11 +14,11 @@ use Rattle.monitor_spec.specs.Residual.{Residual, afterAll}
 use Rattle.monitor_spec.specs.Slots.{slotsOf}
 use Rattle.monitor_spec.specs.Valid.{held}
 use Rattle.monitor_spec.specs.State.{Monitor, slotCount, even, choose, chunks, fill, laid}
+use Rattle.monitor_spec.specs.State.Areas.{present-even, present-odd}
 use Rattle.monitor_spec.specs.Feed.{presentSlots, nextSlots, taking}
 use Rattle.monitor_spec.specs.Expected.Laid.{laid-lengths}
 use Rattle.state.specs.declared.record.State.{State}
 use Rattle.state.specs.Record.{monitorOf}
-use Rattle.state.specs.Record.View.{present-even, present-odd}
 use Rattle.stepping.specs.Holds.{heldIn}
 use Rattle.feeding.specs.Feeding.{Holding, Standing, nextOf, Stepped, Advanced, Moved}
 

@@ -1,4 +1,4 @@
--- `index::body` meets its contract: word 7,232 + d holds what the table has.
+-- `index::body` meets its contract: the word of the definition holds what the table has.
 -- Assumes nothing.
 use native.Mathlib.Omega.{arith}
 use Rattle.index.specs.Facts.{definitions-few, body-is}

@@ -1,4 +1,4 @@
--- `index::branches` meets its contract: word 6,144 + n holds what the table has.
+-- `index::branches` meets its contract: a digit of the term's word holds what the table has.
 -- Assumes nothing.
 use native.Mathlib.Omega.{arith}
 use Rattle.index.specs.Facts.{terms-few, branches-is}

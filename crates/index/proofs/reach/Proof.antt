@@ -1,4 +1,4 @@
--- `index::reach` meets its contract: word 5,120 + n holds what the table has.
+-- `index::reach` meets its contract: a digit of the term's word holds what the table has.
 -- Assumes nothing.
 use native.Mathlib.Omega.{arith}
 use Rattle.index.specs.Facts.{terms-few, reach-is}

@@ -1,5 +1,5 @@
 -- What `openOf` leaves is the front of the input.
---     lent-out                   the lent lengths
+--     lent-out, lent-in          the lent lengths
 --     open-fit, open-unfit       by the test of them
 --     open-ways                  its ways
 --     open-course, open-began    the course is that of the front; where there is a record, what holds besides
@@ -12,7 +12,7 @@ use mathlib.Core.List.{List, _++_}
 use lib.ListN.{length, take, drop, length-append}
 use lib.Seq.{take-append-seam}
 use lib.Dec.{eqb}
-use borrow.Author.Tests.{eqb-true}
+use borrow.Author.Tests.{eq-eqb, eqb-true}
 use Rattle.table.specs.Judge.{Judgement, accepted, declined, judgeBytes}
 use Rattle.table.specs.Operations.{zeros}
 use Rattle.monitor_spec.specs.Valid.Laws.{and-split}
@@ -44,6 +44,10 @@ lent-out l a b w e =
     let (q, y) = and-split (eqb (length a) 4096) _ x in
     let (u, v) = and-split (eqb (length b) 4096) (eqb (length w) 8192) y in
     record { list = eqb-true _ _ p; area0 = eqb-true _ _ q; area1 = eqb-true _ _ u; work = eqb-true _ _ v }
+
+pub lent-in : (l a b w : List ℕ) → Lengths l a b w → lent l a b w ≡ true
+unfolding lentFit
+lent-in l a b w h = rw (eq-eqb _ _ (h .list), eq-eqb _ _ (h .area0), eq-eqb _ _ (h .area1), eq-eqb _ _ (h .work)) refl
 
 module _ (s l a b w : List ℕ) where
   pub open-fit : lent l a b w ≡ true → openOf s l a b w ≡ openHead (length s) (headOf s) l a b w

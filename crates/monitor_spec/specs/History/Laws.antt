@@ -4,7 +4,7 @@ use Prim.Native.Nat.{ℕ, suc, _*_, _%_, _≤_}
 use native.Mathlib.Omega.{arith}
 use mathlib.Core.Path.{_≡_, refl, ap, ap₂, sym, _∙_}
 use mathlib.Core.Bool.{Bool, true, false}
-use mathlib.Core.List.{List, [], _∷_, _++_, map, append-assoc}
+use mathlib.Core.List.{List, [], _∷_, _++_, map, append-assoc, append-nil}
 use mathlib.Core.Option.{Option, none, some}
 use lib.ListN.{length}
 use borrow.Author.Tests.{eq-eqb, le-leb}
@@ -27,10 +27,6 @@ use Rattle.monitor_spec.specs.History.{standing, callOn, history}
 -- the events that a call looks at
 pub eventsOf : Call → List ℕ
 eventsOf c = elim (workMeasured (c .work)) [ true ↦ c .events | false ↦ [] ]
-
-pub append-nil : (l : List ℕ) → l ++ [] ≡ l
-append-nil [] = refl
-append-nil (x ∷ l) = ap (x ∷_) (append-nil l)
 
 extend-true : (t : Table) (n : ℕ) (s : List ℕ) (e : ℕ) (es : List ℕ) → halts t n s e ≡ true
     → extend t n s (e ∷ es) ≡ s

@@ -167,10 +167,10 @@ module _ (t : Table) (regular : Regular t) (n : ℕ) where
     passed : Passes t n k rs es → Course k rs es
     halted : (number place : ℕ) → HaltsAt t n k rs es number place → Course k rs es
 
-  now : (k : ℕ) (rs : List Residual) (e number : ℕ) (es : List ℕ) → Meets t n k rs e number
+  halts-first : (k : ℕ) (rs : List Residual) (e number : ℕ) (es : List ℕ) → Meets t n k rs e number
       → HaltsAt t n k rs (e ∷ es) number 0
   unfolding run
-  now k rs e number es m =
+  halts-first k rs e number es m =
       let i : k ≡ k + 0 = omega arith in
       record {
         before = [];
@@ -205,11 +205,11 @@ module _ (t : Table) (regular : Regular t) (n : ℕ) where
     where
       by : (a : Bool) → leb (t .alphabet) e ≡ a → (b : Bool) → eqb k counterMost ≡ b → (c : Bool)
           → ltb n (length (slotsOf (afterAll t e rs))) ≡ c → Course (suc k) (afterAll t e rs) es → Course k rs (e ∷ es)
-      by true p b q c r x = halted 11 0 (now k rs e 11 es (unknown (leb-true (t .alphabet) e p)))
+      by true p b q c r x = halted 11 0 (halts-first k rs e 11 es (unknown (leb-true (t .alphabet) e p)))
       by false p true q c r x =
-          halted 12 0 (now k rs e 12 es (full (leb-false (t .alphabet) e p) (eqb-true k counterMost q)))
+          halted 12 0 (halts-first k rs e 12 es (full (leb-false (t .alphabet) e p) (eqb-true k counterMost q)))
       by false p false q true r x =
-          halted 13 0 (now k rs e 13 es (exceeded (leb-false (t .alphabet) e p) (eqb-false k counterMost q)
+          halted 13 0 (halts-first k rs e 13 es (exceeded (leb-false (t .alphabet) e p) (eqb-false k counterMost q)
           (ltb-true n (length (slotsOf (afterAll t e rs))) r)))
       by false p false q false r x =
           further k rs e es (leb-false (t .alphabet) e p) (eqb-false k counterMost q)

@@ -2,7 +2,7 @@
 use Prim.Native.Nat.{ℕ, _-_, _<_}
 use native.Mathlib.Omega.{arith}
 use mathlib.Core.Path.{_≡_, refl, ap, ap₂, sym, _∙_}
-use mathlib.Core.List.{List, [], _∷_, _++_, append-assoc}
+use mathlib.Core.List.{List, [], _∷_, _++_, append-assoc, append-nil}
 use mathlib.Core.Option.{some}
 use lib.ListN.{length, take, replicate}
 use lib.Seq.{take-append-seam}
@@ -86,10 +86,6 @@ module _ (t : Table) where
   forest-whole : (r : Residual) → Sound t r → SixAll r → forest t (nodes r) ≡ some (r ∷ [])
   unfolding forest
   forest-whole r s d = ap (forest t) (sym (append-nil (nodes r))) ∙ forest-nodes r s d [] [] refl
-    where
-      append-nil : (l : List ℕ) → l ++ [] ≡ l
-      append-nil [] = refl
-      append-nil (x ∷ l) = ap (x ∷_) (append-nil l)
 
   slot-tree : (c : ℕ) (ws : List ℕ) (r : Residual) → forest t (take c ws) ≡ some (r ∷ [])
       → slotResidual t (c ∷ ws) ≡ some r

@@ -41,6 +41,14 @@ unfolding choose
 choose-ap f true x y = refl
 choose-ap f false x y = refl
 
+pub present-even : {A : Type 0} (n : ℕ) (x y : A) → n % 2 ≡ 0 → choose (even n) x y ≡ x
+unfolding even choose
+present-even n x y h = rw (eq-eqb (n % 2) 0 h)
+
+pub present-odd : {A : Type 0} (n : ℕ) (x y : A) → (n % 2 ≡ 0 → ⊥) → choose (even n) x y ≡ y
+unfolding even choose
+present-odd n x y h = rw (ne-eqb (n % 2) 0 h)
+
 pub even-suc : (n : ℕ) → even (suc n) ≡ not (even n)
 unfolding even
 even-suc n = by (native.Mathlib.Decide.ℕ-discrete (n % 2) 0)

@@ -18,7 +18,7 @@ use Rattle.residual.specs.Distinct.{window}
 use Rattle.residual.specs.Distinct.Laws.{window-cons, window-none}
 use Rattle.walk.specs.Walk.{option, room, leafResults, longest}
 use Rattle.walk.specs.Walk.Leaves.{results-yes, words-short}
-use Rattle.moves.specs.Only.{grown, rebuilt, Single, Follows, Carries, Rest, Rebuilds}
+use Rattle.moves.specs.Only.{grown, rebuilt, Single, Carries, Rest, Rebuilds}
 use Rattle.moves.specs.Only.Marks.{grown-kept, grown-moved}
 
 option-fits : (t : Table) (e w : ℕ) → Single t e w → length (option t e w 0) ≤ longest (map words (leafResults t e w))
@@ -47,16 +47,6 @@ module _ (t : Table) (bound e w : ℕ) (ws : List ℕ) (m : ℕ) (slot : List �
 
   rest-single : (m % 2 ≡ 0 → ⊥) → Single t e w
   rest-single z = r .marked .0 z
-
-  rest-follows : e < 64 → bound ≡ length (t .definitions) → (m % 2 ≡ 0 → ⊥) → Follows t bound e w slot
-  unfolding room
-  rest-follows he hb z = record {
-    single = rest-single z;
-    event = he;
-    whole = hb;
-    room = omega (arith, r .room, option-fits t e w (rest-single z));
-    size = r .size;
-  }
 
   rest-follow : (m % 2 ≡ 0 → ⊥) → Rest t e ws (m / 2) (pushAll slot (option t e w 0))
       × (pushAll (pushAll slot (option t e w 0)) (rebuilt t e ws (m / 2)) ≡ pushAll slot (rebuilt t e (w ∷ ws) m))
@@ -134,15 +124,6 @@ module _ {t : Table} {bound e : ℕ} {area : List ℕ} {p n marks : ℕ} {start 
     rebuild-keep z =
         let k = rest-keep t bound e w _ m slot here z in
         record { rest = k .0; same = k .1 ∙ (rw node at (r .same)) }
-
-    pub rebuild-follows : (m % 2 ≡ 0 → ⊥) → Follows t bound e w slot
-    rebuild-follows z = rest-follows t bound e w _ m slot here (b .event) (b .whole) z
-
-    pub rebuild-follow : (m % 2 ≡ 0 → ⊥) → (s : List ℕ) → s ≡ pushAll slot (option t e w 0)
-        → Rebuilding t e area p n marks start s (m / 2) (j + 1)
-    rebuild-follow z s es =
-        let k = rest-follow t bound e w _ m slot here z in
-        rw es (record { rest = k .0; same = k .1 ∙ (rw node at (r .same)) })
 
     pub rebuild-carries : Carries t bound e w m slot
     rebuild-carries = rest-carries t bound e w _ m slot here (b .event) (b .whole)

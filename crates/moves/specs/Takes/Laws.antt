@@ -1,7 +1,7 @@
 -- Whether a residual may take an event: one law per way out of `takes_at`.
 --     tree-in, tree-known, tree-left, tree-right     where the words of a tree and of its sides stand
---     takes-not-kind, takes-not-held, takes-leaf     a leaf, by its kind and its set
---     takes-both-yes, takes-both-no, takes-either-yes, takes-either-no     a pair, by its set and its left side
+--     leaf-yes, leaf-no                              of a prefix's word, by its set
+--     takes-not-kind, takes-prefix, takes-pair       a tree, by the kind of its first node
 -- Assumes nothing.
 use Prim.Native.Nat.{ℕ, suc, _+_, _<_}
 use native.Mathlib.Omega.{arith}
@@ -22,9 +22,21 @@ use Rattle.residual.specs.Words.{nodeWord, termOfWord, kindAt, holdsAt, inSet, 
 use Rattle.residual.specs.Residual.{Residual, leaf, pair, words, after}
 use Rattle.walk.specs.Forest.{Valid}
 use Rattle.walk.specs.Forest.Words.{term-of-node, kind-of-node, holds-of-node, known-node, words-positive}
-use Rattle.moves.specs.Takes.{TreeAt, Takes}
+use Rattle.walk.specs.Course.{pairTakes}
+use Rattle.moves.specs.Takes.{TreeAt, Takes, leafTakes}
 use Rattle.moves.specs.Takes.Counts.{leaf-not-kind, leaf-not-held, leaf-held, pair-both, pair-either}
 use Rattle.moves.specs.Takes.Counts.{any-product, no-product, any-capped, none-of}
+
+-- ---- a prefix's word
+
+pub leaf-yes : (t : Table) (e w : ℕ) → holdsAt t e w ≡ true → (i c : ℕ) → i ≡ termOfWord w
+    → c ≡ capped (branches t (termOf t (i + 1))) → ltb 0 c ≡ leafTakes t e w
+unfolding leafTakes
+leaf-yes t e w z i c ei ec = rw (z, leafTakes, ec, ei)
+
+pub leaf-no : (t : Table) (e w : ℕ) → holdsAt t e w ≡ false → false ≡ leafTakes t e w
+unfolding leafTakes
+leaf-no t e w z = rw (z, leafTakes)
 
 -- ---- where the words of a tree stand
 
@@ -134,14 +146,14 @@ module _ {t : Table} {area : List ℕ} (k : ℕ) (s : TreeAt t area k) where
       here : (n m : ℕ) → m < 16777216 → getD area k 0 ≡ nodeWord n m → kindOf (termOf t n) ≡ 2
       here n m h w = sym (kind-of-node n m h t) ∙ ap (kindAt t) (sym w) ∙ q
 
-      pub takes-not-held : holdsAt t e (getD area k 0) ≡ false
+      takes-not-held : holdsAt t e (getD area k 0) ≡ false
           → Takes t e area k (record { moves = false; next = k + 1 })
       takes-not-held z =
           takes-by _ refl not-pair
           (λ n m h w. rw (leaf-not-held t e n m (here n m h w)
           (sym (holds-of-node n m h t e) ∙ ap (holdsAt t e) (sym w) ∙ z)))
 
-      pub takes-leaf : holdsAt t e (getD area k 0) ≡ true → (i c : ℕ) → i ≡ termOfWord (getD area k 0)
+      takes-leaf : holdsAt t e (getD area k 0) ≡ true → (i c : ℕ) → i ≡ termOfWord (getD area k 0)
           → c ≡ capped (branches t (termOf t (i + 1)))
           → Takes t e area k (record { moves = ltb 0 c; next = k + 1 })
       takes-leaf z i c ei ec =
@@ -150,6 +162,16 @@ module _ {t : Table} {area : List ℕ} (k : ℕ) (s : TreeAt t area k) where
           let d : i ≡ n = ei ∙ ap termOfWord w ∙ term-of-node n m h in
           rw (leaf-held t e n m (here n m h w) (sym (holds-of-node n m h t e) ∙ ap (holdsAt t e) (sym w) ∙ z))
           (any-capped (branches t (termOf t (n + 1))) c (rw d at ec)))
+
+      leaf-one : (h : Bool) → holdsAt t e (getD area k 0) ≡ h
+          → Takes t e area k (record { moves = leafTakes t e (getD area k 0); next = k + 1 })
+      unfolding leafTakes
+      leaf-one true z = rw (z, leafTakes) (takes-leaf z _ _ refl refl)
+      leaf-one false z = rw (z, leafTakes) (takes-not-held z)
+
+      pub takes-prefix : (x : Bool) → x ≡ leafTakes t e (getD area k 0) → (j : ℕ) → j ≡ k + 1
+          → Takes t e area k (record { moves = x; next = j })
+      takes-prefix x g j n = rw (g, n) (leaf-one (holdsAt t e (getD area k 0)) refl)
 
     -- ---- a pair
 
@@ -182,7 +204,7 @@ module _ {t : Table} {area : List ℕ} (k : ℕ) (s : TreeAt t area k) where
           → getD area k 0 ≡ nodeWord n m → inSet t (termOf t n) m e ≡ x
       set-of x z n m h w = sym (holds-of-node n m h t e) ∙ ap (holdsAt t e) (sym w) ∙ z
 
-      pub takes-both-yes : holdsAt t e (getD area k 0) ≡ true → a .moves ≡ true
+      takes-both-yes : holdsAt t e (getD area k 0) ≡ true → a .moves ≡ true
           → Takes t e area k (record { moves = b .moves; next = b .next })
       takes-both-yes z y =
           pair-by _ refl
@@ -190,7 +212,7 @@ module _ {t : Table} {area : List ℕ} (k : ℕ) (s : TreeAt t area k) where
           rw (pair-both t e n m l r (set-of true z n m h w))
           (mr ∙ sym (any-product (length (after t e l)) (length (after t e r)) (ltb-true 0 _ (sym ml ∙ y)))))
 
-      pub takes-both-no : holdsAt t e (getD area k 0) ≡ true → a .moves ≡ false
+      takes-both-no : holdsAt t e (getD area k 0) ≡ true → a .moves ≡ false
           → Takes t e area k (record { moves = false; next = b .next })
       takes-both-no z y =
           pair-by _ refl
@@ -198,7 +220,7 @@ module _ {t : Table} {area : List ℕ} (k : ℕ) (s : TreeAt t area k) where
           rw (pair-both t e n m l r (set-of true z n m h w))
           (sym (no-product (length (after t e l)) (length (after t e r)) (none-of _ (sym ml ∙ y)))))
 
-      pub takes-either-yes : holdsAt t e (getD area k 0) ≡ false → a .moves ≡ true
+      takes-either-yes : holdsAt t e (getD area k 0) ≡ false → a .moves ≡ true
           → Takes t e area k (record { moves = true; next = b .next })
       takes-either-yes z y =
           pair-by _ refl
@@ -207,7 +229,7 @@ module _ {t : Table} {area : List ℕ} (k : ℕ) (s : TreeAt t area k) where
           rw (pair-either t e n m l r (set-of false z n m h w))
           (sym (lt-ltb 0 (length (after t e l) + length (after t e r)) (omega arith))))
 
-      pub takes-either-no : holdsAt t e (getD area k 0) ≡ false → a .moves ≡ false
+      takes-either-no : holdsAt t e (getD area k 0) ≡ false → a .moves ≡ false
           → Takes t e area k (record { moves = b .moves; next = b .next })
       takes-either-no z y =
           pair-by _ refl
@@ -215,3 +237,15 @@ module _ {t : Table} {area : List ℕ} (k : ℕ) (s : TreeAt t area k) where
           let p : length (after t e l) + length (after t e r) ≡ length (after t e r) =
           omega (arith, none-of (length (after t e l)) (sym ml ∙ y)) in
           rw (pair-either t e n m l r (set-of false z n m h w), p) mr)
+
+      pair-one : (h x : Bool) → holdsAt t e (getD area k 0) ≡ h → a .moves ≡ x
+          → Takes t e area k (record { moves = pairTakes x (b .moves) h; next = b .next })
+      unfolding pairTakes
+      pair-one true true z y = takes-both-yes z y
+      pair-one true false z y = takes-both-no z y
+      pair-one false true z y = takes-either-yes z y
+      pair-one false false z y = takes-either-no z y
+
+      pub takes-pair : (h : Bool) → h ≡ holdsAt t e (getD area k 0) → (x : Bool) → x ≡ pairTakes (a .moves) (b .moves) h
+          → (j : ℕ) → j ≡ b .next → Takes t e area k (record { moves = x; next = j })
+      takes-pair h z x g j n = rw (g, n) (pair-one h (a .moves) (sym z) refl)

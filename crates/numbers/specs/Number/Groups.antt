@@ -135,7 +135,7 @@ short-scanned k top b s l =
     let e = groups-short k b l in
     record { whole = rw e refl; small = omega (arith, limit-suc k top, limit-some k top); taken = rw e refl }
 
-cons-path : (s t : List ℕ) (a b : ℕ) → a ≡ b → s ≡ t → a ∷ s ≡ b ∷ t
+pub cons-path : (s t : List ℕ) (a b : ℕ) → a ≡ b → s ≡ t → a ∷ s ≡ b ∷ t
 cons-path s t a b p q = cc
 
 long-scanned : (k top b : ℕ) (s : List ℕ) (v n : ℕ) (rest : List ℕ) → 128 ≤ b → b < 256 → 1 ≤ v

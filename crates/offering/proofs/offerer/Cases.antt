@@ -13,11 +13,11 @@ use Rattle.state.specs.declared.record.State.{State}
 use Rattle.state.specs.declared.record.Verdict.the-variants.{Running, Failed}
 use Rattle.monitor_spec.specs.Valid.Laws.{and-split}
 use Rattle.monitor_spec.specs.State.{Verdict, areasMeasured, even, choose}
+use Rattle.monitor_spec.specs.State.Areas.{present-even, present-odd}
 use Rattle.monitor_spec.specs.Consistent.{consistent}
 use Rattle.monitor_spec.specs.Feed.{presentSlots}
 use Rattle.monitor_spec.specs.Offer.{Offered, offers, refused, bitsBelow, offerBits, offering, offerJudged}
 use Rattle.state.specs.Record.{verdictOf, monitorOf}
-use Rattle.state.specs.Record.View.{present-even, present-odd}
 use Rattle.stepping.specs.Holds.{AreaHolds, heldIn}
 use Rattle.stepping.specs.Holds.Laws.{present-holds}
 

@@ -76,7 +76,7 @@ module _ (t : Table) (b n m i : ℕ) (slot : List ℕ) (s : Resolves t b n m i s
   pub go-none : {A : Type 0} → (k ≡ 1) ⊎ (6 ≤ k) → A
   go-none h = into-none t b n m i slot s (rw ek at h)
 
-pub beyond : (k : ℕ) → ((k ≡ 0) ⊎ (k ≡ 2) → ⊥) → (k ≡ 3 → ⊥) → (k ≡ 4 → ⊥) → (k ≡ 5 → ⊥) → (k ≡ 1 → ⊥) → 6 ≤ k
+pub beyond : (k : ℕ) → ((k ≡ 0) ⊎ (k ≡ 2) → ⊥) → (k ≡ 1 → ⊥) → (k ≡ 3 → ⊥) → (k ≡ 4 → ⊥) → (k ≡ 5 → ⊥) → 6 ≤ k
 beyond k f a b c d =
     let f0 : k ≡ 0 → ⊥ = λ e. f (inl e) in
     let f2 : k ≡ 2 → ⊥ = λ e. f (inr e) in

@@ -12,10 +12,10 @@ use Rattle.table.specs.Table.{Table}
 use Rattle.state.specs.declared.record.State.{State}
 use Rattle.state.specs.declared.record.Verdict.the-variants.{Running, Failed}
 use Rattle.monitor_spec.specs.State.{Verdict, slotCount, even, choose, chunks}
+use Rattle.monitor_spec.specs.State.Areas.{present-even, present-odd}
 use Rattle.monitor_spec.specs.Valid.{validSlot}
 use Rattle.monitor_spec.specs.Consistent.{every, ascends, allZero, verdictFits, recordFits, areaFits, consistent}
 use Rattle.monitor_spec.specs.Consistent.Reading.{verdict-room}
-use Rattle.state.specs.Record.View.{present-even, present-odd}
 use Rattle.state.specs.Record.{verdictOf, stateOf, monitorOf}
 
 not-above : (c n : ℕ) → leb c n ≡ not (ltb n c)

@@ -7,7 +7,7 @@ use native.Mathlib.Omega.{arith}
 use native.Mathlib.Numerals.{add-one}
 use native.Mathlib.Decide.{decLt}
 use mathlib.Core.Path.{_≡_, refl, ap, ap₂, sym, _∙_}
-use mathlib.Core.Bool.{Bool, true, false, _&&_}
+use mathlib.Core.Bool.{Bool, true, false, _&&_, and-assoc}
 use mathlib.Core.List.{List, [], _∷_}
 use mathlib.Core.Option.{Option, none, some}
 use lib.ListN.{length}
@@ -27,10 +27,6 @@ use Rattle.monitor_spec.specs.Valid.Laws.{plant-none, plant-some, forest-none, 
 use Rattle.monitor_spec.specs.Consistent.{every}
 use Rattle.state.specs.Walk.{withLeaf, paired, wordFits, plantedBy, planted, walked}
 use Rattle.state.specs.Walk.Laws.{paired-few, paired-two, planted-unfit, planted-fit, unknown-term, known-term}
-
-and-assoc : (a b c : Bool) → ((a && b) && c) ≡ (a && (b && c))
-and-assoc true b c = refl
-and-assoc false b c = refl
 
 -- the Broken forest stays so
 by-broken : (r : ℕ) (p : Term) → plantedBy r Broken p ≡ Broken

@@ -5,7 +5,7 @@
 use Prim.Native.Nat.{ℕ, suc, _+_, _-_, _≤_, _<_}
 use native.Mathlib.Omega.{arith}
 use mathlib.Core.Path.{_≡_, refl, ap, ap₂, sym, _∙_}
-use mathlib.Core.Bool.{Bool, true, false, _&&_}
+use mathlib.Core.Bool.{Bool, true, false, _&&_, and-false}
 use mathlib.Core.List.{List, [], _∷_, _++_}
 use mathlib.Core.Option.{Option, none, some}
 use lib.ListN.{length, getD, take, drop, replicate, length-drop, take-append-drop}
@@ -26,10 +26,6 @@ use Rattle.monitor_spec.specs.Consistent.Reading.{zero-split}
 use Rattle.state.specs.Walk.{walked, isWhole}
 use Rattle.state.specs.Walk.Words.{one-words}
 use Rattle.state.specs.Walk.Spelling.{reachAll, countedIf, kept, walked-forest}
-
-and-false : (b : Bool) → (b && false) ≡ false
-and-false true = refl
-and-false false = refl
 
 not-same : (a b : List ℕ) → (a ≡ b → ⊥) → isSame (compareWords a b) ≡ false
 not-same a b h = by (compareWords a b) refl

@@ -6,22 +6,23 @@ use Prim.Native.Nat.{ℕ, suc, _+_, _≤_, _<_}
 use native.Mathlib.Omega.{arith}
 use native.Mathlib.Decide.{decLe}
 use native.Mathlib.Numerals.{add-one}
-use mathlib.Core.Path.{_≡_, refl, _∙_}
+use mathlib.Core.Path.{_≡_, refl, ap, _∙_}
 use mathlib.Core.List.{List}
 use lib.ListN.{length, getD}
 use Rattle.table.specs.Table.{Table, termCount, bodyNumber}
 use Rattle.table.specs.Table.{sizes}
 use Rattle.table.specs.References.Nodes.{node-links}
 use Rattle.table.specs.Node.Laws.{own-node, spot-of}
+use Rattle.table.specs.Layout.{termsAt, bodiesAt, termCountAt, branchesDigit}
 use Rattle.table.specs.Index.{Structured}
-use Rattle.table.specs.Filling.{Kept, BranchesKnown, prefixesAt, FillAsked, CallsReady}
+use Rattle.table.specs.Filling.{ReachKept, BranchesKnown, prefixesAt, FillAsked, CallsReady}
 use Rattle.table.specs.Filling.{BranchesFilled, AllAsked, AllDone}
 use Rattle.table.specs.Filling.Spans.{end-stored, body-before, body-inside, body-whole, all-whole}
 
 pub record BodiesSoFar (t : Table) (w v : List ℕ) (d : ℕ) : Type 0 where
   pub inside : d ≤ length (t .definitions)
   pub structure : Structured t v
-  pub kept : Kept 6144 7168 w v
+  pub reaches : ReachKept w v
   pub known : (n : ℕ) → n < bodyNumber t d → prefixesAt t n ≡ 0 → BranchesKnown t v n
 
 pub bodies-first : (t : Table) (w : List ℕ) → AllAsked t w → BodiesSoFar t w w 0
@@ -30,7 +31,7 @@ bodies-first t w a =
     record {
       inside = omega arith;
       structure = a .structure;
-      kept = λ x h. refl;
+      reaches = λ n h. refl;
       known = λ n h q. absurd (omega arith);
     }
 
@@ -46,10 +47,10 @@ module _ (t : Table) (w v : List ℕ) (d : ℕ) (a : AllAsked t w) (s : BodiesSo
 
   module _ (h : d < length (t .definitions)) where
     abbrev Root : ℕ
-    Root = getD v (7232 + d) 0
+    Root = getD v (bodiesAt + d) 0
 
     abbrev End : ℕ
-    End = getD v (7232 + d + 1) 0
+    End = getD v (bodiesAt + d + 1) 0
 
     root-is : Root ≡ bodyNumber t d
     root-is = s .structure .roots d (omega arith)
@@ -82,23 +83,22 @@ module _ (t : Table) (w v : List ℕ) (d : ℕ) (a : AllAsked t w) (s : BodiesSo
     bodies-known : (v' : List ℕ) → BranchesFilled t v v' (bodyNumber t d) (bodyNumber t (suc d))
         → (n : ℕ) → n < bodyNumber t (suc d) → prefixesAt t n ≡ 0 → Dec (bodyNumber t d ≤ n) → BranchesKnown t v' n
     bodies-known v' f n u q (yes l) = f .known 0 bare-ready n l u (omega arith)
-    bodies-known v' f n u q (no l) = f .kept (6144 + n) (λ x. omega arith) ∙ s .known n (omega arith) q
+    bodies-known v' f n u q (no l) =
+        ap branchesDigit (f .kept (termsAt + n) (λ x. omega arith)) ∙ s .known n (omega arith) q
 
     pub bodies-next : (v' : List ℕ) → BranchesFilled t v v' Root End → BodiesSoFar t w v' (d + 1)
     bodies-next v' f =
         let g = rw (root-is, end-is) at f in
-        let b = body-inside t d h .inside in
-        let m = a .fields .terms-most in
         rw (add-one d)
         (record {
           inside = h;
           structure = g .structure;
-          kept = λ x k. g .kept x (λ y. k (omega arith)) ∙ s .kept x k;
+          reaches = λ n k. g .reaches n k ∙ s .reaches n k;
           known = λ n u q. bodies-known v' g n u q (decLe (bodyNumber t d) n);
         })
 
   -- then all terms
-  pub all-asked : FillAsked t v 0 (getD w 7307 0)
+  pub all-asked : FillAsked t v 0 (getD w termCountAt 0)
   all-asked =
       rw (a .structure .terms)
       (record {
@@ -113,13 +113,13 @@ module _ (t : Table) (w v : List ℕ) (d : ℕ) (a : AllAsked t w) (s : BodiesSo
   all-ready : length (t .definitions) ≤ d → CallsReady t v 0 (termCount t) 31
   all-ready h n l u q e x = let k = node-links t (a .linked) n u .exists e x in body-known e (omega arith)
 
-  pub all-done : (v' : List ℕ) → length (t .definitions) ≤ d → BranchesFilled t v v' 0 (getD w 7307 0) → AllDone t w v'
+  pub all-done : (v' : List ℕ) → length (t .definitions) ≤ d → BranchesFilled t v v' 0 (getD w termCountAt 0)
+      → AllDone t w v'
   all-done v' h f =
       let g = rw (a .structure .terms) at f in
-      let m = a .fields .terms-most in
       record {
         structure = g .structure;
-        kept = λ x k. g .kept x (λ y. k (omega arith)) ∙ s .kept x k;
+        reaches = λ n k. g .reaches n k ∙ s .reaches n k;
         branching = λ n u.
             let p = spot-of t (a .fields) n u .prefixes in
             g .known 31 (all-ready h) n (omega arith) u (omega arith);

@@ -3,7 +3,7 @@
 --     excess-first, excess-none        the first node that exceeds; none does
 --     excess-broken, excess-nowhere    what `first_excess` answers
 -- Assumes nothing.
-use Prim.Native.Nat.{ℕ, suc, _+_, _/_, _%_, _≤_, _<_, min}
+use Prim.Native.Nat.{ℕ, suc, _+_, _≤_, _<_, min}
 use native.Mathlib.Omega.{arith}
 use native.Mathlib.Decide.{decLt, decLe}
 use mathlib.Core.Path.{_≡_, refl, sym, ap, ap₂, _∙_}
@@ -26,6 +26,7 @@ use Rattle.table.specs.Branches.Capped.{capped}
 use Rattle.table.specs.Node.{Node, node, nodes, nodesFrom, nodesOf, definitionsAt, nodeAt, noNode, termOf}
 use Rattle.table.specs.Node.{bodySpot, followerSpot, sideSpot, besideSpot}
 use Rattle.table.specs.Node.Laws.{length-nodes, length-nodesOf}
+use Rattle.table.specs.Layout.{termsAt, termCountAt, entryDigit, branchesDigit}
 use Rattle.table.specs.Index.{Reaching, tableIn}
 use Rattle.table.specs.Index.Laws.{digits}
 use Rattle.table.specs.Judging.{ExcessDone}
@@ -42,7 +43,8 @@ capped-above b = go (decLe b 256)
     go (no h) = rw (lt-ltb 256 (min 257 b) (omega arith), lt-leb b 256 (omega arith)) refl
 
 module _ (t : Table) (w : List ℕ) (n : ℕ) (a : ExcessAsked t w n) where
-  pub excess-entry : getD w (4096 + n) 0 / 128 % 2 ≡ 1 → ltb 256 (getD w (6144 + n) 0) ≡ exceeds t n
+  pub excess-entry : entryDigit (getD w (termsAt + n) 0) ≡ 1
+      → ltb 256 (branchesDigit (getD w (termsAt + n) 0)) ≡ exceeds t n
   unfolding exceeds few termOf
   excess-entry h =
       let d = digits t w (a .fields) (a .structure) n (a .inside) .entry in
@@ -51,7 +53,7 @@ module _ (t : Table) (w : List ℕ) (n : ℕ) (a : ExcessAsked t w n) where
       ∙ capped-above (branches t (nodeAt t n .term))
       ∙ rw (eq-eqb _ _ e) refl
 
-  pub excess-other : (getD w (4096 + n) 0 / 128 % 2 ≡ 1 → ⊥) → false ≡ exceeds t n
+  pub excess-other : (entryDigit (getD w (termsAt + n) 0) ≡ 1 → ⊥) → false ≡ exceeds t n
   unfolding exceeds few
   excess-other h =
       let d = digits t w (a .fields) (a .structure) n (a .inside) .entry in
@@ -158,10 +160,10 @@ module _ (t : Table) where
 reach-kept : (t : Table) (w v : List ℕ) → Fields t → Reaching t w → AllDone t w v → Reaching t v
 reach-kept t w v f r d n h =
     let m = f .terms-most in
-    d .kept (5120 + n) (λ x. omega arith) ∙ r n h
+    d .reaches n (omega arith) ∙ r n h
 
 module _ (l w v : List ℕ) (f : Fields (tableIn l)) (r : Reaching (tableIn l) w) (d : AllDone (tableIn l) w v) where
-  pub excess-asked : (n : ℕ) → n < getD v 7307 0 → ExcessAsked (tableIn l) v n
+  pub excess-asked : (n : ℕ) → n < getD v termCountAt 0 → ExcessAsked (tableIn l) v n
   excess-asked n h =
       let e = d .structure .terms in
       record { fields = f; structure = d .structure; branching = d .branching; inside = omega arith }
@@ -176,7 +178,7 @@ module _ (l w v : List ℕ) (f : Fields (tableIn l)) (r : Reaching (tableIn l) w
         branching = d .branching;
       }
 
-  pub excess-nowhere : (n : ℕ) → ((k : ℕ) → k < n → exceeds (tableIn l) k ≡ false) → getD v 7307 0 ≤ n
+  pub excess-nowhere : (n : ℕ) → ((k : ℕ) → k < n → exceeds (tableIn l) k ≡ false) → getD v termCountAt 0 ≤ n
       → ExcessDone l v Nowhere
   excess-nowhere n b h =
       let e = d .structure .terms in

@@ -4,7 +4,7 @@
 --     stop-is, fail-is, prefix-is, choice-is, par-is, call-is    the term of a kind
 --     size-some                                                  a term has one term at least
 -- Assumes nothing.
-use Prim.Native.Nat.{ℕ, _+_, _%_, _≤_, _<_}
+use Prim.Native.Nat.{ℕ, _+_, _≤_, _<_}
 use native.Mathlib.Omega.{arith}
 use mathlib.Core.Path.{_≡_, refl, sym, _∙_}
 use mathlib.Core.List.{List}
@@ -12,11 +12,12 @@ use lib.ListN.{getD}
 use Rattle.table.specs.Table.{SetRef, Term, stop, fail, prefix, choice, par, call, Table, size, termCount}
 use Rattle.table.specs.Fields.{Fields}
 use Rattle.table.specs.Node.{termOf, kindOf}
+use Rattle.table.specs.Layout.{termsAt, kindDigit}
 use Rattle.table.specs.Index.{Structured}
 use Rattle.table.specs.Index.Laws.{digits}
 
 pub kind-at : (t : Table) (w : List ℕ) → Fields t → Structured t w → (n : ℕ) → n < termCount t
-    → (k : ℕ) → getD w (4096 + n) 0 % 8 ≡ k → kindOf (termOf t n) ≡ k
+    → (k : ℕ) → kindDigit (getD w (termsAt + n) 0) ≡ k → kindOf (termOf t n) ≡ k
 kind-at t w f s n h k e = sym (digits t w f s n h .kind) ∙ e
 
 pub kind-small : (p : Term) → kindOf p ≤ 5

@@ -20,6 +20,7 @@ use Rattle.table.specs.Width.{widthWith, widest}
 use Rattle.table.specs.Branches.{bodyIn}
 use Rattle.table.specs.Node.{termOf}
 use Rattle.table.specs.Node.Laws.{body-node, own-node}
+use Rattle.table.specs.Layout.{termsAt, setsAt, bodiesAt, levelsAt, widthsAt, widthDigit}
 use Rattle.table.specs.Index.{Structured}
 use Rattle.table.specs.Filling.{Kept, storedCall, CallCounted, WidthsAsked, WidthsFilled}
 use Rattle.table.specs.Filling.{LevelAsked, bodyWidth, BodyDone, LevelDone}
@@ -29,13 +30,13 @@ use Rattle.table.specs.Filling.OneWidth.{calls-kept}
 
 -- ---- a body
 
-stored-small : (t : Table) (w : List ℕ) (level : ℕ) → ((k : ℕ) → k < level → getD w (7297 + k) 0 ≤ 8)
+stored-small : (t : Table) (w : List ℕ) (level : ℕ) → ((k : ℕ) → k < level → getD w (widthsAt + k) 0 ≤ 8)
     → (d : ℕ) → levelIn (t .definitions) d ≤ level → storedCall t w level d ≤ 8
 unfolding storedCall
 stored-small t w level f d h = go (decLt (levelIn (t .definitions) d) level)
   where
     go : Dec (levelIn (t .definitions) d < level)
-        → cond (eqb (levelIn (t .definitions) d) level) 1 (getD w (7297 + levelIn (t .definitions) d) 0) ≤ 8
+        → cond (eqb (levelIn (t .definitions) d) level) 1 (getD w (widthsAt + levelIn (t .definitions) d) 0) ≤ 8
     go (yes k) =
         let n : (levelIn (t .definitions) d ≡ level → ⊥) = λ e. omega arith in
         rw (ne-eqb _ _ n) (f (levelIn (t .definitions) d) k)
@@ -45,10 +46,10 @@ stored-small t w level f d h = go (decLt (levelIn (t .definitions) d) level)
 
 module _ (t : Table) (w : List ℕ) (d level : ℕ) (a : LevelAsked t w level) (h : d < length (t .definitions)) where
   abbrev Root : ℕ
-  Root = getD w (7232 + d) 0
+  Root = getD w (bodiesAt + d) 0
 
   abbrev End : ℕ
-  End = getD w (7232 + d + 1) 0
+  End = getD w (bodiesAt + d + 1) 0
 
   root-is : Root ≡ bodyNumber t d
   root-is = a .structure .roots d (omega arith)
@@ -67,7 +68,7 @@ module _ (t : Table) (w : List ℕ) (d level : ℕ) (a : LevelAsked t w level) (
       let m = a .fields .terms-most in
       omega arith
 
-  own-level : getD w (7265 + d) 0 ≡ level → levelIn (t .definitions) d ≡ level
+  own-level : getD w (levelsAt + d) 0 ≡ level → levelIn (t .definitions) d ≡ level
   own-level e = sym (a .structure .levels d h) ∙ e
 
   level-counted : levelIn (t .definitions) d ≡ level → (n : ℕ) → bodyNumber t d ≤ n → n < bodyNumber t (suc d)
@@ -79,7 +80,7 @@ module _ (t : Table) (w : List ℕ) (d level : ℕ) (a : LevelAsked t w level) (
       let q = rw (o, e) at (k .lower c x) in
       (k .exists c x, stored-small t w level (a .lower) c q)
 
-  pub body-asked : getD w (7265 + d) 0 ≡ level → WidthsAsked t w Root End level
+  pub body-asked : getD w (levelsAt + d) 0 ≡ level → WidthsAsked t w Root End level
   body-asked e =
       let b = body-node t d h in
       let n = b .next in
@@ -93,8 +94,8 @@ module _ (t : Table) (w : List ℕ) (d level : ℕ) (a : LevelAsked t w level) (
         counted = level-counted (own-level e);
       })
 
-  pub body-own : (v : List ℕ) → getD w (7265 + d) 0 ≡ level → WidthsFilled t w v Root End level
-      → BodyDone t w v d level (getD v (5120 + Root) 0)
+  pub body-own : (v : List ℕ) → getD w (levelsAt + d) 0 ≡ level → WidthsFilled t w v Root End level
+      → BodyDone t w v d level (widthDigit (getD v (termsAt + Root) 0))
   unfolding bodyWidth
   body-own v e f =
       let b = body-node t d h in
@@ -114,7 +115,7 @@ module _ (t : Table) (w : List ℕ) (d level : ℕ) (a : LevelAsked t w level) (
             ∙ rw (eq-eqb _ _ (own-level e)) refl;
       }
 
-  pub body-other : (getD w (7265 + d) 0 ≡ level → ⊥) → BodyDone t w w d level 0
+  pub body-other : (getD w (levelsAt + d) 0 ≡ level → ⊥) → BodyDone t w w d level 0
   unfolding bodyWidth
   body-other n =
       let o : (levelIn (t .definitions) d ≡ level → ⊥) = λ q. n (a .structure .levels d h ∙ q) in
@@ -125,7 +126,7 @@ module _ (t : Table) (w : List ℕ) (d level : ℕ) (a : LevelAsked t w level) (
 pub record LevelSoFar (t : Table) (w v : List ℕ) (level widestSo d : ℕ) : Type 0 where
   pub inside : d ≤ length (t .definitions)
   pub structure : Structured t v
-  pub kept : Kept 5120 6144 w v
+  pub kept : Kept termsAt setsAt w v
   pub rest : max widestSo (widest (widthWith (storedCall t w level)) level (drop d (t .definitions)))
       ≡ widest (widthWith (storedCall t w level)) level (t .definitions)
 
@@ -141,7 +142,7 @@ module _ (t : Table) (w v : List ℕ) (level m d : ℕ) (a : LevelAsked t w leve
         structure = s .structure;
         linked = a .linked;
         inside = a .inside;
-        lower = λ k h. rw (s .kept (7297 + k) (λ x. omega arith)) (a .lower k h);
+        lower = λ k h. rw (s .kept (widthsAt + k) (λ x. omega arith)) (a .lower k h);
       }
 
   larger-rest : (b : Bool) (x rest : ℕ) → max (max m (cond b x 0)) rest ≡ max m (cond b (max x rest) rest)

@@ -1,6 +1,6 @@
 -- Where the terms of a definition stand, and what their calls name.
 --     end-stored                    the word of the next body
---     structured-set                a word of reach or branches is not of the structure
+--     structured-set                a term's word with the same structure is stored
 --     body-before                   bodies stand in the order of their definitions
 --     body-whole, all-whole         the terms of a definition, and all terms, are whole
 --     body-inside                   where a body stands, and that no prefix is around it
@@ -9,11 +9,12 @@
 -- Assumes nothing.
 use Prim.Native.Nat.{ℕ, zero, suc, _+_, _-_, _≤_, _<_}
 use native.Mathlib.Omega.{arith}
-use mathlib.Core.Path.{_≡_, ap, subst}
+use native.Mathlib.Decide.{ℕ-discrete}
+use mathlib.Core.Path.{_≡_, ap, _∙_, subst}
 use mathlib.Core.List.{List}
 use mathlib.Core.Option.{none}
 use lib.ListN.{length, getD, set, length-set}
-use lib.Seq.{getD-set-other}
+use lib.Seq.{getD-set-same, getD-set-other}
 use Rattle.numbers.specs.Every.{AllFrom, from-imp}
 use Rattle.table.specs.Table.{Table, termCount, bodyNumber}
 use Rattle.table.specs.Context.{outermost, Throughout}
@@ -27,6 +28,7 @@ use Rattle.table.specs.Equations.{Guarded, Lower}
 use Rattle.table.specs.Branches.{bodyIn}
 use Rattle.table.specs.Node.{nodeAt}
 use Rattle.table.specs.Node.Laws.{body-node, home-node, own-node, node-fits}
+use Rattle.table.specs.Layout.{termsAt, bodiesAt, levelsAt, structureOf}
 use Rattle.table.specs.Index.{Structured}
 use Rattle.table.specs.Index.Laws.{structured-kept}
 use Rattle.table.specs.Filling.{Whole}
@@ -38,7 +40,7 @@ level-most t f d = levels-at (t .definitions) _ d (omega arith) (f .levels)
 
 -- the stored level
 pub level-stored : (t : Table) (w : List ℕ) (d : ℕ) → Fields t → Structured t w → d < length (t .definitions)
-    → getD w (7265 + d) 0 ≤ 7
+    → getD w (levelsAt + d) 0 ≤ 7
 level-stored t w d f s h =
     let a = s .levels d h in
     let b = level-most t f d in
@@ -46,16 +48,27 @@ level-stored t w d f s h =
 
 -- where the next body stands, which is where d's ends
 pub end-stored : (t : Table) (w : List ℕ) (d : ℕ) → Structured t w → d < length (t .definitions)
-    → getD w (7232 + d + 1) 0 ≡ bodyNumber t (suc d)
+    → getD w (bodiesAt + d + 1) 0 ≡ bodyNumber t (suc d)
 end-stored t w d s h =
-    let e : 7232 + d + 1 ≡ 7232 + suc d = omega arith in
+    let e : bodiesAt + d + 1 ≡ bodiesAt + suc d = omega arith in
     rw e (s .roots (suc d) h)
 
-pub structured-set : (t : Table) (w : List ℕ) (x r : ℕ) → Fields t → 5120 ≤ x → x < 7168 → Structured t w
-    → Structured t (set w x r)
-structured-set t w x r f a b s =
-    structured-kept t w (set w x r) f (length-set w x r)
-    (λ y h k. getD-set-other w x y r 0 (λ e. h (omega arith))) s
+-- what a term's word says is as it was, where one with the same digit is stored
+pub digit-set : (f : ℕ → ℕ) (w : List ℕ) (n r : ℕ) → termsAt + n < length w → f r ≡ f (getD w (termsAt + n) 0)
+    → (k : ℕ) → f (getD (set w (termsAt + n) r) (termsAt + k) 0) ≡ f (getD w (termsAt + k) 0)
+digit-set f w n r b e k =
+    elim (ℕ-discrete k n) [
+      | yes q ↦ rw q (ap f (getD-set-same w (termsAt + n) r 0 b) ∙ e)
+      | no q ↦ ap f (getD-set-other w (termsAt + n) (termsAt + k) r 0 (λ z. q (omega arith)))
+    ]
+
+pub structured-set : (t : Table) (w : List ℕ) (n r : ℕ) → Fields t → n < 1024
+    → structureOf r ≡ structureOf (getD w (termsAt + n) 0) → Structured t w → Structured t (set w (termsAt + n) r)
+structured-set t w n r f b e s =
+    let o = s .whole in
+    structured-kept t w (set w (termsAt + n) r) f (length-set w (termsAt + n) r)
+    (λ y h k. getD-set-other w (termsAt + n) y r 0 (λ e. h (omega arith)))
+    (λ k h. digit-set structureOf w n r (omega arith) e k) s
 
 body-next : (t : Table) (d : ℕ) → d < length (t .definitions) → bodyNumber t d ≤ bodyNumber t (suc d)
 body-next t d h = let e = body-node t d h .next in omega arith
@@ -97,7 +110,7 @@ pub all-whole : (t : Table) → Whole t 0 (termCount t)
 all-whole t n a b = node-fits t n b
 
 module _ (t : Table) (h : firstWrong t ≡ none) where
-  linkage : AllFrom (BodyLinked (t .definitions)) 0 (t .definitions)
+  pub linkage : AllFrom (BodyLinked (t .definitions)) 0 (t .definitions)
   unfolding firstWrong
   linkage = from-out (t .definitions) 0 _ (t .definitions) h
 

@@ -19,20 +19,28 @@ use Rattle.table.specs.declared.answer.First.the-variants.{Nowhere, Brok
 use Rattle.table.specs.Grow.{grow}
 use Rattle.table.specs.Grow.Laws.{length-grow, getD-grow, grow-stable}
 use Rattle.table.specs.First.{orElse, unless}
-use Rattle.table.specs.Table.{Table}
+use Rattle.table.specs.Table.{Table, termCount}
+use Rattle.table.specs.Context.{Each}
+use Rattle.table.specs.Context.Laws.{each-imp}
+use Rattle.table.specs.Branches.{bodyIn}
+use Rattle.table.specs.Node.{termOf}
+use Rattle.table.specs.Node.Laws.{each-node}
 use Rattle.table.specs.Fields.{Fields}
 use Rattle.table.specs.References.{levelIn, firstWrong}
 use Rattle.table.specs.References.Nodes.{node-links}
 use Rattle.table.specs.Width.{widthWith, widest, callWidth, nextWidth, allWidths, levelWidth}
 use Rattle.table.specs.Width.{reach, firstAbove, tooWide}
 use Rattle.table.specs.Width.Laws.{above-in}
+use Rattle.table.specs.Width.Reach.{bodies-all, reach-linked}
 use Rattle.table.specs.Equations.{widest-agree}
+use Rattle.table.specs.Layout.{termsAt, widthsAt, termCountAt, structureOf, widthDigit}
+use Rattle.table.specs.Layout.Laws.{reach-same}
 use Rattle.table.specs.Index.{Structured, Reaching, tableIn}
 use Rattle.table.specs.Index.Laws.{structured-kept}
 use Rattle.table.specs.Judging.{WideDone}
 use Rattle.table.specs.Filling.{storedCall, WidthsAsked, WidthsFilled}
 use Rattle.table.specs.Filling.{LevelAsked, LevelDone}
-use Rattle.table.specs.Filling.Spans.{level-most, all-whole, calls-level}
+use Rattle.table.specs.Filling.Spans.{level-most, all-whole, linkage, calls-level}
 
 -- ---- the levels
 
@@ -51,7 +59,7 @@ above-at bound i (n ∷ l) (suc j) h f b =
 pub record WideSoFar (t : Table) (v : List ℕ) (level : ℕ) : Type 0 where
   pub inside : level ≤ 8
   pub structure : Structured t v
-  pub stored : (k : ℕ) → k < level → getD v (7297 + k) 0 ≡ levelWidth t k
+  pub stored : (k : ℕ) → k < level → getD v (widthsAt + k) 0 ≡ levelWidth t k
   pub few : (k : ℕ) → k < level → levelWidth t k ≤ 8
 
 pub wide-first : (t : Table) (w : List ℕ) → Structured t w → WideSoFar t w 0
@@ -86,7 +94,7 @@ module _ (t : Table) (v : List ℕ) (level : ℕ) (f : Fields t) (linked : first
       go : Dec (levelIn (t .definitions) e < level)
           → cond (eqb (levelIn (t .definitions) e) (length (grow F level))) 1
           (getD (grow F level) (levelIn (t .definitions) e) 0)
-          ≡ cond (eqb (levelIn (t .definitions) e) level) 1 (getD v (7297 + levelIn (t .definitions) e) 0)
+          ≡ cond (eqb (levelIn (t .definitions) e) level) 1 (getD v (widthsAt + levelIn (t .definitions) e) 0)
       go (yes k) =
           let n = length-grow F level in
           let x : (levelIn (t .definitions) e ≡ length (grow F level) → ⊥) = λ q. omega arith in
@@ -116,31 +124,31 @@ module _ (t : Table) (v : List ℕ) (level : ℕ) (f : Fields t) (linked : first
   length-widths = length-grow F 8
 
   pub wide-next : (v' : List ℕ) (r : ℕ) → level < 8 → LevelDone t v v' level r → r ≤ 8
-      → WideSoFar t (set v' (7297 + level) r) (level + 1)
+      → WideSoFar t (set v' (widthsAt + level) r) (level + 1)
   wide-next v' r h d b =
       let e = wide-value v' r h d in
       let o = d .structure .whole in
-      let w' = set v' (7297 + level) r in
-      let other : (x : ℕ) → (x ≡ 7297 + level → ⊥) → getD w' x 0 ≡ getD v' x 0 =
-      λ x g. getD-set-other v' (7297 + level) x r 0 g
+      let w' = set v' (widthsAt + level) r in
+      let other : (x : ℕ) → (x ≡ widthsAt + level → ⊥) → getD w' x 0 ≡ getD v' x 0 =
+      λ x g. getD-set-other v' (widthsAt + level) x r 0 g
       in
-      let old : (k : ℕ) → k < level → getD w' (7297 + k) 0 ≡ levelWidth t k =
-      λ k g. other (7297 + k) (λ q. omega arith) ∙ d .kept (7297 + k) (λ q. omega arith) ∙ s .stored k g
+      let old : (k : ℕ) → k < level → getD w' (widthsAt + k) 0 ≡ levelWidth t k =
+      λ k g. other (widthsAt + k) (λ q. omega arith) ∙ d .kept (widthsAt + k) (λ q. omega arith) ∙ s .stored k g
       in
-      let here : getD w' (7297 + level) 0 ≡ levelWidth t level =
-      getD-set-same v' (7297 + level) r 0 (omega arith) ∙ e
+      let here : getD w' (widthsAt + level) 0 ≡ levelWidth t level =
+      getD-set-same v' (widthsAt + level) r 0 (omega arith) ∙ e
       in
       record {
         inside = omega arith;
         structure =
-            structured-kept t v' w' f (length-set v' (7297 + level) r) (λ x g k. other x (λ q. k (omega arith)))
-            (d .structure);
+            structured-kept t v' w' f (length-set v' (widthsAt + level) r) (λ x g k. other x (λ q. k (omega arith)))
+            (λ n g. ap structureOf (other (termsAt + n) (λ q. omega arith))) (d .structure);
         stored = λ k g.
             elim (decLt k level) [
               | yes q ↦ old k q
               | no q ↦
                   let z : k ≡ level = omega arith in
-                  subst (λ (j : ℕ). getD w' (7297 + j) 0 ≡ levelWidth t j) (sym z) here
+                  subst (λ (j : ℕ). getD w' (widthsAt + j) 0 ≡ levelWidth t j) (sym z) here
             ];
         few = λ k g.
             elim (decLt k level) [
@@ -185,7 +193,7 @@ module _ (t : Table) (v : List ℕ) (level : ℕ) (f : Fields t) (linked : first
       let n : (levelIn (t .definitions) d ≡ 8 → ⊥) = λ e. omega arith in
       rw (ne-eqb _ _ n) (s .stored (levelIn (t .definitions) d) (omega arith))
 
-  pub reach-asked : 8 ≤ level → WidthsAsked t v 0 (getD v 7307 0) 8
+  pub reach-asked : 8 ≤ level → WidthsAsked t v 0 (getD v termCountAt 0) 8
   reach-asked h =
       rw (s .structure .terms)
       (record {
@@ -200,12 +208,30 @@ module _ (t : Table) (v : List ℕ) (level : ℕ) (f : Fields t) (linked : first
         );
       })
 
-  pub reach-done : (v' : List ℕ) → 8 ≤ level → WidthsFilled t v v' 0 (getD v 7307 0) 8 → Reaching t v'
+  -- the widths are at most 8, and so is the reach of every term
+  reach-small : 8 ≤ level → (n : ℕ) → n < termCount t → reach t (termOf t n) ≤ 8
+  reach-small h n b =
+      each-node (λ p. reach t p ≤ 8) t
+      (bodies-all (Each (λ p. reach t p ≤ 8)) (t .definitions)
+      (λ d k.
+      let m = level-most t f d in
+      let q = s .few (levelIn (t .definitions) d) (omega arith) in
+      each-imp (λ p. reach t p ≤ levelWidth t (levelIn (t .definitions) d)) (λ p. reach t p ≤ 8) (λ p x. omega arith)
+      (bodyIn (t .definitions) d) (reach-linked t (f .levels) (linkage t linked) d k)))
+      n b
+
+  reach-stored : (v' : List ℕ) → 8 ≤ level → WidthsFilled t v v' 0 (getD v termCountAt 0) 8 → (n : ℕ)
+      → n < termCount t → widthDigit (getD v' (termsAt + n) 0) ≡ reach t (termOf t n)
   unfolding reach
-  reach-done v' h g n b =
+  reach-stored v' h g n b =
       let e = s .structure .terms in
       let c : storedCall t v 8 ≡ (λ d. levelWidth t (levelIn (t .definitions) d)) = fun-ext (stored-reach h) in
       rw c at (g .known n (omega arith) (omega arith) .value)
+
+  pub reach-done : (v' : List ℕ) → 8 ≤ level → WidthsFilled t v v' 0 (getD v termCountAt 0) 8 → Reaching t v'
+  reach-done v' h g n b =
+      let z = reach-small h n b in
+      reach-same (getD v' (termsAt + n) 0) (reach t (termOf t n)) (reach-stored v' h g n b) (omega arith)
 
 -- ---- the answers
 

@@ -1,17 +1,21 @@
 -- The widths of terms, stored one after the other from the last: the turns of `fill_widths`.
 --     widths-first, widths-done     before the first turn; after the last
---     width-next, widths-next       what a turn asks of `width_at`; one width more
+--     width-next, width-small       what a turn asks of `width_at`; what it gives fits in a word
+--     widths-next                   one width more
 -- The width of one term is in `OneWidth.antt`. Assumes nothing.
 use Prim.Native.Nat.{ℕ, _+_, _-_, _≤_, _<_}
 use native.Mathlib.Omega.{arith}
 use native.Mathlib.Decide.{decLe}
-use mathlib.Core.Path.{_≡_, refl, _∙_, subst}
+use mathlib.Core.Path.{_≡_, refl, ap, _∙_, subst}
 use mathlib.Core.List.{List}
 use lib.ListN.{getD, set}
 use lib.Seq.{getD-set-same, getD-set-other}
 use Rattle.table.specs.Table.{Table}
 use Rattle.table.specs.Width.{widthWith}
 use Rattle.table.specs.Node.{termOf}
+use Rattle.table.specs.Node.Laws.{node-fits}
+use Rattle.table.specs.Layout.{termsAt, widthDigit, withWidth}
+use Rattle.table.specs.Layout.Laws.{width-structure, width-same}
 use Rattle.table.specs.Filling.{storedCall, WidthKnown, WidthAsked, WidthGiven, WidthsAsked, WidthsFilled}
 use Rattle.table.specs.Filling.Spans.{structured-set}
 use Rattle.table.specs.Filling.OneWidth.{calls-kept}
@@ -48,17 +52,28 @@ module _ (t : Table) (w v : List ℕ) (from to level m : ℕ) (a : WidthsAsked t
         counted = rw same-calls (a .counted (m - 1) (omega arith) (omega arith));
       }
 
-  abbrev After : ℕ → List ℕ
-  After r = set v (5120 + (m - 1)) r
+  pub width-small : (r : ℕ) → WidthGiven t v (m - 1) level r → r ≤ 8192
+  width-small r g =
+      let i = a .inside in
+      let b = node-fits t (m - 1) (omega arith) in
+      let s = g .small in
+      let k = a .fields .terms-most in
+      omega arith
 
-  after-other : (r x : ℕ) → (x ≡ 5120 + (m - 1) → ⊥) → getD (After r) x 0 ≡ getD v x 0
-  after-other r x h = getD-set-other v (5120 + (m - 1)) x r 0 h
+  abbrev Word : ℕ → ℕ
+  Word r = withWidth (getD v (termsAt + (m - 1)) 0) r
+
+  abbrev After : ℕ → List ℕ
+  After r = set v (termsAt + (m - 1)) (Word r)
+
+  after-other : (r x : ℕ) → (x ≡ termsAt + (m - 1) → ⊥) → getD (After r) x 0 ≡ getD v x 0
+  after-other r x h = getD-set-other v (termsAt + (m - 1)) x (Word r) 0 h
 
   after-known : (r : ℕ) → WidthGiven t v (m - 1) level r → (n : ℕ) → m - 1 ≤ n → n < to → Dec (m ≤ n)
       → WidthKnown t (After r) (storedCall t w level) n
   after-known r g n h k (yes q) =
       let z = f .known n q k in
-      record { value = after-other r (5120 + n) (λ e. omega arith) ∙ z .value; small = z .small }
+      record { value = ap widthDigit (after-other r (termsAt + n) (λ e. omega arith)) ∙ z .value; small = z .small }
   after-known r g n h k (no q) =
       let i = a .inside in
       let b = a .fields .terms-most in
@@ -68,7 +83,9 @@ module _ (t : Table) (w v : List ℕ) (from to level m : ℕ) (a : WidthsAsked t
       let s = g .small in
       rw e
       (record {
-        value = getD-set-same v (5120 + (m - 1)) r 0 (omega arith) ∙ g';
+        value =
+            ap widthDigit (getD-set-same v (termsAt + (m - 1)) (Word r) 0 (omega arith))
+            ∙ width-same (getD v (termsAt + (m - 1)) 0) r ∙ g';
         small = rw (← g') s;
       })
 
@@ -77,7 +94,9 @@ module _ (t : Table) (w v : List ℕ) (from to level m : ℕ) (a : WidthsAsked t
       let i = a .inside in
       let b = a .fields .terms-most in
       record {
-        structure = structured-set t v (5120 + (m - 1)) r (a .fields) (omega arith) (omega arith) (f .structure);
+        structure =
+            structured-set t v (m - 1) (Word r) (a .fields) (omega arith)
+            (width-structure (getD v (termsAt + (m - 1)) 0) r) (f .structure);
         kept = λ x h. after-other r x (λ e. h (omega arith)) ∙ f .kept x (λ k. h (omega arith));
         known = λ n h k. after-known r g n h k (decLe m n);
       }

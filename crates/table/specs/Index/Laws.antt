@@ -1,9 +1,9 @@
 -- The digits of a term's word, and what a write elsewhere keeps of the index.
 --     Digits, digits           the digits of the word of term n in a structured work area
---     structured-kept          a work area that agrees with a structured one below 5,120 and from 7,168 to 7,296 and in
---                              the counts is structured
+--     structured-kept          a work area that agrees with a structured one apart from the widths of levels and what
+--                              stands above the structure of terms is structured
 -- Assumes nothing.
-use Prim.Native.Nat.{ℕ, _+_, _*_, _/_, _%_, _<_, _≤_}
+use Prim.Native.Nat.{ℕ, _+_, _*_, _<_, _≤_}
 use native.Mathlib.Omega.{arith}
 use mathlib.Core.Path.{_≡_, _∙_}
 use mathlib.Core.List.{List}
@@ -13,17 +13,21 @@ use Rattle.table.specs.Table.{Table, size, termCount}
 use Rattle.table.specs.Fields.{Fields, OfRef, ParamSmall}
 use Rattle.table.specs.Node.{nodeAt, termOf, kindOf, leftSize, refOf, parameterOf}
 use Rattle.table.specs.Node.Laws.{spot-of, node-fits, each-node}
+use Rattle.table.specs.Layout.{termsAt, setsAt, bodiesAt, levelsAt, widthsAt, alphabetAt, definitionCountAt}
+use Rattle.table.specs.Layout.{termCountAt, startAt, parameterUnit, parallelUnit, entryUnit, prefixesUnit}
+use Rattle.table.specs.Layout.{ownUnit, rightUnit, targetUnit, kindDigit, parameterDigit, parallelDigit}
+use Rattle.table.specs.Layout.{entryDigit, prefixesDigit, ownDigit, rightDigit, targetDigit, structureOf}
 use Rattle.table.specs.Index.{targetOf, packed, wordOf, Structured}
 
 pub record Digits (t : Table) (n x : ℕ) : Type 0 where
-  pub kind : x % 8 ≡ kindOf (termOf t n)
-  pub parameter : x / 8 % 8 ≡ parameterOf (refOf (termOf t n))
-  pub parallel : x / 64 % 2 ≡ nodeAt t n .spot .parallel
-  pub entry : x / 128 % 2 ≡ nodeAt t n .spot .entry
-  pub prefixes : x / 256 % 64 ≡ nodeAt t n .spot .prefixes
-  pub own : x / 16384 % 32 ≡ nodeAt t n .spot .own
-  pub right : x / 524288 % 2048 ≡ n + 1 + leftSize (termOf t n)
-  pub target : x / 1073741824 ≡ targetOf (t .sets) (termOf t n)
+  pub kind : kindDigit x ≡ kindOf (termOf t n)
+  pub parameter : parameterDigit x ≡ parameterOf (refOf (termOf t n))
+  pub parallel : parallelDigit x ≡ nodeAt t n .spot .parallel
+  pub entry : entryDigit x ≡ nodeAt t n .spot .entry
+  pub prefixes : prefixesDigit x ≡ nodeAt t n .spot .prefixes
+  pub own : ownDigit x ≡ nodeAt t n .spot .own
+  pub right : rightDigit x ≡ n + 1 + leftSize (termOf t n)
+  pub target : targetDigit x ≡ targetOf (t .sets) (termOf t n)
 
 kind-small : (p : Term) → kindOf p < 8
 unfolding kindOf
@@ -56,17 +60,20 @@ left-inside (choice p q) = omega arith
 left-inside (par r p q) = omega arith
 left-inside (call d) = omega arith
 
--- the digits of a sum of digits
+-- the digits of a word whose structure is a sum of digits
 module _ (a b c d e f g h x : ℕ)
-    (is : x ≡ a + b * 8 + c * 64 + d * 128 + e * 256 + f * 16384 + g * 524288 + h * 1073741824)
+    (is : structureOf x
+    ≡ a + b * parameterUnit + c * parallelUnit + d * entryUnit + e * prefixesUnit + f * ownUnit + g * rightUnit
+    + h * targetUnit)
     (la : a < 8) (lb : b < 8) (lc : c ≤ 1) (ld : d ≤ 1) (le : e < 32) (lf : f < 32) (lg : g ≤ 1024) where
-  word-digits : (x % 8 ≡ a) × (x / 8 % 8 ≡ b) × (x / 64 % 2 ≡ c) × (x / 128 % 2 ≡ d) × (x / 256 % 64 ≡ e)
-      × (x / 16384 % 32 ≡ f) × (x / 524288 % 2048 ≡ g) × (x / 1073741824 ≡ h)
+  word-digits : (kindDigit x ≡ a) × (parameterDigit x ≡ b) × (parallelDigit x ≡ c) × (entryDigit x ≡ d)
+      × (prefixesDigit x ≡ e) × (ownDigit x ≡ f) × (rightDigit x ≡ g) × (targetDigit x ≡ h)
+  unfolding structureOf
   word-digits =
       (omega arith, omega arith, omega arith, omega arith, omega arith, omega arith, omega arith, omega arith)
 
 pub digits : (t : Table) (w : List ℕ) → Fields t → Structured t w → (n : ℕ) → n < termCount t
-    → Digits t n (getD w (4096 + n) 0)
+    → Digits t n (getD w (termsAt + n) 0)
 unfolding wordOf packed termOf
 digits t w f s n h =
     let p = termOf t n in
@@ -76,7 +83,7 @@ digits t w f s n h =
     let m = parameter-small p (each-node (OfRef ParamSmall) t (f .parameters) n h) in
     let r : n + 1 + leftSize p ≤ 1024 = omega (arith, node-fits t n h, left-inside p, f .terms-most) in
     let d = word-digits (kindOf p) (parameterOf (refOf p)) (o .parallel) (o .entry) (o .prefixes) (o .own)
-    (n + 1 + leftSize p) (targetOf (t .sets) p) (getD w (4096 + n) 0) (s .words n h)
+    (n + 1 + leftSize p) (targetOf (t .sets) p) (getD w (termsAt + n) 0) (s .words n h)
     k m (at .parallel) (at .entry) (at .prefixes) (at .own) r in
     record {
       kind = d .0;
@@ -89,11 +96,12 @@ digits t w f s n h =
       target = d .7;
     }
 
--- within its bounds a table has the words of its terms below 5,120, those of bodies and levels from 7,232 to 7,296
 pub structured-kept : (t : Table) (w w' : List ℕ) → Fields t → length w' ≡ length w
-    → ((x : ℕ) → ((5120 ≤ x) × (x < 7168) → ⊥) → ((7297 ≤ x) × (x < 7305) → ⊥) → getD w' x 0 ≡ getD w x 0)
+    → ((x : ℕ) → ((termsAt ≤ x) × (x < setsAt) → ⊥) → ((widthsAt ≤ x) × (x < alphabetAt) → ⊥)
+    → getD w' x 0 ≡ getD w x 0)
+    → ((n : ℕ) → n < 1024 → structureOf (getD w' (termsAt + n) 0) ≡ structureOf (getD w (termsAt + n) 0))
     → Structured t w → Structured t w'
-structured-kept t w w' f e k s =
+structured-kept t w w' f e k g s =
     let few = s .sets .few in
     let rows-few = s .sets .rows-few in
     let terms-most = f .terms-most in
@@ -105,12 +113,13 @@ structured-kept t w w' f e k s =
             few = few;
             rows-few = rows-few;
             rows = λ i h. k i (λ o. omega arith) (λ o. omega arith) ∙ s .sets .rows i h;
-            words = λ i h. k (7168 + i) (λ o. omega arith) (λ o. omega arith) ∙ s .sets .words i h;
+            words = λ i h. k (setsAt + i) (λ o. omega arith) (λ o. omega arith) ∙ s .sets .words i h;
           };
-      words = λ n h. k (4096 + n) (λ o. omega arith) (λ o. omega arith) ∙ s .words n h;
-      roots = λ d h. k (7232 + d) (λ o. omega arith) (λ o. omega arith) ∙ s .roots d h;
-      levels = λ d h. k (7265 + d) (λ o. omega arith) (λ o. omega arith) ∙ s .levels d h;
-      alphabet = k 7305 (λ o. omega arith) (λ o. omega arith) ∙ s .alphabet;
-      definitions = k 7306 (λ o. omega arith) (λ o. omega arith) ∙ s .definitions;
-      terms = k 7307 (λ o. omega arith) (λ o. omega arith) ∙ s .terms;
+      words = λ n h. g n (omega arith) ∙ s .words n h;
+      roots = λ d h. k (bodiesAt + d) (λ o. omega arith) (λ o. omega arith) ∙ s .roots d h;
+      levels = λ d h. k (levelsAt + d) (λ o. omega arith) (λ o. omega arith) ∙ s .levels d h;
+      alphabet = k alphabetAt (λ o. omega arith) (λ o. omega arith) ∙ s .alphabet;
+      definitions = k definitionCountAt (λ o. omega arith) (λ o. omega arith) ∙ s .definitions;
+      terms = k termCountAt (λ o. omega arith) (λ o. omega arith) ∙ s .terms;
+      start = k startAt (λ o. omega arith) (λ o. omega arith) ∙ s .start;
     }

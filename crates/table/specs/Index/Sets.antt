@@ -14,6 +14,7 @@ use lib.ListN.{length, getD, set, length-append, List·getD-append}
 use lib.Seq.{take-append-le, take-append-seam, getD-append-seam, getD-append-add, getD-set-same, getD-set-other}
 use lib.Pow.{pow-mono}
 use Rattle.table.specs.Table.{SetDef, one}
+use Rattle.table.specs.Layout.{rowsMost, setsAt}
 use Rattle.table.specs.Index.{maskOf, setMasks, kindOfSet, firstRow, setWord, SetsIndexed}
 
 -- ---- masks
@@ -66,14 +67,14 @@ indexed-none w =
 -- w' holds w's words apart from the set's masks behind the rows, and its word is stored behind the words
 module _ (sets : List SetDef) (v : SetDef) (w w' : List ℕ) (row s x : ℕ) (before : SetsIndexed sets w)
     (rows : row ≡ length (flatMap setMasks sets)) (long : length w' ≡ 8192) (count : s ≡ length sets) (few : s < 64)
-    (room : row + length (setMasks v) ≤ 4096)
+    (room : row + length (setMasks v) ≤ rowsMost)
     (masks : (k : ℕ) → k < length (setMasks v) → getD w' (row + k) 0 ≡ getD (setMasks v) k 0)
     (kept : (y : ℕ) → ((row ≤ y) × (y < row + length (setMasks v)) → ⊥) → getD w' y 0 ≡ getD w y 0)
     (word : x ≡ row * 2 + kindOfSet v) where
   row-at : (i : ℕ) → i < row + length (setMasks v)
-      → getD (set w' (7168 + s) x) i 0 ≡ getD (flatMap setMasks sets ++ setMasks v) i 0
+      → getD (set w' (setsAt + s) x) i 0 ≡ getD (flatMap setMasks sets ++ setMasks v) i 0
   row-at i h =
-      getD-set-other w' (7168 + s) i x 0 (λ e. omega arith) ∙ go (decLt i row)
+      getD-set-other w' (setsAt + s) i x 0 (λ e. omega arith) ∙ go (decLt i row)
     where
       go : Dec (i < row) → getD w' i 0 ≡ getD (flatMap setMasks sets ++ setMasks v) i 0
       go (yes l) =
@@ -86,21 +87,22 @@ module _ (sets : List SetDef) (v : SetDef) (w w' : List ℕ) (row s x : ℕ) (be
           ∙ sym (getD-append-add (flatMap setMasks sets) (setMasks v) (i - row) 0)
           ∙ ap (λ (j : ℕ). getD (flatMap setMasks sets ++ setMasks v) j 0) f
 
-  word-at : (k : ℕ) → k < suc s → getD (set w' (7168 + s) x) (7168 + k) 0 ≡ setWord (sets ++ (v ∷ [])) k
+  word-at : (k : ℕ) → k < suc s → getD (set w' (setsAt + s) x) (setsAt + k) 0 ≡ setWord (sets ++ (v ∷ [])) k
   word-at k h = go (decLt k s)
     where
-      go : Dec (k < s) → getD (set w' (7168 + s) x) (7168 + k) 0 ≡ setWord (sets ++ (v ∷ [])) k
+      go : Dec (k < s) → getD (set w' (setsAt + s) x) (setsAt + k) 0 ≡ setWord (sets ++ (v ∷ [])) k
       go (yes l) =
-          getD-set-other w' (7168 + s) (7168 + k) x 0 (λ e. omega arith) ∙ kept (7168 + k) (λ q. omega arith)
+          getD-set-other w' (setsAt + s) (setsAt + k) x 0 (λ e. omega arith) ∙ kept (setsAt + k) (λ q. omega arith)
           ∙ before .words k (omega arith) ∙ sym (word-kept sets v k (omega arith))
       go (no l) =
           let e : k ≡ s = omega arith in
           let f : k ≡ length sets = omega arith in
-          ap (λ (j : ℕ). getD (set w' (7168 + s) x) (7168 + j) 0) e ∙ getD-set-same w' (7168 + s) x 0 (omega arith)
-          ∙ word ∙ ap (λ (j : ℕ). j * 2 + kindOfSet v) rows ∙ sym (word-last sets v)
+          ap (λ (j : ℕ). getD (set w' (setsAt + s) x) (setsAt + j) 0) e
+          ∙ getD-set-same w' (setsAt + s) x 0 (omega arith) ∙ word
+          ∙ ap (λ (j : ℕ). j * 2 + kindOfSet v) rows ∙ sym (word-last sets v)
           ∙ ap (λ (j : ℕ). setWord (sets ++ (v ∷ [])) j) (sym f)
 
-  pub indexed-snoc : SetsIndexed (sets ++ (v ∷ [])) (set w' (7168 + s) x)
+  pub indexed-snoc : SetsIndexed (sets ++ (v ∷ [])) (set w' (setsAt + s) x)
   indexed-snoc =
       let e = masks-snoc sets v in
       let n = ap (λ (l : List ℕ). length l) e ∙ length-append (flatMap setMasks sets) (setMasks v) in

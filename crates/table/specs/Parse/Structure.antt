@@ -1,5 +1,5 @@
 -- The work area once a whole table was read (ours): from the sets, the definitions and the counts stored last.
---     counted     the counts stored, and the number after the last body
+--     counted     the counts stored, where the definitions start, and the number after the last body
 --     structured  then the table of the list stands in the work area
 -- Assumes nothing.
 use Prim.Native.Nat.{ℕ, zero, suc, _+_, _<_, _≤_}
@@ -7,7 +7,7 @@ use native.Mathlib.Omega.{arith}
 use native.Mathlib.Decide.{decLt}
 use mathlib.Core.Path.{_≡_, refl, sym, ap, _∙_, subst}
 use mathlib.Core.List.{List, [], _∷_, flatMap}
-use lib.ListN.{length, getD, take, drop, length-set}
+use lib.ListN.{length, getD, set, drop, length-set}
 use lib.Seq.{getD-set-same, getD-set-other, take-all}
 use Rattle.table.specs.Table.{SetDef, Definition, Table, sizes, termCount, bodyNumber}
 use Rattle.table.specs.Tokens.{Tokens, token, ended, listTokens, tokensAt}
@@ -19,60 +19,80 @@ use Rattle.table.specs.Grammar as grammar
 use Rattle.table.specs.Grammar.Sets.{SetOk, set-sound}
 use Rattle.table.specs.Writing.{setNumbers}
 use Rattle.table.specs.Node.{nodesFrom, definitionsAt, nodesOf, nodeAt, noNode}
-use Rattle.table.specs.Index.{SetsIndexed, Structured, Placed, setsIn, tableIn}
+use Rattle.table.specs.Layout.{termsAt, setsAt, bodiesAt, levelsAt, alphabetAt, definitionCountAt, termCountAt}
+use Rattle.table.specs.Layout.{startAt, structureOf}
+use Rattle.table.specs.Index.{SetsIndexed, Structured, setsIn, tableIn}
 use Rattle.table.specs.Parse.{SetsReady, DefinitionsFound, Whole}
 use Rattle.table.specs.Parse.Header.{Header, bodyCountOk, whole, table-in, ended-tokens}
 
+-- the words with one store more each: the number after the last body, the alphabet size, the number of definitions,
+-- the number of terms, and where the definitions start
 abbrev rooted : List ℕ → ℕ → ℕ → List ℕ
-rooted w d n = lib.ListN.set w (7232 + d) n
+rooted w d n = set w (bodiesAt + d) n
 
 abbrev sized-up : List ℕ → ℕ → ℕ → ℕ → List ℕ
-sized-up w a d n = lib.ListN.set (rooted w d n) 7305 a
+sized-up w a d n = set (rooted w d n) alphabetAt a
 
 abbrev numbered : List ℕ → ℕ → ℕ → ℕ → List ℕ
-numbered w a d n = lib.ListN.set (sized-up w a d n) 7306 d
+numbered w a d n = set (sized-up w a d n) definitionCountAt d
 
-unfoldable pub counted : List ℕ → ℕ → ℕ → ℕ → List ℕ
-counted w a d n =
-    lib.ListN.set (lib.ListN.set (lib.ListN.set (lib.ListN.set w (7232 + d) n) 7305 a) 7306 d) 7307 n
+abbrev termed : List ℕ → ℕ → ℕ → ℕ → List ℕ
+termed w a d n = set (numbered w a d n) termCountAt n
 
-module _ (w : List ℕ) (a d n : ℕ) (h : length w ≡ 8192) (b : d ≤ 32) where
-  pub length-counted : length (counted w a d n) ≡ length w
+unfoldable pub counted : List ℕ → ℕ → ℕ → ℕ → ℕ → List ℕ
+counted w a d n at = set (termed w a d n) startAt at
+
+module _ (w : List ℕ) (a d n at : ℕ) (h : length w ≡ 8192) (b : d ≤ 32) where
+  abbrev Counted : List ℕ
+  Counted = counted w a d n at
+
+  pub length-counted : length Counted ≡ length w
   unfolding counted
   length-counted = simp length-set
 
-  -- past the last store, the last two, the last three
-  past-1 : (x : ℕ) → (x ≡ 7307 → ⊥) → getD (counted w a d n) x 0 ≡ getD (numbered w a d n) x 0
+  -- past the last store, the last two, three and four
+  past-1 : (x : ℕ) → (x ≡ startAt → ⊥) → getD Counted x 0 ≡ getD (termed w a d n) x 0
   unfolding counted
-  past-1 x q = getD-set-other (numbered w a d n) 7307 x n 0 q
+  past-1 x q = getD-set-other (termed w a d n) startAt x at 0 q
 
-  past-2 : (x : ℕ) → (x ≡ 7307 → ⊥) → (x ≡ 7306 → ⊥) → getD (counted w a d n) x 0 ≡ getD (sized-up w a d n) x 0
-  past-2 x q r = past-1 x q ∙ getD-set-other (sized-up w a d n) 7306 x d 0 r
+  past-2 : (x : ℕ) → ((termCountAt ≤ x) × (x ≤ startAt) → ⊥) → getD Counted x 0 ≡ getD (numbered w a d n) x 0
+  past-2 x q =
+      past-1 x (λ e. q (omega arith)) ∙ getD-set-other (numbered w a d n) termCountAt x n 0 (λ e. q (omega arith))
 
-  past-3 : (x : ℕ) → ((7305 ≤ x) × (x ≤ 7307) → ⊥) → getD (counted w a d n) x 0 ≡ getD (rooted w d n) x 0
+  past-3 : (x : ℕ) → ((definitionCountAt ≤ x) × (x ≤ startAt) → ⊥) → getD Counted x 0 ≡ getD (sized-up w a d n) x 0
   past-3 x q =
-      past-2 x (λ e. q (omega arith)) (λ e. q (omega arith))
-      ∙ getD-set-other (rooted w d n) 7305 x a 0 (λ e. q (omega arith))
+      past-2 x (λ e. q (omega arith))
+      ∙ getD-set-other (sized-up w a d n) definitionCountAt x d 0 (λ e. q (omega arith))
 
-  pub counted-other : (x : ℕ) → (x ≡ 7232 + d → ⊥) → ((7305 ≤ x) × (x ≤ 7307) → ⊥)
-      → getD (counted w a d n) x 0 ≡ getD w x 0
-  counted-other x p q = past-3 x q ∙ getD-set-other w (7232 + d) x n 0 p
+  past-4 : (x : ℕ) → ((alphabetAt ≤ x) × (x ≤ startAt) → ⊥) → getD Counted x 0 ≡ getD (rooted w d n) x 0
+  past-4 x q =
+      past-3 x (λ e. q (omega arith)) ∙ getD-set-other (rooted w d n) alphabetAt x a 0 (λ e. q (omega arith))
 
-  pub counted-root : getD (counted w a d n) (7232 + d) 0 ≡ n
-  counted-root = past-3 (7232 + d) (λ e. omega arith) ∙ getD-set-same w (7232 + d) n 0 (omega arith)
+  pub counted-other : (x : ℕ) → (x ≡ bodiesAt + d → ⊥) → ((alphabetAt ≤ x) × (x ≤ startAt) → ⊥)
+      → getD Counted x 0 ≡ getD w x 0
+  counted-other x p q = past-4 x q ∙ getD-set-other w (bodiesAt + d) x n 0 p
 
-  pub counted-alphabet : getD (counted w a d n) 7305 0 ≡ a
+  pub counted-root : getD Counted (bodiesAt + d) 0 ≡ n
+  counted-root = past-4 (bodiesAt + d) (λ e. omega arith) ∙ getD-set-same w (bodiesAt + d) n 0 (omega arith)
+
+  pub counted-alphabet : getD Counted alphabetAt 0 ≡ a
   counted-alphabet =
-      past-2 7305 (λ e. omega arith) (λ e. omega arith)
-      ∙ getD-set-same (rooted w d n) 7305 a 0 (simp length-set (omega arith))
+      past-3 alphabetAt (λ e. omega arith)
+      ∙ getD-set-same (rooted w d n) alphabetAt a 0 (simp length-set (omega arith))
 
-  pub counted-definitions : getD (counted w a d n) 7306 0 ≡ d
+  pub counted-definitions : getD Counted definitionCountAt 0 ≡ d
   counted-definitions =
-      past-1 7306 (λ e. omega arith) ∙ getD-set-same (sized-up w a d n) 7306 d 0 (simp length-set (omega arith))
+      past-2 definitionCountAt (λ e. omega arith)
+      ∙ getD-set-same (sized-up w a d n) definitionCountAt d 0 (simp length-set (omega arith))
 
-  pub counted-terms : getD (counted w a d n) 7307 0 ≡ n
+  pub counted-terms : getD Counted termCountAt 0 ≡ n
+  counted-terms =
+      past-1 termCountAt (λ e. omega arith)
+      ∙ getD-set-same (numbered w a d n) termCountAt n 0 (simp length-set (omega arith))
+
+  pub counted-start : getD Counted startAt 0 ≡ at
   unfolding counted
-  counted-terms = getD-set-same (numbered w a d n) 7307 n 0 (simp length-set (omega arith))
+  counted-start = getD-set-same (termed w a d n) startAt at 0 (simp length-set (omega arith))
 
 -- two streams of lists that are the same begin at the same place
 place-of : (i j : ℕ) (l m : List ℕ) → listTokens i l ≡ listTokens j m → i ≡ j
@@ -110,10 +130,10 @@ module _ (l w w' : List ℕ) (sets at count m end : ℕ) (h : Header l w sets at
   sized = f .same ∙ h .ready .whole
 
   abbrev done : List ℕ
-  done = counted w' (getD l 0 0) count m
+  done = counted w' (getD l 0 0) count m (at + 1)
 
-  kept : (x : ℕ) → (x ≡ 7232 + count → ⊥) → ((7305 ≤ x) × (x ≤ 7307) → ⊥) → getD done x 0 ≡ getD w' x 0
-  kept = counted-other w' (getD l 0 0) count m sized b
+  kept : (x : ℕ) → (x ≡ bodiesAt + count → ⊥) → ((alphabetAt ≤ x) × (x ≤ startAt) → ⊥) → getD done x 0 ≡ getD w' x 0
+  kept = counted-other w' (getD l 0 0) count m (at + 1) sized b
 
   sets-stay : SetsIndexed (setsIn l) done
   sets-stay =
@@ -125,8 +145,8 @@ module _ (l w w' : List ℕ) (sets at count m end : ℕ) (h : Header l w sets at
         rows-few = s .rows-few;
         rows = λ i k. kept i (λ q. omega arith) (λ q. omega arith)
             ∙ f .kept i (λ q. omega arith) (λ q. omega arith) ∙ s .rows i k;
-        words = λ i k. kept (7168 + i) (λ q. omega arith) (λ q. omega arith)
-            ∙ f .kept (7168 + i) (λ q. omega arith) (λ q. omega arith) ∙ s .words i k;
+        words = λ i k. kept (setsAt + i) (λ q. omega arith) (λ q. omega arith)
+            ∙ f .kept (setsAt + i) (λ q. omega arith) (λ q. omega arith) ∙ s .words i k;
       }
 
   starts : at + 1 ≡ definitionsAt read
@@ -144,13 +164,13 @@ module _ (l w w' : List ℕ) (sets at count m end : ℕ) (h : Header l w sets at
   unfolding nodeAt nodesOf
   node-is n = ap (λ (i : ℕ). getD (nodesFrom 0 i (f .definitions)) n noNode) starts
 
-  root-is : (d : ℕ) → d ≤ length (f .definitions) → Dec (d < count) → getD done (7232 + d) 0 ≡ bodyNumber read d
+  root-is : (d : ℕ) → d ≤ length (f .definitions) → Dec (d < count) → getD done (bodiesAt + d) 0 ≡ bodyNumber read d
   unfolding bodyNumber
-  root-is d k (yes q) = kept (7232 + d) (λ z. omega arith) (λ z. omega arith) ∙ f .roots d q
+  root-is d k (yes q) = kept (bodiesAt + d) (λ z. omega arith) (λ z. omega arith) ∙ f .roots d q
   root-is d k (no q) =
       let c = f .counted in
       let z : d ≡ count = omega arith in
-      rw z (counted-root w' (getD l 0 0) count m sized b ∙ f .terms
+      rw z (counted-root w' (getD l 0 0) count m (at + 1) sized b ∙ f .terms
       ∙ ap sizes (sym (take-all count (f .definitions) (omega arith))))
 
   pub structured-read : Structured read done
@@ -158,23 +178,18 @@ module _ (l w w' : List ℕ) (sets at count m end : ℕ) (h : Header l w sets at
       let c = f .counted in
       let few' = f .few in
       record {
-        whole = length-counted w' (getD l 0 0) count m sized b ∙ sized;
+        whole = length-counted w' (getD l 0 0) count m (at + 1) sized b ∙ sized;
         sets = sets-stay;
         words = λ n k. let k' : n < m = omega (arith, terms) in
-            kept (4096 + n) (λ q. omega arith) (λ q. omega arith) ∙ f .words n k'
+            ap structureOf (kept (termsAt + n) (λ q. omega arith) (λ q. omega arith)) ∙ f .words n k'
             ∙ ap (λ x. Rattle.table.specs.Index.wordOf (setsIn l) n x) (node-is n);
         roots = λ d k. root-is d k (decLt d count);
-        levels = λ d k. kept (7265 + d) (λ q. omega arith) (λ q. omega arith) ∙ f .levels d (omega arith);
-        alphabet = counted-alphabet w' (getD l 0 0) count m sized b;
-        definitions = counted-definitions w' (getD l 0 0) count m sized b ∙ sym c;
-        terms = counted-terms w' (getD l 0 0) count m sized b ∙ terms;
+        levels = λ d k. kept (levelsAt + d) (λ q. omega arith) (λ q. omega arith) ∙ f .levels d (omega arith);
+        alphabet = counted-alphabet w' (getD l 0 0) count m (at + 1) sized b;
+        definitions = counted-definitions w' (getD l 0 0) count m (at + 1) sized b ∙ sym c;
+        terms = counted-terms w' (getD l 0 0) count m (at + 1) sized b ∙ terms;
+        start = counted-start w' (getD l 0 0) count m (at + 1) sized b ∙ starts;
       }
-
-  placed-read : Placed read done
-  placed-read n k =
-      let few' = f .few in
-      let k' : n < m = omega (arith, terms) in
-      kept (5120 + n) (λ q. omega arith) (λ q. omega arith) ∙ f .places n k' ∙ ap (λ x. x .place) (node-is n)
 
   parsed-read : table (listTokens 0 l) ≡ got (tableIn l) (listTokens (length l) [])
   parsed-read =
@@ -187,5 +202,4 @@ module _ (l w w' : List ℕ) (sets at count m end : ℕ) (h : Header l w sets at
       record {
         parsed = parsed-read;
         structure = rw is-read structured-read;
-        places = rw is-read placed-read;
       }

@@ -1,7 +1,7 @@
 -- What the functions that read a part of a term promise (ours).
 --     TermFoundBy, TermReadBy    as TermFound and TermRead, by any parser, from any place
 --     Joint, jointTerm           a term with terms in it, apart from these; with given ones
---     HeadOf                     a head's digits and places are a joint's
+--     HeadOf                     a head's digits, and places, are a joint's
 --     followerOf, sidesOf        the parsers of the terms in a joint's term
 --     LeafRead, DefinitionRead   a term without terms in it; a definition
 -- The laws: `Terms/Stored.antt` of what is stored, `Terms/Reference.antt`, `Kind.antt` and `Sides.antt` of reading a
@@ -10,7 +10,7 @@ use Prim.Native.Nat.{ℕ, suc, _+_, _≤_, _<_}
 use mathlib.Core.Path.{_≡_}
 use mathlib.Core.Bool.{true}
 use mathlib.Core.List.{List}
-use lib.ListN.{length, getD, set}
+use lib.ListN.{length, getD}
 use Rattle.table.specs.declared.terms.Spot.{Spot}
 use Rattle.table.specs.declared.terms.Head.{Head}
 use Rattle.table.specs.declared.terms.TermEnd.{TermEnd}
@@ -21,8 +21,9 @@ use Rattle.table.specs.Parser.{Parser, got, number, pure, andThen}
 use Rattle.table.specs.Grammar.{termWith, definition}
 use Rattle.table.specs.Writing.{refNumbers, definitionNumbers}
 use Rattle.table.specs.Node.{nodes, noNode, followerSpot, sideSpot, besideSpot, bodySpot, setOf, parameterOf}
-use Rattle.table.specs.Index.{firstRow, packed, wordOf}
-use Rattle.table.specs.Parse.{Stops, TermStored}
+use Rattle.table.specs.Layout.{termsAt, bodiesAt, levelsAt, structureOf}
+use Rattle.table.specs.Index.{firstRow, wordOf}
+use Rattle.table.specs.Parse.{Stops, WordStored, TermStored}
 pub mod Stored
 pub mod Reference
 pub mod Kind
@@ -51,8 +52,7 @@ TermReadBy p sets l s n i from w w' (NoTerm r) = Stops (p (tokensAt l from)) r �
 
 pub record LeafRead (h : Head) (n next : ℕ) (w w' : List ℕ) (r : TermEnd) : Type 0 where
   pub answer : r ≡ NextTerm next (n + 1)
-  pub written : w'
-      ≡ set (set w (4096 + n) (packed (h .spot) (h .kind) (h .parameter) (n + 1) (h .target))) (5120 + n) (h .place)
+  pub stored : WordStored h n (n + 1) w w'
 
 unfoldable pub callRest : Parser Term
 callRest = andThen (number (λ d. true)) (λ d. pure (call d))
@@ -91,13 +91,13 @@ jointSpot (before r) s = followerSpot s
 jointSpot either s = sideSpot s
 jointSpot (beside r) s = besideSpot s
 
--- h is of a joint g, the first term in which stands at spot `inner` and place `from`
-pub record HeadOf (sets : List SetDef) (h : Head) (inner : Spot) (from : ℕ) (g : Joint) : Type 0 where
+-- h is of a joint g at place i, the first term in which stands at spot `inner` and place `from`
+pub record HeadOf (sets : List SetDef) (h : Head) (i : ℕ) (inner : Spot) (from : ℕ) (g : Joint) : Type 0 where
   pub kind : h .kind ≡ jointKind g
   pub parameter : h .parameter ≡ parameterOf (jointRef g)
   pub target : h .target ≡ jointTarget sets g
   pub spot : inner ≡ jointSpot g (h .spot)
-  pub place : from ≡ suc (h .place) + jointLength g
+  pub place : from ≡ suc i + jointLength g
 
 unfoldable pub followerOf : List SetDef → ℕ → ℕ → SetRef → Parser Term
 followerOf sets deep n r = andThen (termWith sets deep (suc n)) (λ p. pure (prefix r p))
@@ -121,18 +121,16 @@ sidesOf sets deep n g =
 
 -- ---- definitions
 
--- its body's number and its level, and its terms' words and places, and nothing else, were stored
+-- its body's number and its level, and its terms' words, and nothing else, were stored
 pub record DefinitionStored (sets : List SetDef) (d n i : ℕ) (v : Definition) (w w' : List ℕ) : Type 0 where
   pub same : length w' ≡ length w
-  pub root : getD w' (7232 + d) 0 ≡ n
-  pub level : getD w' (7265 + d) 0 ≡ v .level
+  pub root : getD w' (bodiesAt + d) 0 ≡ n
+  pub level : getD w' (levelsAt + d) 0 ≡ v .level
   pub words : (k : ℕ) → k < size (v .body)
-      → getD w' (4096 + (n + k)) 0 ≡ wordOf sets (n + k) (getD (nodes (bodySpot d) (suc i) (v .body)) k noNode)
-  pub places : (k : ℕ) → k < size (v .body)
-      → getD w' (5120 + (n + k)) 0 ≡ getD (nodes (bodySpot d) (suc i) (v .body)) k noNode .place
-  pub kept : (x : ℕ) → ((4096 + n ≤ x) × (x < 4096 + (n + size (v .body))) → ⊥)
-      → ((5120 + n ≤ x) × (x < 5120 + (n + size (v .body))) → ⊥) → (x ≡ 7232 + d → ⊥) → (x ≡ 7265 + d → ⊥)
-      → getD w' x 0 ≡ getD w x 0
+      → structureOf (getD w' (termsAt + (n + k)) 0)
+      ≡ wordOf sets (n + k) (getD (nodes (bodySpot d) (suc i) (v .body)) k noNode)
+  pub kept : (x : ℕ) → ((termsAt + n ≤ x) × (x < termsAt + (n + size (v .body))) → ⊥)
+      → (x ≡ bodiesAt + d → ⊥) → (x ≡ levelsAt + d → ⊥) → getD w' x 0 ≡ getD w x 0
 
 -- definition d at place i, whose body has number n; j and m come after it
 pub record DefinitionFound (sets : List SetDef) (l : List ℕ) (d n i : ℕ) (w w' : List ℕ) (j m : ℕ) : Type 0 where

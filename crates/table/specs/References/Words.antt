@@ -5,7 +5,7 @@
 --     call-kept, call-broken, param-kept, param-broken    what the term of a number breaks
 --     first-broken, first-nowhere                         what the terms of the table break first
 -- Assumes nothing.
-use Prim.Native.Nat.{ℕ, suc, _+_, _/_, _%_, _<_, _≤_}
+use Prim.Native.Nat.{ℕ, suc, _+_, _<_, _≤_}
 use native.Mathlib.Omega.{arith}
 use native.Mathlib.Decide.{ℕ-discrete}
 use mathlib.Core.Path.{_≡_, refl, ap, sym, _∙_}
@@ -25,7 +25,9 @@ use Rattle.table.specs.Context.{Context}
 use Rattle.table.specs.References.{levelIn, paramFits, callFits, wrongRef, firstWrong}
 use Rattle.table.specs.References.Nodes.{contextOf, wrongHere, wrongAt, first-wrong-in, first-wrong-none}
 use Rattle.table.specs.Node.{nodeAt, termOf, kindOf, refOf, parameterOf}
-use Rattle.table.specs.Index.{targetOf, Structured, Placed, tableIn}
+use Rattle.table.specs.Layout.{termsAt, levelsAt, definitionCountAt, kindDigit, parameterDigit, parallelDigit}
+use Rattle.table.specs.Layout.{prefixesDigit, ownDigit, targetDigit}
+use Rattle.table.specs.Index.{targetOf, Structured, tableIn}
 use Rattle.table.specs.Node.Laws.{home-node}
 use Rattle.table.specs.Index.Laws.{Digits, digits}
 use Rattle.table.specs.Index.Places.{place-in-list, some-numbers, long-numbers}
@@ -33,11 +35,11 @@ use Rattle.table.specs.Judging.{Judging, firstOf}
 
 -- what a word says of where its term stands
 abbrev pub wordContext : ℕ → Context
-wordContext w = record { prefixes = w / 256 % 64; inParallel = eqb (w / 64 % 2) 1 }
+wordContext w = record { prefixes = prefixesDigit w; inParallel = eqb (parallelDigit w) 1 }
 
 unfoldable pub wordFits : List Definition → ℕ → Bool
 wordFits ds w =
-    callFits ds (levelIn ds (w / 16384 % 32)) (w / 16384 % 32) (wordContext w) (w / 1073741824)
+    callFits ds (levelIn ds (ownDigit w)) (ownDigit w) (wordContext w) (targetDigit w)
 
 -- the first number of term n that breaks a rule
 abbrev pub badReference : Table → ℕ → First
@@ -54,56 +56,57 @@ beside-holds x m l h =
 
 -- one law for each way out, in the words of the work area that the tests read
 module _ (t : Table) (work : List ℕ) (s : Structured t work)
-    (w : ℕ) (o : w / 16384 % 32 < length (t .definitions)) where
-  home : getD work (7265 + w / 16384 % 32) 0 ≡ levelIn (t .definitions) (w / 16384 % 32)
-  home = s .levels (w / 16384 % 32) o
+    (w : ℕ) (o : ownDigit w < length (t .definitions)) where
+  home : getD work (levelsAt + ownDigit w) 0 ≡ levelIn (t .definitions) (ownDigit w)
+  home = s .levels (ownDigit w) o
 
-  named : w / 1073741824 < getD work 7306 0 → w / 1073741824 < length (t .definitions)
+  named : targetDigit w < getD work definitionCountAt 0 → targetDigit w < length (t .definitions)
   named a = omega (arith, s .definitions)
 
-  level : w / 1073741824 < getD work 7306 0
-      → getD work (7265 + w / 1073741824) 0 ≡ levelIn (t .definitions) (w / 1073741824)
-  level a = s .levels (w / 1073741824) (named a)
+  level : targetDigit w < getD work definitionCountAt 0
+      → getD work (levelsAt + targetDigit w) 0 ≡ levelIn (t .definitions) (targetDigit w)
+  level a = s .levels (targetDigit w) (named a)
 
-  pub fits-unknown : getD work 7306 0 ≤ w / 1073741824 → false ≡ wordFits (t .definitions) w
+  pub fits-unknown : getD work definitionCountAt 0 ≤ targetDigit w → false ≡ wordFits (t .definitions) w
   unfolding wordFits callFits
   fits-unknown a =
-      let k : length (t .definitions) ≤ w / 1073741824 = omega (arith, s .definitions) in rw (le-ltb _ _ k)
+      let k : length (t .definitions) ≤ targetDigit w = omega (arith, s .definitions) in rw (le-ltb _ _ k)
 
-  module _ (a : w / 1073741824 < getD work 7306 0) where
-    pub fits-higher : getD work (7265 + w / 16384 % 32) 0 < getD work (7265 + w / 1073741824) 0
+  module _ (a : targetDigit w < getD work definitionCountAt 0) where
+    pub fits-higher : getD work (levelsAt + ownDigit w) 0 < getD work (levelsAt + targetDigit w) 0
         → false ≡ wordFits (t .definitions) w
     unfolding wordFits callFits
     fits-higher b =
-        let k : levelIn (t .definitions) (w / 16384 % 32) < levelIn (t .definitions) (w / 1073741824)
+        let k : levelIn (t .definitions) (ownDigit w) < levelIn (t .definitions) (targetDigit w)
         = omega (arith, home, level a) in
         rw (lt-ltb _ _ (named a), lt-leb _ _ k)
 
-    module _ (b : getD work (7265 + w / 1073741824) 0 ≤ getD work (7265 + w / 16384 % 32) 0) where
-      lower : levelIn (t .definitions) (w / 1073741824) ≤ levelIn (t .definitions) (w / 16384 % 32)
+    module _ (b : getD work (levelsAt + targetDigit w) 0 ≤ getD work (levelsAt + ownDigit w) 0) where
+      lower : levelIn (t .definitions) (targetDigit w) ≤ levelIn (t .definitions) (ownDigit w)
       lower = omega (arith, home, level a)
 
-      pub fits-beside : w / 64 % 2 ≡ 1
-          → getD work (7265 + w / 16384 % 32) 0 ≤ getD work (7265 + w / 1073741824) 0
+      pub fits-beside : parallelDigit w ≡ 1
+          → getD work (levelsAt + ownDigit w) 0 ≤ getD work (levelsAt + targetDigit w) 0
           → false ≡ wordFits (t .definitions) w
       unfolding wordFits callFits
       fits-beside c d =
-          let k : levelIn (t .definitions) (w / 16384 % 32) ≤ levelIn (t .definitions) (w / 1073741824)
+          let k : levelIn (t .definitions) (ownDigit w) ≤ levelIn (t .definitions) (targetDigit w)
           = omega (arith, home, level a) in
           rw (lt-ltb _ _ (named a), le-leb _ _ lower, eq-eqb _ _ c, le-ltb _ _ k)
 
-      module _ (c : w / 64 % 2 ≡ 1 → getD work (7265 + w / 1073741824) 0 < getD work (7265 + w / 16384 % 32) 0) where
-        strict : w / 64 % 2 ≡ 1 → levelIn (t .definitions) (w / 1073741824) < levelIn (t .definitions) (w / 16384 % 32)
+      module _ (c : parallelDigit w ≡ 1
+          → getD work (levelsAt + targetDigit w) 0 < getD work (levelsAt + ownDigit w) 0) where
+        strict : parallelDigit w ≡ 1 → levelIn (t .definitions) (targetDigit w) < levelIn (t .definitions) (ownDigit w)
         strict x = omega (arith, home, level a, c x)
 
-        pub fits-bare : w / 256 % 64 ≡ 0 → ltb (w / 1073741824) (w / 16384 % 32) ≡ wordFits (t .definitions) w
+        pub fits-bare : prefixesDigit w ≡ 0 → ltb (targetDigit w) (ownDigit w) ≡ wordFits (t .definitions) w
         unfolding wordFits callFits
         fits-bare d = rw (lt-ltb _ _ (named a), le-leb _ _ lower, beside-holds _ _ _ strict, d)
 
-        pub fits-under : (w / 256 % 64 ≡ 0 → ⊥) → true ≡ wordFits (t .definitions) w
+        pub fits-under : (prefixesDigit w ≡ 0 → ⊥) → true ≡ wordFits (t .definitions) w
         unfolding wordFits callFits
         fits-under d =
-            let z : 0 < w / 256 % 64 = omega arith in
+            let z : 0 < prefixesDigit w = omega arith in
             rw (lt-ltb _ _ (named a), le-leb _ _ lower, beside-holds _ _ _ strict, lt-ltb _ _ z)
 
 -- ---- what a node breaks
@@ -115,7 +118,7 @@ call-word : (t : Table) (n w : ℕ) → Digits t n w → (d : ℕ) → termOf t 
     (contextOf (nodeAt t n .spot)) d
 unfolding wordFits targetOf
 call-word t n w g d e =
-    let k : w / 1073741824 ≡ d = g .target ∙ ap (targetOf (t .sets)) e in
+    let k : targetDigit w ≡ d = g .target ∙ ap (targetOf (t .sets)) e in
     rw (g .own, g .parallel, g .prefixes, k)
 
 here-call : (ds : List Definition) (s : Spot) (i : ℕ) (p : Term) (b : Bool) → kindOf p ≡ 5
@@ -165,63 +168,61 @@ here-broken ds s i (call d) h = absurd (omega arith)
 
 -- ---- what the code answers of term n
 
-module _ (l work : List ℕ) (j : Judging l work) (placed : Placed (tableIn l) work)
-    (n : ℕ) (h : n < termCount (tableIn l)) where
+module _ (l work : List ℕ) (j : Judging l work) (n : ℕ) (h : n < termCount (tableIn l)) where
   abbrev t : Table
   t = tableIn l
 
   abbrev w : ℕ
-  w = getD work (4096 + n) 0
-
-  abbrev p : ℕ
-  p = getD work (5120 + n) 0
+  w = getD work (termsAt + n) 0
 
   word : Digits t n w
   word = digits t work (j .fields) (j .structure) n h
 
-  pub word-own : w / 16384 % 32 < length (t .definitions)
+  pub word-own : ownDigit w < length (t .definitions)
   word-own = omega (arith, word .own, home-node t n h .known)
 
-  pub call-place : p + 1 ≤ length l
-  call-place = omega (arith, placed n h, place-in-list l (j .fields) n h, some-numbers (termOf t n))
-
-  pub param-place : w / 256 % 64 < w / 8 % 8 → p + 2 ≤ length l
-  param-place x =
-      let k = long-numbers (termOf t n) (omega (arith, word .parameter)) in
-      omega (arith, placed n h, place-in-list l (j .fields) n h)
-
-  call-answer : (b : Bool) → w % 8 ≡ 5 → b ≡ wordFits (t .definitions) w
+  call-answer : (b : Bool) → kindDigit w ≡ 5 → b ≡ wordFits (t .definitions) w
       → wrongAt (t .definitions) (nodeAt t n) ≡ unless b (suc (nodeAt t n .place))
   unfolding wrongAt termOf
   call-answer b k f =
       here-call (t .definitions) (nodeAt t n .spot) (nodeAt t n .place) (termOf t n) b (sym (word .kind) ∙ k)
       (λ d x. f ∙ call-word t n w word d x)
 
-  pub call-kept : w % 8 ≡ 5 → true ≡ wordFits (t .definitions) w
+  pub call-kept : kindDigit w ≡ 5 → true ≡ wordFits (t .definitions) w
       → Nowhere ≡ badReference t n
   unfolding unless
   call-kept k f = rw (call-answer true k f)
 
-  pub call-broken : w % 8 ≡ 5 → false ≡ wordFits (t .definitions) w
-      → Broken (p + 1) ≡ badReference t n
-  unfolding unless
-  call-broken k f =
-      let z : p + 1 ≡ suc (nodeAt t n .place) = omega (arith, placed n h) in rw (call-answer false k f) (ap Broken z)
-
-  pub param-kept : (w % 8 ≡ 5 → ⊥) → w / 8 % 8 ≤ w / 256 % 64
+  pub param-kept : (kindDigit w ≡ 5 → ⊥) → parameterDigit w ≤ prefixesDigit w
       → Nowhere ≡ badReference t n
   unfolding wrongAt termOf
   param-kept k x =
       rw (here-kept (t .definitions) (nodeAt t n .spot) (nodeAt t n .place) (termOf t n) (λ y. k (word .kind ∙ y))
       (omega (arith, word .parameter, word .prefixes)))
 
-  pub param-broken : w / 256 % 64 < w / 8 % 8
-      → Broken (p + 2) ≡ badReference t n
-  unfolding wrongAt termOf
-  param-broken x =
-      let z : p + 2 ≡ nodeAt t n .place + 2 = omega (arith, placed n h) in
-      rw (here-broken (t .definitions) (nodeAt t n .spot) (nodeAt t n .place) (termOf t n)
-      (omega (arith, word .parameter, word .prefixes))) (ap Broken z)
+  -- its kind stands at place p
+  module _ (p : ℕ) (placed : p ≡ nodeAt t n .place) where
+    pub call-place : p + 1 ≤ length l
+    call-place = omega (arith, placed, place-in-list l (j .fields) n h, some-numbers (termOf t n))
+
+    pub param-place : prefixesDigit w < parameterDigit w → p + 2 ≤ length l
+    param-place x =
+        let k = long-numbers (termOf t n) (omega (arith, word .parameter)) in
+        omega (arith, placed, place-in-list l (j .fields) n h)
+
+    pub call-broken : kindDigit w ≡ 5 → false ≡ wordFits (t .definitions) w
+        → Broken (p + 1) ≡ badReference t n
+    unfolding unless
+    call-broken k f =
+        let z : p + 1 ≡ suc (nodeAt t n .place) = omega (arith, placed) in rw (call-answer false k f) (ap Broken z)
+
+    pub param-broken : prefixesDigit w < parameterDigit w
+        → Broken (p + 2) ≡ badReference t n
+    unfolding wrongAt termOf
+    param-broken x =
+        let z : p + 2 ≡ nodeAt t n .place + 2 = omega (arith, placed) in
+        rw (here-broken (t .definitions) (nodeAt t n .spot) (nodeAt t n .place) (termOf t n)
+        (omega (arith, word .parameter, word .prefixes))) (ap Broken z)
 
 -- ---- what it answers of all terms
 

@@ -1,14 +1,15 @@
 -- A body's reach is at most its level's width, so at most 8 where the rules hold (01, "Hands of a term").
 -- It rests on 01, "References": "under a parallel, of a strictly lower level": an own-level call is never added to
 -- anything.
---     reach-each, reach-body    every term in a body that is not wider than its level; every term in a table's body
+--     reach-each, reach-linked, reach-body    every term in a body that is not wider than its level; every term in a
+--                                             table's body
+--     bodies-all                what holds of each body by its number holds of all
 --     level-small               levels are at most 7
 -- Assumes nothing.
 use Prim.Native.Nat.{ℕ, zero, suc, _+_, _≤_, _<_, max}
 use native.Mathlib.Omega.{arith}
 use native.Mathlib.Decide.{decLt}
 use mathlib.Core.Path.{_≡_, refl, sym, ap, _∙_, subst}
-use mathlib.Core.Bool.{Bool, true, false, cond}
 use mathlib.Core.List.{List, [], _∷_}
 use lib.ListN.{length, getD}
 use lib.Dec.{T, eqb}
@@ -19,7 +20,6 @@ use Rattle.table.specs.Grow.{grow}
 use Rattle.table.specs.Grow.Laws.{length-grow, getD-grow, grow-stable}
 use Rattle.table.specs.Table.{SetRef, Term, stop, fail, prefix, choice, par, call, Definition, Table}
 use Rattle.table.specs.Context.{Context, outermost, underPrefix, underParallel, Throughout, Each}
-use Rattle.table.specs.Fields.{Fields}
 use Rattle.table.specs.References.{levelIn}
 use Rattle.table.specs.References.Laws.{CallOk, Linked}
 use Rattle.table.specs.Width.{widthWith, widest, callWidth, nextWidth, allWidths, levelWidth, reach}
@@ -134,19 +134,35 @@ levels-at [] z d e h = e
 levels-at (x ∷ ds) z zero e h = h .0
 levels-at (x ∷ ds) z (suc d) e h = levels-at ds z d e (h .1)
 
-pub level-small : (t : Table) → Rules t → (d : ℕ) → levelIn (t .definitions) d ≤ 7
+level-low : (t : Table) → All (λ d. d .level ≤ 7) (t .definitions) → (d : ℕ) → levelIn (t .definitions) d ≤ 7
 unfolding levelIn
-level-small t r d = levels-at (t .definitions) _ d (omega arith) (r .fields .levels)
+level-low t low d = levels-at (t .definitions) _ d (omega arith) low
 
--- of every term in a body
-pub reach-body : (t : Table) → Rules t → (d : ℕ) → d < length (t .definitions)
+pub level-small : (t : Table) → Rules t → (d : ℕ) → levelIn (t .definitions) d ≤ 7
+level-small t r d = level-low t (r .fields .levels) d
+
+-- of every term in a body, where the calls keep the rules on references
+pub reach-linked : (t : Table) → All (λ d. d .level ≤ 7) (t .definitions)
+    → AllFrom (λ own x. Throughout (Linked (t .definitions) (x .level) own) outermost (x .body)) 0 (t .definitions)
+    → (d : ℕ) → d < length (t .definitions)
     → Each (λ q. reach t q ≤ levelWidth t (levelIn (t .definitions) d)) (bodyIn (t .definitions) d)
 unfolding levelIn bodyIn
-reach-body t r d b =
+reach-linked t low calls d b =
     let l = levelIn (t .definitions) d in
-    let s = level-small t r d in
+    let s = level-low t low d in
     let w = widest-at (widthWith (Count t l d s)) l (t .definitions) _ d b refl in
     reach-each t l d s outermost (bodyIn (t .definitions) d)
     (from-at (λ own x. Throughout (Linked (t .definitions) (x .level) own) outermost (x .body)) _ 0 (t .definitions)
-    (linked t r) d d (omega arith) b)
+    calls d d (omega arith) b)
     (rw (level-width t l d s) w)
+
+pub reach-body : (t : Table) → Rules t → (d : ℕ) → d < length (t .definitions)
+    → Each (λ q. reach t q ≤ levelWidth t (levelIn (t .definitions) d)) (bodyIn (t .definitions) d)
+reach-body t r d b = reach-linked t (r .fields .levels) (linked t r) d b
+
+-- what holds of the body of each number holds of each body
+pub bodies-all : (X : Term → Type 0) (ds : List Definition)
+    → ((d : ℕ) → d < length ds → X (bodyIn ds d)) → All (λ d. X (d .body)) ds
+unfolding bodyIn
+bodies-all X [] f = tt
+bodies-all X (d ∷ ds) f = (f 0 (omega arith), bodies-all X ds (λ i h. f (suc i) (omega arith)))

@@ -21,7 +21,7 @@ use Rattle.walk.specs.declared.nodes.Tree.{Tree}
 use Rattle.walk.specs.Forest.{Valid, Forest, wordsAll}
 use Rattle.walk.specs.Forest.Words.{kind-of-node, holds-of-node, words-positive}
 use Rattle.walk.specs.Forest.Heads.{PairHead, pair-head, node-known}
-use Rattle.walk.specs.Course.{nodeCount, nodesFrom, Ready, flagged, Told, Stands}
+use Rattle.walk.specs.Course.{nodeCount, nodesFrom, Ready, flagged, pairTakes, Told, Stands}
 
 -- ---- nodes
 
@@ -179,20 +179,32 @@ module _ {t : Table} {bound e : ℕ} {store : List ℕ} (ready : Ready t bound e
                 omega (arith, en, ga .1, gb .1, length-append (words l) (words r)),
               )
 
-      pub told-both-yes : holdsAt t e (getD store k 0) ≡ true → a .moves ≡ true
+      told-both-yes : holdsAt t e (getD store k 0) ≡ true → a .moves ≡ true
           → Told t e store k (record { moves = b .moves; next = b .next })
       told-both-yes h x =
           told-pair _ refl (λ n m l r i fl fr. sym (flag-both t e store k n m l r (i ∙ h) (fl ∙ x) ∙ fr))
 
-      pub told-both-no : holdsAt t e (getD store k 0) ≡ true → a .moves ≡ false
+      told-both-no : holdsAt t e (getD store k 0) ≡ true → a .moves ≡ false
           → Told t e store k (record { moves = false; next = b .next })
       told-both-no h x = told-pair _ refl (λ n m l r i fl fr. sym (flag-both t e store k n m l r (i ∙ h) (fl ∙ x)))
 
-      pub told-either-yes : holdsAt t e (getD store k 0) ≡ false → a .moves ≡ true
+      told-either-yes : holdsAt t e (getD store k 0) ≡ false → a .moves ≡ true
           → Told t e store k (record { moves = true; next = b .next })
       told-either-yes h x = told-pair _ refl (λ n m l r i fl fr. sym (flag-either t e store k n m l r (i ∙ h) (fl ∙ x)))
 
-      pub told-either-no : holdsAt t e (getD store k 0) ≡ false → a .moves ≡ false
+      told-either-no : holdsAt t e (getD store k 0) ≡ false → a .moves ≡ false
           → Told t e store k (record { moves = b .moves; next = b .next })
       told-either-no h x =
           told-pair _ refl (λ n m l r i fl fr. sym (flag-either t e store k n m l r (i ∙ h) (fl ∙ x) ∙ fr))
+
+      pair-one : (h x : Bool) → holdsAt t e (getD store k 0) ≡ h → a .moves ≡ x
+          → Told t e store k (record { moves = pairTakes x (b .moves) h; next = b .next })
+      unfolding pairTakes
+      pair-one true true z y = told-both-yes z y
+      pair-one true false z y = told-both-no z y
+      pair-one false true z y = told-either-yes z y
+      pair-one false false z y = told-either-no z y
+
+      pub told-sides : (h : Bool) → h ≡ holdsAt t e (getD store k 0) → (x : Bool) → x ≡ pairTakes (a .moves) (b .moves) h
+          → (j : ℕ) → j ≡ b .next → Told t e store k (record { moves = x; next = j })
+      told-sides h z x g j n = rw (g, n) (pair-one h (a .moves) (sym z) refl)

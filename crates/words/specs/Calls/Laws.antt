@@ -1,6 +1,6 @@
 -- What a call of the monitor's operations comes to, case by case. Assumes nothing.
 use Prim.Native.Nat.{ℕ, _%_}
-use mathlib.Core.Path.{_≡_, refl, ap, _∙_}
+use mathlib.Core.Path.{_≡_, refl, ap, sym, _∙_}
 use mathlib.Core.List.{List}
 use lib.ListN.{length}
 use borrow.Author.Tests.{eq-eqb, ne-eqb}
@@ -14,14 +14,15 @@ use Rattle.monitor_spec.specs.State.{State, Outcome}
 use Rattle.monitor_spec.specs.Start.{startOf}
 use Rattle.monitor_spec.specs.Feed.{feedOf}
 use Rattle.monitor_spec.specs.Offer.{offerOf}
-use Rattle.monitor_spec.specs.View.{viewOf}
+use Rattle.monitor_spec.specs.View.{Part, viewPart, viewOf}
+use Rattle.monitor_spec.specs.View.Laws.{part-parity, view-length}
 use Rattle.state.specs.Record.{stateOf, monitorOf}
 use Rattle.state.specs.Answers.{answerOf, outcome, offeredOf, offerOutcome}
 use Rattle.words.specs.Words.{recordMeasured, stateIn, wordsOf}
 use Rattle.words.specs.Calls.{numberOf, placeOf, recordAfter, Told, said, monitorCall, monitorIn, unmeasured}
 use Rattle.words.specs.Calls.{startCall, feedCall}
 use Rattle.words.specs.Calls.{offerNumber, offerValue, OfferTold, offerSaid, offering, offerCall}
-use Rattle.words.specs.Calls.{areaOf, viewSaid, viewing, viewCall}
+use Rattle.words.specs.Calls.{viewSaid, viewing, viewCall}
 
 -- ---- a record that is not of four words
 
@@ -101,27 +102,36 @@ offer-told x n v l r a b w w₀ s t h k e =
 
 -- ---- View
 
-area-none : (n t : ℕ) → n ≡ 0 → 0 ≡ areaOf n t
-unfolding areaOf
-area-none n t h = rw (eq-eqb n 0 h, areaOf)
+-- what is told of a part: how many words, n, and an area
+pub view-empty : (p : Part) (n : ℕ) → n ≡ p .words → n ≡ 0 → viewSaid n 0 ≡ viewing p
+unfolding viewing
+view-empty p n e z = let h = sym e ∙ z in rw (eq-eqb (p .words) 0 h, viewing) (λ i. record { count = e i; area = 0 })
 
-pub area-some : (n t : ℕ) → (n ≡ 0 → ⊥) → t % 2 ≡ areaOf n t
-unfolding areaOf
-area-some n t h = rw (ne-eqb n 0 h, areaOf)
+pub view-words : (p : Part) (n k : ℕ) → n ≡ p .words → (n ≡ 0 → ⊥) → k ≡ p .area → viewSaid n k ≡ viewing p
+unfolding viewing
+view-words p n k e z f =
+    rw (ne-eqb (p .words) 0 (λ h. z (e ∙ h)), viewing) (λ i. record { count = e i; area = f i })
 
 module _ (s : StateCode) (r a b part : List ℕ) (h : length r ≡ 4) (k : stateOf s ≡ stateIn r)
     (e : part ≡ viewOf (monitorOf s a b)) where
-  view-measured : (n : ℕ) → n ≡ areaOf (length part) (s .taken) → viewSaid (length part) n ≡ viewCall r a b
-  unfolding viewCall viewing recordMeasured monitorIn
-  view-measured n q =
+  abbrev shown : Part
+  shown = viewPart (stateOf s) (length a) (length b)
+
+  counted : length part ≡ shown .words
+  counted = ap length e ∙ view-length (monitorOf s a b)
+
+  called : (n : ℕ) → viewSaid (length part) n ≡ viewing shown → viewSaid (length part) n ≡ viewCall r a b
+  unfolding viewCall recordMeasured
+  called n q =
       rw (eq-eqb (length r) 4 h, viewCall)
-      ((λ i. record { count = length part; area = q i })
-      ∙ ap (viewing (stateOf s)) e
-      ∙ ap (λ (y : State). viewing y (viewOf (record { state = y; area0 = a; area1 = b }))) k)
+      (q ∙ ap (λ (y : State). viewing (viewPart y (length a) (length b))) k)
 
   -- the empty part
   pub view-none : length part ≡ 0 → viewSaid (length part) 0 ≡ viewCall r a b
-  view-none z = view-measured 0 (area-none (length part) (s .taken) z)
+  view-none z = called 0 (view-empty shown (length part) counted z)
 
   pub view-some : (length part ≡ 0 → ⊥) → viewSaid (length part) (s .taken % 2) ≡ viewCall r a b
-  view-some z = view-measured (s .taken % 2) (area-some (length part) (s .taken) z)
+  view-some z =
+      called (s .taken % 2)
+      (view-words shown (length part) (s .taken % 2) counted z
+      (part-parity (stateOf s) (length a) (length b) (λ h. z (counted ∙ h))))

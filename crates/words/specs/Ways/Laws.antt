@@ -14,13 +14,15 @@ use Rattle.monitor_spec.specs.Start.{startOf}
 use Rattle.monitor_spec.specs.Feed.{feedOf}
 use Rattle.monitor_spec.specs.Offer.{Offered, offers, OfferOutcome, offerOf}
 use Rattle.monitor_spec.specs.Offer as operation
-use Rattle.monitor_spec.specs.View.{viewOf}
+use Rattle.monitor_spec.specs.View.{Part, viewPart, viewOf}
+use Rattle.monitor_spec.specs.View.Laws.{part-parity, view-length}
 use Rattle.words.specs.Words.{recordMeasured, stateIn, wordsOf}
 use Rattle.words.specs.Tables.{TableCall, tableCall, readCall, writeCall}
 use Rattle.words.specs.Tables as tables
 use Rattle.words.specs.Calls.{MonitorCall, numberOf, placeOf, recordAfter, monitorCall, unmeasured, monitorIn}
 use Rattle.words.specs.Calls.{startCall, feedCall, OfferCall, offerNumber, offerValue, offering, offerCall}
-use Rattle.words.specs.Calls.{ViewCall, areaOf, viewing, viewCall}
+use Rattle.words.specs.Calls.{ViewCall, viewing, viewCall}
+use Rattle.words.specs.Calls.Laws.{view-empty, view-words}
 use Rattle.words.specs.Ways.{CallWay, recordUnfit, callGiven, callRefused, callStopped, OfferWay, offerUnfit}
 use Rattle.words.specs.Ways.{offerGiven, offerRefused, ViewWay, viewUnfit, viewNone, viewSome, TableWay}
 use Rattle.words.specs.Ways.{tableDone, tableRefused}
@@ -114,16 +116,25 @@ offer-way l r a b w =
 -- ---- View
 
 module _ (r a b : List ℕ) where
-  viewed : length r ≡ 4 → (x : Bool) → eqb (length (viewOf (monitorIn r a b))) 0 ≡ x
-      → ViewWay r (viewOf (monitorIn r a b)) (viewing (stateIn r) (viewOf (monitorIn r a b)))
-  unfolding viewing areaOf
+  abbrev words : List ℕ
+  words = viewOf (monitorIn r a b)
+
+  abbrev shown : Part
+  shown = viewPart (stateIn r) (length a) (length b)
+
+  counted : length words ≡ shown .words
+  unfolding monitorIn
+  counted = view-length (monitorIn r a b)
+
+  viewed : length r ≡ 4 → (x : Bool) → eqb (length words) 0 ≡ x → ViewWay r words (viewing shown)
   viewed h true e =
-      let z = eqb-true (length (viewOf (monitorIn r a b))) 0 e in
-      subst (ViewWay r (viewOf (monitorIn r a b)))
-      (ap (λ (n : ℕ). record { count = n; area = areaOf n (stateIn r .taken) }) (sym z)) (viewNone h z)
+      let z = eqb-true (length words) 0 e in
+      subst (ViewWay r words) (view-empty shown 0 (sym z ∙ counted) refl) (viewNone h z)
   viewed h false e =
-      let z = eqb-false (length (viewOf (monitorIn r a b))) 0 e in
-      rw (e, areaOf) (viewSome h (some (length (viewOf (monitorIn r a b))) z))
+      let z = eqb-false (length words) 0 e in
+      let k = part-parity (stateIn r) (length a) (length b) (λ q. z (counted ∙ q)) in
+      subst (ViewWay r words) (view-words shown (length words) (stateIn r .taken % 2) counted z k)
+      (viewSome h (some (length words) z))
     where
       some : (n : ℕ) → (n ≡ 0 → ⊥) → 0 < n
       some zero k = absurd (k refl)
@@ -134,7 +145,7 @@ module _ (r a b : List ℕ) where
   view-way = by (eqb (length r) 4) refl
     where
       by : (x : Bool) → eqb (length r) 4 ≡ x → ViewWay r (viewOf (monitorIn r a b)) (viewCall r a b)
-      by true e = rw (e, viewCall) (viewed (eqb-true _ _ e) (eqb (length (viewOf (monitorIn r a b))) 0) refl)
+      by true e = rw (e, viewCall) (viewed (eqb-true _ _ e) (eqb (length words) 0) refl)
       by false e = rw (e, viewCall) (viewUnfit (eqb-false _ _ e))
 
 -- ---- Read and Write

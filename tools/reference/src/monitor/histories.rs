@@ -9,15 +9,18 @@ mod limits;
 mod states;
 pub(crate) mod walks;
 mod worked;
+mod wrong;
 
 use super::history::{History, FORMAT};
 use crate::random::Random;
+use crate::summary::head;
 use damaged::*;
 use lengths::*;
 use limits::*;
 use states::*;
 use walks::*;
 use worked::*;
+use wrong::{wrong_in, Field};
 
 // Where the file comes from, but for the seed and the count.
 const SOURCE: &str = "\
@@ -29,6 +32,8 @@ const SOURCE: &str = "\
 
 pub struct Group {
     pub name: &'static str,
+    // each answer is wrong on purpose
+    pub wrong: bool,
     pub history: History,
 }
 
@@ -74,12 +79,28 @@ const DRAWN: [(&str, usize, Make); 36] = [
     ("walks", 8, walks),
 ];
 
+// The groups of answers that are wrong on purpose.
+const WRONG: [(&str, Field); 12] = [
+    ("stored_number", Field::Number),
+    ("stored_place", Field::Place),
+    ("stored_has", Field::Has),
+    ("stored_taken", Field::Taken),
+    ("stored_count", Field::Count),
+    ("stored_failed", Field::Failed),
+    ("stored_at", Field::At),
+    ("stored_mask", Field::Mask),
+    ("stored_digest", Field::Digest),
+    ("stored_kept", Field::Kept),
+    ("stored_area", Field::Area),
+    ("stored_length", Field::Length),
+];
+
 pub fn groups(seed: u64, count: usize) -> Vec<Group> {
     let mut groups = Vec::new();
     let mut add = |name: &'static str, make: &dyn Fn(&mut Random, &mut History)| {
         let mut history = History::new();
         make(&mut Random::named(seed, name), &mut history);
-        groups.push(Group { name, history });
+        groups.push(Group { name, wrong: false, history });
     };
     add("worked_drawings", &|_, history| worked_drawings(history));
     add("worked_readings", &|_, history| worked_readings(history));
@@ -97,17 +118,22 @@ pub fn groups(seed: u64, count: usize) -> Vec<Group> {
             }
         });
     }
+    for (name, field) in WRONG {
+        let mut history = History::new();
+        wrong_in(&mut history, field);
+        groups.push(Group { name, wrong: true, history });
+    }
     groups
 }
 
 pub fn file(seed: u64, count: usize) -> Result<String, String> {
     let mut text = format!("{SOURCE}{seed} --count {count}\n");
     text += FORMAT;
-    for Group { name, history } in groups(seed, count) {
-        if let Some(wrong) = history.wrong {
-            return Err(format!("group {name}: {wrong}"));
+    for Group { name, wrong, history } in groups(seed, count) {
+        if let Some(found) = history.wrong {
+            return Err(format!("group {name}: {found}"));
         }
-        text += &format!("# group {name}\n");
+        text += &head(name, wrong);
         text += &history.text;
     }
     Ok(text)
@@ -119,28 +145,35 @@ mod tests {
     use crate::monitor::history::{BUFFER, MOST_EVENTS};
     use crate::monitor::replay::replay;
     use crate::monitor::summary::summary;
+    use crate::stored;
 
-    // reproducible, not too long, and within the bounds that its head names
+    // not too long, within the bounds that its head names, and the same again
     #[test]
     fn data_file() {
-        let text = file(1, 4_000).expect("known answers");
-        assert_eq!(text, file(1, 4_000).expect("known answers"));
+        let text = stored::text("monitor_test/data/histories.txt");
         assert!(text.len() < 6_000_000, "{}", text.len());
         assert_eq!(replay(&text), summary(&text));
-        let histories: usize = groups(1, 4_000).iter().map(|g| g.history.histories).sum();
-        assert!(histories >= 2_000, "{histories}");
-        for line in text.lines() {
-            let words: Vec<&str> = line.split(' ').collect();
-            match words[0] {
-                "t" | "u" => assert!(words.len() - 1 <= 16_500),
-                "f" => {
-                    assert!(words.len() - 12 <= MOST_EVENTS);
-                    assert!(words[1].parse::<usize>().unwrap() <= 8_300);
+        let mut histories = 0;
+        for line in text.lines().filter(|line| !line.starts_with('#')) {
+            let (call, _) = line.split_once(" =").unwrap_or((line, ""));
+            let numbers = stored::numbers(call);
+            match &line[..1] {
+                "t" => {
+                    assert!(numbers.len() <= 16_500);
+                    histories += 1;
                 }
-                "a" => assert!(words[1..3].iter().all(|w| w.parse::<usize>().unwrap() <= BUFFER)),
+                "u" => assert!(numbers.len() <= 16_500),
+                "f" => assert!(numbers.len() - 1 <= MOST_EVENTS && numbers[0] <= 8_300),
+                "s" | "o" => assert!(numbers[0] <= 8_300),
+                "a" => assert!(numbers[..2].iter().all(|&length| length <= BUFFER as u64)),
                 _ => {}
             }
         }
+        assert!(histories >= 2_000, "{histories}");
+    }
+
+    #[test]
+    fn known_answers() {
         for seed in 2..4 {
             file(seed, 600).expect("known answers");
         }
@@ -149,7 +182,8 @@ mod tests {
     // every refusal is met by every call that has it, and each verdict
     #[test]
     fn every_refusal() {
-        let text = file(1, 4_000).expect("known answers");
+        let text = stored::text("monitor_test/data/histories.txt");
+        let (text, _) = text.split_once("# wrong ").expect("answers that are wrong on purpose");
         for call in ["s", "f", "o"] {
             for number in (1..=13).filter(|&n| n != 4) {
                 let has = match call {

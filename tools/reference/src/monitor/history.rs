@@ -5,7 +5,7 @@
 
 use super::operations::*;
 use super::state::{Areas, Record};
-use crate::case::joined;
+use crate::case::{self, joined};
 use crate::operations::WORK;
 use crate::refusal::Refusal;
 
@@ -33,6 +33,8 @@ pub const FORMAT: &str = "\
 #     d := (d * 16777619 + w div 2^32) mod 4294967291
 # KEPT is 1 if the work area must stand as it was, 0 if all its words must be 0. What View hands
 # back is the first LENGTH words of area AREA.
+# Where a group begins with `# wrong` instead of `# group`, the answer of each call is wrong on
+# purpose in one number, and a test program must find it wrong.
 # A table has at most 16,500 numbers, a call at most 5,100 events, each below 256, an area at most
 # 4,160 words, a work area at most 8,300.
 ";
@@ -62,9 +64,8 @@ pub struct History {
 }
 
 pub fn digest(areas: &[&[u64]]) -> u64 {
-    let step = |d: u64, part: u64| (d * 16_777_619 + part) % 4_294_967_291;
     let words = areas.iter().flat_map(|area| area.iter());
-    words.fold(1, |d, &word| step(step(d, word % (1 << 32)), word >> 32))
+    case::digest(1, words.flat_map(|word| [word % (1 << 32), word >> 32]))
 }
 
 fn junk(area: usize, index: usize) -> u64 {
@@ -231,6 +232,24 @@ impl History {
             self.buffers[area][..length].copy_from_slice(&areas[area]);
         }
         format!("{} {}", digest(&[&areas[0], &areas[1]]), work_kept as u8)
+    }
+
+    // ---- answers that are wrong on purpose
+
+    // The numbers of the last call's answer.
+    pub fn stored(&self) -> Vec<u64> {
+        let (_, answer) = self.text.trim_end().rsplit_once("= ").expect("a call");
+        answer.split(' ').map(|word| word.parse().expect("a number")).collect()
+    }
+
+    // Another number in their place, by its index.
+    pub fn store(&mut self, at: usize, other: u64) {
+        let mut stored = self.stored();
+        assert_ne!(stored[at], other);
+        stored[at] = other;
+        let call = self.text.rfind("= ").expect("a call");
+        self.text.truncate(call + 1);
+        self.line(joined(&stored));
     }
 
     // ---- known answers

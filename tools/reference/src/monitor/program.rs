@@ -19,9 +19,10 @@ pub fn line_lent(input: &[u8], area_len: usize) -> String {
     }
 }
 
-fn judged(input: &[u8], area_len: usize) -> Result<String, Refusal> {
-    // "The length number uses 3 and 4 with place 0; a length over 16,384 is 2; input ending
-    // within the table is 3, at the number of table bytes there; all before Read."
+// The table's bytes and the events. "The length number uses 3 and 4 with place 0; a length over
+// 16,384 is 2; input ending within the table is 3, at the number of table bytes there; all before
+// Read."
+pub fn parts(input: &[u8]) -> Result<(&[u8], &[u8]), Refusal> {
     let (length, first) = match number_at(input, 0) {
         Reading::Truncated => return refuse(TRUNCATED, 0),
         Reading::Malformed => return refuse(MALFORMED, 0),
@@ -34,7 +35,11 @@ fn judged(input: &[u8], area_len: usize) -> Result<String, Refusal> {
     if rest.len() < length {
         return refuse(TRUNCATED, rest.len());
     }
-    let (bytes, events) = rest.split_at(length);
+    Ok(rest.split_at(length))
+}
+
+fn judged(input: &[u8], area_len: usize) -> Result<String, Refusal> {
+    let (bytes, events) = parts(input)?;
     let table = read(bytes, READ_OUTPUT, WORK);
     let list = &table.output[..table.answer?];
     let started = start(list, &[vec![0; area_len], vec![0; area_len]], WORK);

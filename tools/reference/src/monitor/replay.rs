@@ -1,19 +1,26 @@
 // The test program in short: the calls of a file of histories made again, and what it prints; or
-// the first line whose answer is another one.
+// the first line whose answer is another one, or is not where it is stored wrong on purpose.
 
 use super::history::{Fill, History};
 use super::state::Record;
 use super::summary::summary;
+use crate::summary::group;
 
 pub fn replay(text: &str) -> Result<String, String> {
     let printed = summary(text)?;
     let mut history = History::new();
-    for (i, line) in text.lines().enumerate().filter(|(_, line)| !line.starts_with('#')) {
+    let mut wrong = false;
+    for (i, line) in text.lines().enumerate() {
+        if line.starts_with('#') {
+            wrong = group(line).map_or(wrong, |(_, wrong)| wrong);
+            continue;
+        }
         history.text.clear();
         again(&mut history, line).ok_or(format!("line {}: cannot be done", i + 1))?;
-        if history.text.trim_end() != line {
-            let given: String = history.text.chars().take(200).collect();
-            return Err(format!("line {}: given: {}", i + 1, given.trim_end()));
+        let given = history.text.trim_end();
+        if (given != line) != (wrong && line.contains('=')) {
+            let given: String = given.chars().take(200).collect();
+            return Err(format!("line {}: given: {given}", i + 1));
         }
     }
     Ok(printed)

@@ -1,53 +1,22 @@
-// What the test program prints of a file of histories when every answer is the stored one.
+// What the test program prints of a file of histories when each call comes out as its group says.
 //     summary     a line `NAME CALLS` for each group, and `ok`; or the first line that is wrong
 
-use std::fmt::Write;
+use crate::summary::{printed, spaced};
 
 pub fn summary(text: &str) -> Result<String, String> {
-    let mut groups: Vec<(&str, usize)> = Vec::new();
-    for (i, line) in text.lines().enumerate() {
-        if let Some(name) = line.strip_prefix("# group ") {
-            groups.push((name, 0));
-        } else if !line.starts_with('#') {
-            let Some((_, calls)) = groups.last_mut() else {
-                return Err(format!("line {}: before the first group", i + 1));
-            };
-            let Some(is_call) = kind_of(line) else {
-                return Err(format!("line {}: not a line of a history", i + 1));
-            };
-            *calls += is_call as usize;
-        }
-    }
-    if groups.is_empty() {
-        return Err("there is no group".to_string());
-    }
-    let mut printed = String::new();
-    for (name, calls) in groups {
-        writeln!(printed, "{name} {calls}").expect("a string takes any text");
-    }
-    printed += "ok\n";
-    Ok(printed)
+    printed(text, kind_of)
 }
 
 // Whether the line is a call or a change; none if it is neither.
 fn kind_of(line: &str) -> Option<bool> {
-    let words: Vec<&str> = line.split(' ').collect();
-    let (letter, rest) = words.split_first()?;
-    let parts: Vec<&[&str]> = rest.split(|word| *word == "=").collect();
-    if !parts.iter().all(|part| numbers(part)) {
-        return None;
-    }
+    let (letter, rest) = line.split_at_checked(1)?;
+    let parts: Vec<Vec<&str>> = rest.split(" =").map(spaced).collect::<Option<_>>()?;
     let lengths: Vec<usize> = parts.iter().map(|part| part.len()).collect();
-    match (*letter, lengths.as_slice()) {
+    match (letter, lengths.as_slice()) {
         ("t" | "u", [_]) | ("a", [3]) | ("r", [4]) | ("x", [(2..)]) => Some(false),
         ("s", [1, 9]) | ("f", [(1..), 9]) | ("o", [1, 5]) | ("v", [0, 2]) => Some(true),
         _ => None,
     }
-}
-
-fn numbers(words: &[&str]) -> bool {
-    let is_digits = |word: &str| word.bytes().all(|b| b.is_ascii_digit());
-    words.iter().all(|word| is_digits(word) && word.parse::<u64>().is_ok())
 }
 
 #[cfg(test)]
@@ -57,8 +26,8 @@ mod tests {
     #[test]
     fn calls_are_counted() {
         let text = "# head\n# group a\nt 3 0\na 16 16 1\ns 8192 = 0 0 1 0 1 0 0 5 0\nv = 0 16\n\
-                    # group b\nt\n";
-        assert_eq!(summary(text), Ok("a 2\nb 0\nok\n".to_string()));
+                    # group b\nt\n# wrong c\nv = 0 32\n";
+        assert_eq!(summary(text), Ok("a 2\nb 0\nc 1 of 1 wrong, first 1\nok\n".to_string()));
     }
 
     #[test]

@@ -24,6 +24,9 @@ malformed-requires-2 c κs = search needs
 returns-2 : tie.Need-returns-2
 returns-2 c = search needs
 
+answer-count-requires : tie.Need-answer-count-requires
+answer-count-requires c κs = search needs
+
 malformed-requires-3 : tie.Need-malformed-requires-3
 malformed-requires-3 c κs = search needs
 
@@ -42,15 +45,6 @@ malformed-requires-5 c κs = search needs
 returns-5 : tie.Need-returns-5
 returns-5 c = search needs
 
-array-read-try-case : tie.Need-array-read-try-case
-array-read-try-case c = search needs
-
-array-read-t19 : tie.Need-array-read-t19
-array-read-t19 c = search needs
-
-array-read-t22 : tie.Need-array-read-t22
-array-read-t22 c = search needs
-
 slice-aggregate-try-case : tie.Need-slice-aggregate-try-case
 slice-aggregate-try-case c = sym (length-take-le _ _ (omega arith))
 
@@ -60,17 +54,14 @@ shared-slice-read-try-case c = search needs
 try-case-requires : tie.Need-try-case-requires
 try-case-requires c κs = search needs
 
+outcome-of-requires : tie.Need-outcome-of-requires
+outcome-of-requires c κs = search needs
+
 new-requires : tie.Need-new-requires
 new-requires c κs = search needs
 
 returns-6 : tie.Need-returns-6
 returns-6 c = search needs
-
-new-requires-2 : tie.Need-new-requires-2
-new-requires-2 c κs = search needs
-
-returns-7 : tie.Need-returns-7
-returns-7 c = search needs
 
 pub take-case-spec : {M : Type 1} → statement M
 take-case-spec =
@@ -82,19 +73,16 @@ take-case-spec =
     take-numbers-requires
     malformed-requires-2
     returns-2
+    answer-count-requires
     malformed-requires-3
     returns-3
     malformed-requires-4
     returns-4
     malformed-requires-5
     returns-5
-    array-read-try-case
-    array-read-t19
-    array-read-t22
     slice-aggregate-try-case
     shared-slice-read-try-case
     try-case-requires
+    outcome-of-requires
     new-requires
-    returns-6
-    new-requires-2
-    returns-7)
+    returns-6)

@@ -22,29 +22,29 @@ returns-4 c = search needs
 array-borrow-prefix-list : tie.Need-array-borrow-prefix-list
 array-borrow-prefix-list c = search needs
 
-slice-aggregate-both-right : tie.Need-slice-aggregate-both-right
-slice-aggregate-both-right c = sym (length-take-le _ _ (omega arith))
+slice-aggregate-all-right : tie.Need-slice-aggregate-all-right
+slice-aggregate-all-right c = sym (length-take-le _ _ (omega arith))
 
 array-borrow-prefix-area0 : tie.Need-array-borrow-prefix-area0
 array-borrow-prefix-area0 c = search needs
 
-slice-aggregate-both-right-2 : tie.Need-slice-aggregate-both-right-2
-slice-aggregate-both-right-2 c = sym (length-take-le _ _ (omega arith))
+slice-aggregate-all-right-2 : tie.Need-slice-aggregate-all-right-2
+slice-aggregate-all-right-2 c = sym (length-take-le _ _ (omega arith))
 
 array-borrow-prefix-area1 : tie.Need-array-borrow-prefix-area1
 array-borrow-prefix-area1 c = search needs
 
-slice-aggregate-both-right-3 : tie.Need-slice-aggregate-both-right-3
-slice-aggregate-both-right-3 c = sym (length-take-le _ _ (omega arith))
+slice-aggregate-all-right-3 : tie.Need-slice-aggregate-all-right-3
+slice-aggregate-all-right-3 c = sym (length-take-le _ _ (omega arith))
 
 array-borrow-prefix-work : tie.Need-array-borrow-prefix-work
 array-borrow-prefix-work c = search needs
 
-slice-aggregate-both-right-4 : tie.Need-slice-aggregate-both-right-4
-slice-aggregate-both-right-4 c = sym (length-take-le _ _ (omega arith))
+slice-aggregate-all-right-4 : tie.Need-slice-aggregate-all-right-4
+slice-aggregate-all-right-4 c = sym (length-take-le _ _ (omega arith))
 
-both-right-requires : tie.Need-both-right-requires
-both-right-requires c κs = search needs
+all-right-requires : tie.Need-all-right-requires
+all-right-requires c κs = search needs
 
 returns-5 : tie.Need-returns-5
 returns-5 c = search needs
@@ -58,12 +58,12 @@ line-right-spec =
     returns-3
     returns-4
     array-borrow-prefix-list
-    slice-aggregate-both-right
+    slice-aggregate-all-right
     array-borrow-prefix-area0
-    slice-aggregate-both-right-2
+    slice-aggregate-all-right-2
     array-borrow-prefix-area1
-    slice-aggregate-both-right-3
+    slice-aggregate-all-right-3
     array-borrow-prefix-work
-    slice-aggregate-both-right-4
-    both-right-requires
+    slice-aggregate-all-right-4
+    all-right-requires
     returns-5)

@@ -84,8 +84,8 @@ same-requires c κs = search needs
 enum-known-r : tie.Need-enum-known-r
 enum-known-r c = search needs
 
-all-kept-requires : tie.Need-all-kept-requires
-all-kept-requires c κs = search needs
+same-refusal-requires : tie.Need-same-refusal-requires
+same-refusal-requires c κs = search needs
 
 same-length : tie.Need-same-length
 same-length c = search needs
@@ -102,9 +102,6 @@ same-length-4 c = search needs
 returns : tie.Need-returns
 returns c = search needs
 
-same-refusal-requires : tie.Need-same-refusal-requires
-same-refusal-requires c κs = search needs
-
 same-length-5 : tie.Need-same-length-5
 same-length-5 c = search needs
 
@@ -119,21 +116,6 @@ same-length-8 c = search needs
 
 returns-2 : tie.Need-returns-2
 returns-2 c = search needs
-
-same-length-9 : tie.Need-same-length-9
-same-length-9 c = search needs
-
-same-length-10 : tie.Need-same-length-10
-same-length-10 c = search needs
-
-same-length-11 : tie.Need-same-length-11
-same-length-11 c = search needs
-
-same-length-12 : tie.Need-same-length-12
-same-length-12 c = search needs
-
-returns-3 : tie.Need-returns-3
-returns-3 c = search needs
 
 pub open-right-spec : {M : Type 1} → statement M
 open-right-spec =
@@ -151,20 +133,14 @@ open-right-spec =
     in-pieces-requires
     same-requires
     enum-known-r
-    all-kept-requires
+    same-refusal-requires
     same-length
     same-length-2
     same-length-3
     same-length-4
     returns
-    same-refusal-requires
     same-length-5
     same-length-6
     same-length-7
     same-length-8
-    returns-2
-    same-length-9
-    same-length-10
-    same-length-11
-    same-length-12
-    returns-3)
+    returns-2)

@@ -5,13 +5,14 @@ use native.Mathlib.Omega.{arith}
 use mathlib.Core.Path.{_≡_, refl}
 use lib.ListN.{length}
 use borrow.Author.Needs.{needs}
+use Rattle.table.specs.Layout.{rowsMost}
 use Rattle.event_sets.proofs.rows.RowsTurn.{Head, head-first, head-next, head-done, head-stop}
 use Rattle.event_sets.proofs.rows.read_rows.Statement.{statement}
 use Rattle.event_sets.proofs.rows.read_rows.Tie as tie
 
 abbrev Inv-loop : tie.InvT-loop
 Inv-loop list work₀ alphabet count at row j₀ p₀ work j p =
-    Head list alphabet count at row work₀ work j p × (alphabet ≤ 64) × (count ≤ 64) × (row + 64 ≤ 4096)
+    Head list alphabet count at row work₀ work j p × (alphabet ≤ 64) × (count ≤ 64) × (row + 64 ≤ rowsMost)
     × (length work₀ ≡ 8192)
 
 abbrev μ-loop : tie.MeasureT-loop

@@ -1,12 +1,13 @@
 -- `judge::branches::fill_branches` meets its contract. The loop's invariant: the terms from n on have their branches,
 -- as far as those of the bodies that they call are there, and no other word has changed. The measure is n. Assumes
 -- nothing.
-use Prim.Native.Nat.{_≤_, _<_}
+use Prim.Native.Nat.{_≤_}
 use native.Mathlib.Omega.{arith}
 use mathlib.Core.Path.{sym, _∙_}
+use Rattle.table.specs.Layout.{withBranches}
 use Rattle.table.specs.Index.{tableIn}
 use Rattle.table.specs.Filling.{BranchesFilled}
-use Rattle.table.specs.Filling.Branches.{fill-first, branches-next, fill-next, fill-done}
+use Rattle.table.specs.Filling.Fill.{fill-first, branches-next, fill-next, fill-done}
 use Rattle.judge.proofs.branches.fill_branches.Statement.{statement}
 use Rattle.judge.proofs.branches.fill_branches.Tie as tie
 
@@ -29,19 +30,42 @@ branches-at-requires c κs =
     let i = at-loop .loop .inv in
     branches-next _ _ _ _ _ _ (start .pre) (i .2) (c .before .loop-test .taken) (i .1)
 
-add-work : tie.Need-add-work Inv-loop μ-loop
-add-work c =
+add-w : tie.Need-add-w Inv-loop μ-loop
+add-w c =
     let p = c .before .before .before .before .before .before .pre in
     omega (arith, p .inside, p .fields .terms-most)
 
-mul-work : tie.Need-mul-work Inv-loop μ-loop
-mul-work c =
+mul-w : tie.Need-mul-w Inv-loop μ-loop
+mul-w c =
     let p = c .before .before .before .before .before .before .pre in
+    omega (arith, p .inside, p .fields .terms-most)
+
+slice-read-w : tie.Need-slice-read-w Inv-loop μ-loop
+slice-read-w c =
+    let at-loop = c .before .before .before .before in
+    let p = at-loop .before .before .before .pre in
+    omega (arith, p .inside, p .fields .terms-most, at-loop .loop .inv .2 .structure .whole)
+
+-- the word with other branches
+mul-work : tie.Need-mul-work Inv-loop μ-loop
+mul-work c = omega (arith, c .before .branches-at .ensures .small)
+
+add-work : tie.Need-add-work Inv-loop μ-loop
+add-work c = omega (arith, c .before .branches-at .ensures .small)
+
+add-work-2 : tie.Need-add-work-2 Inv-loop μ-loop
+add-work-2 c =
+    let p = c .before .before .before .before .before .before .before .pre in
+    omega (arith, p .inside, p .fields .terms-most)
+
+mul-work-2 : tie.Need-mul-work-2 Inv-loop μ-loop
+mul-work-2 c =
+    let p = c .before .before .before .before .before .before .before .pre in
     omega (arith, p .inside, p .fields .terms-most)
 
 slice-write-work : tie.Need-slice-write-work Inv-loop μ-loop
 slice-write-work c =
-    let at-loop = c .before .before .before in
+    let at-loop = c .before .before .before .before in
     let p = at-loop .before .before .before .pre in
     omega (arith, p .inside, p .fields .terms-most, at-loop .loop .inv .2 .structure .whole)
 
@@ -49,14 +73,15 @@ loop-less : tie.Need-loop-less Inv-loop μ-loop
 loop-less c = omega arith
 
 loop-again : tie.Need-loop-again Inv-loop μ-loop
+unfolding withBranches
 loop-again c =
-    let in-loop = c .before .before in
+    let in-loop = c .before .before .before in
     let at-loop = in-loop .before in
     let start = at-loop .before .before .before in
     let i = at-loop .loop .inv in (
       omega arith,
       omega arith,
-      fill-next _ _ _ _ _ _ (start .pre) (i .2) (in-loop .loop-test .taken) (i .1) _ (c .branches-at .ensures),
+      fill-next _ _ _ _ _ _ (start .pre) (i .2) (in-loop .loop-test .taken) (i .1) _ (c .before .branches-at .ensures),
     )
 
 same-length : tie.Need-same-length Inv-loop μ-loop
@@ -78,8 +103,13 @@ fill-branches-spec =
     loop-holds
     sub-n
     branches-at-requires
-    add-work
+    add-w
+    mul-w
+    slice-read-w
     mul-work
+    add-work
+    add-work-2
+    mul-work-2
     slice-write-work
     loop-less
     loop-again

@@ -7,7 +7,7 @@ use Rattle.judge.proofs.checker.judge_parsed.Statement.{statement}
 use Rattle.judge.proofs.checker.judge_parsed.Tie as tie
 
 first-bad-reference-requires : tie.Need-first-bad-reference-requires
-first-bad-reference-requires c κs = let whole = c .before .before .before .pre in (judging _ _ whole, whole .places)
+first-bad-reference-requires c κs = let whole = c .before .before .before .pre in judging _ _ whole
 
 enum-known-place : tie.Need-enum-known-place
 enum-known-place c = search needs

@@ -1,11 +1,12 @@
 -- `judge::widths::fill_widths` meets its contract. The loop's invariant: the terms from n on have their widths, and no
 -- other word has changed. The measure is n. Assumes nothing.
-use Prim.Native.Nat.{_≤_, _<_}
+use Prim.Native.Nat.{_≤_}
 use native.Mathlib.Omega.{arith}
 use mathlib.Core.Path.{sym, _∙_}
+use Rattle.table.specs.Layout.{withWidth}
 use Rattle.table.specs.Index.{tableIn}
 use Rattle.table.specs.Filling.{WidthsFilled}
-use Rattle.table.specs.Filling.Widths.{widths-first, width-next, widths-next, widths-done}
+use Rattle.table.specs.Filling.Widths.{widths-first, width-next, width-small, widths-next, widths-done}
 use Rattle.judge.proofs.widths.fill_widths.Statement.{statement}
 use Rattle.judge.proofs.widths.fill_widths.Tie as tie
 
@@ -28,19 +29,60 @@ width-at-requires c κs =
     let i = at-loop .loop .inv in
     width-next _ _ _ _ _ _ _ (start .pre) (i .2) (c .before .loop-test .taken) (i .1)
 
-add-work : tie.Need-add-work Inv-loop μ-loop
-add-work c =
+add-w : tie.Need-add-w Inv-loop μ-loop
+add-w c =
     let p = c .before .before .before .before .before .before .pre in
     omega (arith, p .inside, p .fields .terms-most)
 
+mul-w : tie.Need-mul-w Inv-loop μ-loop
+mul-w c =
+    let p = c .before .before .before .before .before .before .pre in
+    omega (arith, p .inside, p .fields .terms-most)
+
+slice-read-w : tie.Need-slice-read-w Inv-loop μ-loop
+slice-read-w c =
+    let at-loop = c .before .before .before .before in
+    let p = at-loop .before .before .before .pre in
+    omega (arith, p .inside, p .fields .terms-most, at-loop .loop .inv .2 .structure .whole)
+
+-- the word with another width
 mul-work : tie.Need-mul-work Inv-loop μ-loop
 mul-work c =
-    let p = c .before .before .before .before .before .before .pre in
+    let in-loop = c .before .before .before in
+    let at-loop = in-loop .before in
+    let start = at-loop .before .before .before in
+    let i = at-loop .loop .inv in
+    omega (
+      arith,
+      width-small _ _ _ _ _ _ _ (start .pre) (i .2) (in-loop .loop-test .taken) (i .1) _
+          (c .before .width-at .ensures),
+    )
+
+add-work : tie.Need-add-work Inv-loop μ-loop
+add-work c =
+    let in-loop = c .before .before .before in
+    let at-loop = in-loop .before in
+    let start = at-loop .before .before .before in
+    let i = at-loop .loop .inv in
+    omega (
+      arith,
+      width-small _ _ _ _ _ _ _ (start .pre) (i .2) (in-loop .loop-test .taken) (i .1) _
+          (c .before .width-at .ensures),
+    )
+
+add-work-2 : tie.Need-add-work-2 Inv-loop μ-loop
+add-work-2 c =
+    let p = c .before .before .before .before .before .before .before .pre in
+    omega (arith, p .inside, p .fields .terms-most)
+
+mul-work-2 : tie.Need-mul-work-2 Inv-loop μ-loop
+mul-work-2 c =
+    let p = c .before .before .before .before .before .before .before .pre in
     omega (arith, p .inside, p .fields .terms-most)
 
 slice-write-work : tie.Need-slice-write-work Inv-loop μ-loop
 slice-write-work c =
-    let at-loop = c .before .before .before in
+    let at-loop = c .before .before .before .before in
     let p = at-loop .before .before .before .pre in
     omega (arith, p .inside, p .fields .terms-most, at-loop .loop .inv .2 .structure .whole)
 
@@ -48,14 +90,15 @@ loop-less : tie.Need-loop-less Inv-loop μ-loop
 loop-less c = omega arith
 
 loop-again : tie.Need-loop-again Inv-loop μ-loop
+unfolding withWidth
 loop-again c =
-    let in-loop = c .before .before in
+    let in-loop = c .before .before .before in
     let at-loop = in-loop .before in
     let start = at-loop .before .before .before in
     let i = at-loop .loop .inv in (
       omega arith,
       omega arith,
-      widths-next _ _ _ _ _ _ _ (start .pre) (i .2) (in-loop .loop-test .taken) (i .1) _ (c .width-at .ensures),
+      widths-next _ _ _ _ _ _ _ (start .pre) (i .2) (in-loop .loop-test .taken) (i .1) _ (c .before .width-at .ensures),
     )
 
 same-length : tie.Need-same-length Inv-loop μ-loop
@@ -77,8 +120,13 @@ fill-widths-spec =
     loop-holds
     sub-n
     width-at-requires
-    add-work
+    add-w
+    mul-w
+    slice-read-w
     mul-work
+    add-work
+    add-work-2
+    mul-work-2
     slice-write-work
     loop-less
     loop-again

@@ -1,129 +1,70 @@
--- `line_monitor::pieces::run` is safe and ends: what `open` gives lies within the list and the front. Assumes nothing.
+-- `line_monitor::pieces::run` meets its contract: the buffers have the program's lengths. Assumes nothing.
 use native.Mathlib.Omega.{arith}
-use mathlib.Core.Path.{sym}
+use Prim.Native.Nat.{ℕ}
+use mathlib.Core.Path.{sym, _∙_}
+use lib.ListN.{length-replicate}
 use lib.Seq.{length-take-le}
-use Rattle.line.specs.Answers.Opening.{started-within}
 use borrow.Author.Needs.{needs}
 use Rattle.line_monitor.proofs.pieces.run.Statement.{statement}
 use Rattle.line_monitor.proofs.pieces.run.Tie as tie
 
-open-requires : tie.Need-open-requires
-open-requires c κs = search needs
+count-requires : tie.Need-count-requires
+count-requires c κs = search needs
 
-enum-known-state : tie.Need-enum-known-state
-enum-known-state c = search needs
+slice-aggregate-open-front : tie.Need-slice-aggregate-open-front
+slice-aggregate-open-front c = sym (length-take-le _ _ (omega arith))
 
-slice-reshare-prefix-feed-front : tie.Need-slice-reshare-prefix-feed-front
-slice-reshare-prefix-feed-front c =
-    let at-state = c .before in
-    let at-open = at-state .before .before .before .before .before .before .before .before .before .before in
-    let entry = at-open .before .before .before .before .before .before .before .before .before .before in
-    let args = entry .args in
-    let within = started-within (args .front .now) (args .list .now) (args .area0 .now) (args .area1 .now)
-    (args .work .now) _ _ _ _ _ (at-open .«open» .ensures) _ _ _ (at-state .state .given .1) in
-    omega arith
+last-requires : tie.Need-last-requires
+last-requires c κs = search needs
 
-slice-aggregate-feed-front : tie.Need-slice-aggregate-feed-front
-slice-aggregate-feed-front c =
-    let at-state = c .before .before in
-    let at-open = at-state .before .before .before .before .before .before .before .before .before .before in
-    let entry = at-open .before .before .before .before .before .before .before .before .before .before in
-    let args = entry .args in
-    let within = started-within (args .front .now) (args .list .now) (args .area0 .now) (args .area1 .now)
-    (args .work .now) _ _ _ _ _ (at-open .«open» .ensures) _ _ _ (at-state .state .given .1) in
-    sym (length-take-le _ _ (within .0))
+slice-aggregate-open-front-2 : tie.Need-slice-aggregate-open-front-2
+slice-aggregate-open-front-2 c = search needs
 
-sub-feed-front : tie.Need-sub-feed-front
-sub-feed-front c =
-    let at-state = c .before .before .before .before in
-    let at-open = at-state .before .before .before .before .before .before .before .before .before .before in
-    let entry = at-open .before .before .before .before .before .before .before .before .before .before in
-    let args = entry .args in
-    let within = started-within (args .front .now) (args .list .now) (args .area0 .now) (args .area1 .now)
-    (args .work .now) _ _ _ _ _ (at-open .«open» .ensures) _ _ _ (at-state .state .given .1) in
-    omega arith
+slice-aggregate-open-front-3 : tie.Need-slice-aggregate-open-front-3
+slice-aggregate-open-front-3 c = search needs
 
-part-feed-front-start : tie.Need-part-feed-front-start
-part-feed-front-start c =
-    let at-state = c .before .before .before .before in
-    let at-open = at-state .before .before .before .before .before .before .before .before .before .before in
-    let entry = at-open .before .before .before .before .before .before .before .before .before .before in
-    let args = entry .args in
-    let within = started-within (args .front .now) (args .list .now) (args .area0 .now) (args .area1 .now)
-    (args .work .now) _ _ _ _ _ (at-open .«open» .ensures) _ _ _ (at-state .state .given .1) in
-    omega arith
+slice-aggregate-open-front-4 : tie.Need-slice-aggregate-open-front-4
+slice-aggregate-open-front-4 c = search needs
 
-part-feed-front-end : tie.Need-part-feed-front-end
-part-feed-front-end c = search needs
+slice-aggregate-open-front-5 : tie.Need-slice-aggregate-open-front-5
+slice-aggregate-open-front-5 c = search needs
 
-feed-front-requires : tie.Need-feed-front-requires
-feed-front-requires c κs = search needs
-
-finish-requires : tie.Need-finish-requires
-finish-requires c κs = search needs
-
-enum-known-refusal : tie.Need-enum-known-refusal
-enum-known-refusal c = search needs
-
-refused-requires : tie.Need-refused-requires
-refused-requires c κs = search needs
-
-say-requires : tie.Need-say-requires
-say-requires c κs = search needs
-
-same-length : tie.Need-same-length
-same-length c = search needs
-
-same-length-2 : tie.Need-same-length-2
-same-length-2 c = search needs
-
-same-length-3 : tie.Need-same-length-3
-same-length-3 c = search needs
-
-same-length-4 : tie.Need-same-length-4
-same-length-4 c = search needs
+open-front-requires : tie.Need-open-front-requires
+open-front-requires c κs =
+    let at-last = c .before .before .before .before in
+    let at-count = at-last .before .before in
+    let pre = at-count .before .before .pre in (
+      record {
+        list = length-replicate {A = ℕ} 16384 0;
+        area0 = length-replicate {A = ℕ} 4096 0;
+        area1 = length-replicate {A = ℕ} 4096 0;
+        work = length-replicate {A = ℕ} 8192 0;
+      },
+      λ e.
+          let full = pre .1 .full (sym (at-last .last .ensures) ∙ e) in
+          let same = at-count .count .ensures in
+          let front = at-count .before .before .args .front .now in
+          let long = length-take-le (at-count .count .result) front (omega arith) in
+          omega arith,
+    )
 
 returns : tie.Need-returns
-returns c = search needs
-
-same-length-5 : tie.Need-same-length-5
-same-length-5 c = search needs
-
-same-length-6 : tie.Need-same-length-6
-same-length-6 c = search needs
-
-same-length-7 : tie.Need-same-length-7
-same-length-7 c = search needs
-
-same-length-8 : tie.Need-same-length-8
-same-length-8 c = search needs
-
-returns-2 : tie.Need-returns-2
-returns-2 c = search needs
+returns c =
+    let at-open-front = c .before .before .before .before in
+    let at-last = at-open-front .before .before .before .before .before in
+    let at-count = at-last .before .before in
+    rw (at-count .count .ensures, at-last .last .ensures) at (at-open-front .open-front .ensures)
 
 pub run-spec : {M : Type 1} → statement M
 run-spec =
     tie.close
     (tie.spec
-    open-requires
-    enum-known-state
-    slice-reshare-prefix-feed-front
-    slice-aggregate-feed-front
-    sub-feed-front
-    part-feed-front-start
-    part-feed-front-end
-    feed-front-requires
-    finish-requires
-    enum-known-refusal
-    refused-requires
-    say-requires
-    same-length
-    same-length-2
-    same-length-3
-    same-length-4
-    returns
-    same-length-5
-    same-length-6
-    same-length-7
-    same-length-8
-    returns-2)
+    count-requires
+    slice-aggregate-open-front
+    last-requires
+    slice-aggregate-open-front-2
+    slice-aggregate-open-front-3
+    slice-aggregate-open-front-4
+    slice-aggregate-open-front-5
+    open-front-requires
+    returns)

@@ -19,14 +19,14 @@ returns-2 c =
     let viewed = c .before .before in
     let loaded = viewed .before in
     view-some (loaded .load .result) _ _ _ _ (loaded .before .if1 .left) (loaded .load .ensures)
-    (viewed .view .ensures) (c .before .if2 .taken)
+    (viewed .view .ensures .words) (c .before .if2 .taken)
 
 returns-3 : tie.Need-returns-3
 returns-3 c =
     let viewed = c .before in
     let loaded = viewed .before in
     view-none (loaded .load .result) _ _ _ _ (loaded .before .if1 .left) (loaded .load .ensures)
-    (viewed .view .ensures) (c .if2 .left)
+    (viewed .view .ensures .words) (c .if2 .left)
 
 pub cspe-view-spec : {M : Type 1} → statement M
 cspe-view-spec = tie.close (tie.spec returns load-requires view-requires returns-2 returns-3)

@@ -5,6 +5,7 @@ use mathlib.Core.Path.{sym, _∙_}
 use mathlib.Core.Logic.{inl, inr}
 use lib.ListN.{length}
 use denote.Ref.{now}
+use Rattle.walk.specs.Kinds.{other-kind}
 use Rattle.moves.specs.Takes.Laws.{tree-in, tree-known}
 use Rattle.moves.specs.Only.Turns.{short-left, short-right, pair-fits, only-leaf, only-none, only-pair}
 use Prim.Native.Nat.{ℕ, _-_, _<_}
@@ -29,7 +30,8 @@ only-at-at t = and 3 only-at-kinds.ps (is 3 only-at-kinds.ps μ-only-at t) only-
 abbrev only-at-below : ℕ → In 3 only-at-kinds.ps
 only-at-below t = and 3 only-at-kinds.ps (falls 3 only-at-kinds.ps _<_ μ-only-at t) only-at.Pre
 
-only-at-mul-w : (t : ℕ) → only-at-lts.Need-mul-w (
+abbrev only-at-claims : ℕ → only-at-lts.Claims
+only-at-claims t = (
   kind-at-reads.Asked,
   kind-at-reads.Learnt,
   leaf-way-reads.Asked,
@@ -40,52 +42,26 @@ only-at-mul-w : (t : ℕ) → only-at-lts.Need-mul-w (
   holds-at-reads.Learnt,
   pair-way-reads.Asked,
   pair-way-reads.Learnt,
-) (only-at-at t) only-at.Post
+)
+
+only-at-mul-w : (t : ℕ) → only-at-lts.Need-mul-w (only-at-claims t) (only-at-at t) only-at.Post
 only-at-mul-w t c = omega (arith, tree-in _ (c .before .before .before .pre .1 .1 .1 .at))
 
-only-at-shared-slice-read-w : (t : ℕ) → only-at-lts.Need-shared-slice-read-w (
-  kind-at-reads.Asked,
-  kind-at-reads.Learnt,
-  leaf-way-reads.Asked,
-  leaf-way-reads.Learnt,
-  only-at-below t,
-  only-at.Post,
-  holds-at-reads.Asked,
-  holds-at-reads.Learnt,
-  pair-way-reads.Asked,
-  pair-way-reads.Learnt,
-) (only-at-at t) only-at.Post
+only-at-shared-slice-read-w : (t : ℕ)
+    → only-at-lts.Need-shared-slice-read-w (only-at-claims t) (only-at-at t) only-at.Post
 only-at-shared-slice-read-w t c = tree-in _ (c .before .before .before .before .pre .1 .1 .1 .at)
 
-only-at-kind-at-requires : (t : ℕ) → only-at-lts.Need-kind-at-requires (
-  kind-at-reads.Asked,
-  kind-at-reads.Learnt,
-  leaf-way-reads.Asked,
-  leaf-way-reads.Learnt,
-  only-at-below t,
-  only-at.Post,
-  holds-at-reads.Asked,
-  holds-at-reads.Learnt,
-  pair-way-reads.Asked,
-  pair-way-reads.Learnt,
-) (only-at-at t) only-at.Post
+only-at-add-next : (t : ℕ) → only-at-lts.Need-add-next (only-at-claims t) (only-at-at t) only-at.Post
+only-at-add-next t c = omega (arith, tree-in _ (c .before .before .before .before .pre .1 .1 .1 .at))
+
+only-at-kind-at-requires : (t : ℕ) → only-at-lts.Need-kind-at-requires (only-at-claims t) (only-at-at t) only-at.Post
 only-at-kind-at-requires t c κs = (
   c .before .before .before .before .pre .1 .0,
   tree-known _ (c .before .before .before .before .pre .1 .1 .1 .at) .within,
 )
 
-only-at-leaf-way-requires : (t : ℕ) → only-at-lts.Need-leaf-way-requires (
-  kind-at-reads.Asked,
-  kind-at-reads.Learnt,
-  leaf-way-reads.Asked,
-  leaf-way-reads.Learnt,
-  only-at-below t,
-  only-at.Post,
-  holds-at-reads.Asked,
-  holds-at-reads.Learnt,
-  pair-way-reads.Asked,
-  pair-way-reads.Learnt,
-) (only-at-at t) only-at.Post
+only-at-leaf-way-requires : (t : ℕ)
+    → only-at-lts.Need-leaf-way-requires (only-at-claims t) (only-at-at t) only-at.Post
 only-at-leaf-way-requires t c κs = (
   c .before .before .before .before .before .before .pre .1 .0,
   (
@@ -97,47 +73,7 @@ only-at-leaf-way-requires t c κs = (
   ),
 )
 
-only-at-add-t20 : (t : ℕ) → only-at-lts.Need-add-t20 (
-  kind-at-reads.Asked,
-  kind-at-reads.Learnt,
-  leaf-way-reads.Asked,
-  leaf-way-reads.Learnt,
-  only-at-below t,
-  only-at.Post,
-  holds-at-reads.Asked,
-  holds-at-reads.Learnt,
-  pair-way-reads.Asked,
-  pair-way-reads.Learnt,
-) (only-at-at t) only-at.Post
-only-at-add-t20 t c =
-    omega (arith, tree-in _ (c .before .before .before .before .before .before .before .pre .1 .1 .1 .at))
-
-only-at-add-only-at : (t : ℕ) → only-at-lts.Need-add-only-at (
-  kind-at-reads.Asked,
-  kind-at-reads.Learnt,
-  leaf-way-reads.Asked,
-  leaf-way-reads.Learnt,
-  only-at-below t,
-  only-at.Post,
-  holds-at-reads.Asked,
-  holds-at-reads.Learnt,
-  pair-way-reads.Asked,
-  pair-way-reads.Learnt,
-) (only-at-at t) only-at.Post
-only-at-add-only-at t c = omega (arith, tree-in _ (c .before .before .before .before .before .before .pre .1 .1 .1 .at))
-
-only-at-only-at-requires : (t : ℕ) → only-at-lts.Need-only-at-requires (
-  kind-at-reads.Asked,
-  kind-at-reads.Learnt,
-  leaf-way-reads.Asked,
-  leaf-way-reads.Learnt,
-  only-at-below t,
-  only-at.Post,
-  holds-at-reads.Asked,
-  holds-at-reads.Learnt,
-  pair-way-reads.Asked,
-  pair-way-reads.Learnt,
-) (only-at-at t) only-at.Post
+only-at-only-at-requires : (t : ℕ) → only-at-lts.Need-only-at-requires (only-at-claims t) (only-at-at t) only-at.Post
 only-at-only-at-requires t c κs = (
   omega (
     arith,
@@ -154,18 +90,8 @@ only-at-only-at-requires t c κs = (
   ),
 )
 
-only-at-only-at-requires-2 : (t : ℕ) → only-at-lts.Need-only-at-requires-2 (
-  kind-at-reads.Asked,
-  kind-at-reads.Learnt,
-  leaf-way-reads.Asked,
-  leaf-way-reads.Learnt,
-  only-at-below t,
-  only-at.Post,
-  holds-at-reads.Asked,
-  holds-at-reads.Learnt,
-  pair-way-reads.Asked,
-  pair-way-reads.Learnt,
-) (only-at-at t) only-at.Post
+only-at-only-at-requires-2 : (t : ℕ)
+    → only-at-lts.Need-only-at-requires-2 (only-at-claims t) (only-at-at t) only-at.Post
 only-at-only-at-requires-2 t c κs =
     let g = short-right _ (c .before .before .before .before .before .before .before .pre .1 .1 .1)
     (sym (c .before .before .kind-at .ensures) ∙ c .before .match .keys2)
@@ -182,18 +108,8 @@ only-at-only-at-requires-2 t c κs =
       ),
     )
 
-only-at-holds-at-requires : (t : ℕ) → only-at-lts.Need-holds-at-requires (
-  kind-at-reads.Asked,
-  kind-at-reads.Learnt,
-  leaf-way-reads.Asked,
-  leaf-way-reads.Learnt,
-  only-at-below t,
-  only-at.Post,
-  holds-at-reads.Asked,
-  holds-at-reads.Learnt,
-  pair-way-reads.Asked,
-  pair-way-reads.Learnt,
-) (only-at-at t) only-at.Post
+only-at-holds-at-requires : (t : ℕ)
+    → only-at-lts.Need-holds-at-requires (only-at-claims t) (only-at-at t) only-at.Post
 only-at-holds-at-requires t c κs = (
   c .before .before .before .before .before .before .before .before .pre .1 .0,
   (
@@ -205,18 +121,7 @@ only-at-holds-at-requires t c κs = (
   ),
 )
 
-only-at-sub-pair-way : (t : ℕ) → only-at-lts.Need-sub-pair-way (
-  kind-at-reads.Asked,
-  kind-at-reads.Learnt,
-  leaf-way-reads.Asked,
-  leaf-way-reads.Learnt,
-  only-at-below t,
-  only-at.Post,
-  holds-at-reads.Asked,
-  holds-at-reads.Learnt,
-  pair-way-reads.Asked,
-  pair-way-reads.Learnt,
-) (only-at-at t) only-at.Post
+only-at-sub-pair-way : (t : ℕ) → only-at-lts.Need-sub-pair-way (only-at-claims t) (only-at-at t) only-at.Post
 only-at-sub-pair-way t c =
     omega (
       arith,
@@ -226,66 +131,20 @@ only-at-sub-pair-way t c =
           (c .before .before .only-at .ensures) .1,
     )
 
-only-at-pair-way-requires : (t : ℕ) → only-at-lts.Need-pair-way-requires (
-  kind-at-reads.Asked,
-  kind-at-reads.Learnt,
-  leaf-way-reads.Asked,
-  leaf-way-reads.Learnt,
-  only-at-below t,
-  only-at.Post,
-  holds-at-reads.Asked,
-  holds-at-reads.Learnt,
-  pair-way-reads.Asked,
-  pair-way-reads.Learnt,
-) (only-at-at t) only-at.Post
+only-at-pair-way-requires : (t : ℕ)
+    → only-at-lts.Need-pair-way-requires (only-at-claims t) (only-at-at t) only-at.Post
 only-at-pair-way-requires t c κs =
     pair-fits _ (c .before .before .before .before .before .before .before .before .before .pre .1 .1 .1)
     (sym (c .before .before .before .before .kind-at .ensures) ∙ c .before .before .before .match .keys2)
     (c .before .before .before .before .before .before .before .before .before .args .e) _
     (c .before .before .only-at .ensures) _ (c .before .only-at2 .ensures)
 
-only-at-add-t24 : (t : ℕ) → only-at-lts.Need-add-t24 (
-  kind-at-reads.Asked,
-  kind-at-reads.Learnt,
-  leaf-way-reads.Asked,
-  leaf-way-reads.Learnt,
-  only-at-below t,
-  only-at.Post,
-  holds-at-reads.Asked,
-  holds-at-reads.Learnt,
-  pair-way-reads.Asked,
-  pair-way-reads.Learnt,
-) (only-at-at t) only-at.Post
-only-at-add-t24 t c = omega (arith, tree-in _ (c .before .before .before .before .before .before .pre .1 .1 .1 .at))
-
-only-at-returns : (t : ℕ) → only-at-lts.Need-returns (
-  kind-at-reads.Asked,
-  kind-at-reads.Learnt,
-  leaf-way-reads.Asked,
-  leaf-way-reads.Learnt,
-  only-at-below t,
-  only-at.Post,
-  holds-at-reads.Asked,
-  holds-at-reads.Learnt,
-  pair-way-reads.Asked,
-  pair-way-reads.Learnt,
-) (only-at-at t) only-at.Post
+only-at-returns : (t : ℕ) → only-at-lts.Need-returns (only-at-claims t) (only-at-at t) only-at.Post
 only-at-returns t c =
     only-leaf _ (c .before .before .before .before .before .before .before .pre .1 .1 .1) _
     (sym (c .before .before .kind-at .ensures) ∙ c .before .match .keys1) _ (c .leaf-way .ensures)
 
-only-at-returns-2 : (t : ℕ) → only-at-lts.Need-returns-2 (
-  kind-at-reads.Asked,
-  kind-at-reads.Learnt,
-  leaf-way-reads.Asked,
-  leaf-way-reads.Learnt,
-  only-at-below t,
-  only-at.Post,
-  holds-at-reads.Asked,
-  holds-at-reads.Learnt,
-  pair-way-reads.Asked,
-  pair-way-reads.Learnt,
-) (only-at-at t) only-at.Post
+only-at-returns-2 : (t : ℕ) → only-at-lts.Need-returns-2 (only-at-claims t) (only-at-at t) only-at.Post
 only-at-returns-2 t c =
     only-pair _ (c .before .before .before .before .before .before .before .before .before .before .pre .1 .1 .1)
     (sym (c .before .before .before .before .before .kind-at .ensures)
@@ -294,53 +153,39 @@ only-at-returns-2 t c =
     (c .before .before .before .only-at .ensures) _ (c .before .before .only-at2 .ensures) _
     (c .before .holds-at .ensures) _ (c .pair-way .ensures)
 
-only-at-returns-3 : (t : ℕ) → only-at-lts.Need-returns-3 (
-  kind-at-reads.Asked,
-  kind-at-reads.Learnt,
-  leaf-way-reads.Asked,
-  leaf-way-reads.Learnt,
-  only-at-below t,
-  only-at.Post,
-  holds-at-reads.Asked,
-  holds-at-reads.Learnt,
-  pair-way-reads.Asked,
-  pair-way-reads.Learnt,
-) (only-at-at t) only-at.Post
-only-at-returns-3 t c = elim (c .match .came) [
-  | inl k ↦ only-none _ (c .before .before .before .before .before .before .pre .1 .1 .1) _
-      (λ z. omega (arith, k .keys3, c .before .kind-at .ensures, z))
-      (λ z. omega (arith, k .keys3, c .before .kind-at .ensures, z))
-  | inr k ↦ only-none _ (c .before .before .before .before .before .before .pre .1 .1 .1) _
-      (λ z. k .rest .0 .1 (c .before .kind-at .ensures ∙ z)) (λ z. k .rest .0 .0 .1 (c .before .kind-at .ensures ∙ z))
-]
+-- STOP, a choice, a call; FAIL; what is no kind
+only-at-returns-3 : (t : ℕ) → only-at-lts.Need-returns-3 (only-at-claims t) (only-at-at t) only-at.Post
+only-at-returns-3 t c =
+    let k = other-kind (c .match .keys3) in
+    only-none _ (c .before .before .before .before .before .before .pre .1 .1 .1) _
+    (λ z. k .1 (c .before .kind-at .ensures ∙ z)) (λ z. k .0 (c .before .kind-at .ensures ∙ z))
+
+only-at-returns-4 : (t : ℕ) → only-at-lts.Need-returns-4 (only-at-claims t) (only-at-at t) only-at.Post
+only-at-returns-4 t c =
+    only-none _ (c .before .before .before .before .before .before .pre .1 .1 .1) _
+    (λ z. omega (arith, c .match .keys4, c .before .kind-at .ensures, z))
+    (λ z. omega (arith, c .match .keys4, c .before .kind-at .ensures, z))
+
+only-at-returns-5 : (t : ℕ) → only-at-lts.Need-returns-5 (only-at-claims t) (only-at-at t) only-at.Post
+only-at-returns-5 t c =
+    only-none _ (c .before .before .before .before .before .before .pre .1 .1 .1) _
+    (λ z. c .match .rest .0 .0 .1 (c .before .kind-at .ensures ∙ z))
+    (λ z. c .match .rest .0 .0 .0 .1 (c .before .kind-at .ensures ∙ z))
 
 pub +only-at-spec : {M : Type 1} → statement M
-+only-at-spec = close μ-only-at λ t. only-at-lts.spec (
-  kind-at-reads.Asked,
-  kind-at-reads.Learnt,
-  leaf-way-reads.Asked,
-  leaf-way-reads.Learnt,
-  only-at-below t,
-  only-at.Post,
-  holds-at-reads.Asked,
-  holds-at-reads.Learnt,
-  pair-way-reads.Asked,
-  pair-way-reads.Learnt,
-)
-    (only-at-at t)
-    only-at.Post
++only-at-spec = close μ-only-at λ t. only-at-lts.spec (only-at-claims t) (only-at-at t) only-at.Post
     (only-at-mul-w t)
     (only-at-shared-slice-read-w t)
+    (only-at-add-next t)
     (only-at-kind-at-requires t)
     (only-at-leaf-way-requires t)
-    (only-at-add-t20 t)
-    (only-at-add-only-at t)
     (only-at-only-at-requires t)
     (only-at-only-at-requires-2 t)
     (only-at-holds-at-requires t)
     (only-at-sub-pair-way t)
     (only-at-pair-way-requires t)
-    (only-at-add-t24 t)
     (only-at-returns t)
     (only-at-returns-2 t)
     (only-at-returns-3 t)
+    (only-at-returns-4 t)
+    (only-at-returns-5 t)

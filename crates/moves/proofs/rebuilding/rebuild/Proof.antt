@@ -1,15 +1,17 @@
 -- `moves::rebuilding::rebuild` meets its contract: the slot has what the first j nodes became, and the marks from
 -- there on are left. Assumes nothing.
 use native.Mathlib.Omega.{arith}
-use mathlib.Core.Path.{refl, _∙_}
+use mathlib.Core.Path.{refl, sym, _∙_}
 use Prim.Native.Nat.{_-_, _≤_}
 use Rattle.table.specs.Index.{tableIn}
+use Rattle.index.specs.Facts.{terms-few}
 use Rattle.residual.specs.Lawful.{lawful}
 use Rattle.residual.specs.Residual.{pushed}
-use Rattle.moves.specs.Only.Following.{landing-node, landing-leaf}
+use Rattle.residual.specs.Residual.Descent.{landed-nowhere, landed-leaf, landed-pair}
+use Rattle.moves.specs.Only.Following.{carry-resolves, carry-moved}
 use Rattle.residual.specs.Distinct.{empty}
-use Rattle.moves.specs.Only.Rebuilding.{Rebuilding, rebuild-first, rebuild-room, rebuild-keep, rebuild-follows}
-use Rattle.moves.specs.Only.Rebuilding.{rebuild-follow, rebuild-last}
+use Rattle.moves.specs.Only.Rebuilding.{Rebuilding, rebuild-first, rebuild-room, rebuild-keep, rebuild-carries}
+use Rattle.moves.specs.Only.Rebuilding.{rebuild-carry, rebuild-last}
 use borrow.Author.Needs.{needs}
 use Rattle.moves.proofs.rebuilding.rebuild.Statement.{statement}
 use Rattle.moves.proofs.rebuilding.rebuild.Tie as tie
@@ -79,117 +81,129 @@ loop-again c = (
       (c .before .before .loop-test .taken) (c .before .before .before .loop .inv .1) _ refl (c .if1 .taken),
 )
 
-slice-aggregate-land : tie.Need-slice-aggregate-land Inv-loop μ-loop
-slice-aggregate-land c = search needs
-
 -- a marked leaf
-land-requires : tie.Need-land-requires Inv-loop μ-loop
-land-requires c κs =
+term-of-requires : tie.Need-term-of-requires Inv-loop μ-loop
+term-of-requires c κs = search needs
+
+add-t : tie.Need-add-t Inv-loop μ-loop
+add-t c =
     let at-loop = c .before .before .before .before in let at-start = at-loop .before .before .before .before in
     let tested = c .before .before .before .loop-test .taken in let marked = c .before .if1 .left in
-    (at-start .pre .0, rebuild-follows (at-start .pre .1) _ _ _ tested (at-loop .loop .inv .1) _ refl marked)
+    let carries = rebuild-carries (at-start .pre .1) _ _ _ tested (at-loop .loop .inv .1) _ refl in
+    omega (arith, c .term-of .ensures, carries .single marked .active .within, terms-few (at-start .pre .0))
+
+memory-of-requires : tie.Need-memory-of-requires Inv-loop μ-loop
+memory-of-requires c κs = search needs
+
+remember-requires : tie.Need-remember-requires Inv-loop μ-loop
+remember-requires c κs = search needs
+
+slice-aggregate-descend : tie.Need-slice-aggregate-descend Inv-loop μ-loop
+slice-aggregate-descend c = search needs
+
+descend-requires : tie.Need-descend-requires Inv-loop μ-loop
+descend-requires c κs =
+    let at-loop = c .before .before .before .before .before .before .before in let at-start = at-loop .before .before .before .before in
+    let tested = c .before .before .before .before .before .before .loop-test .taken in let marked = c .before .before .before .before .if1 .left in
+    let carries = rebuild-carries (at-start .pre .1) _ _ _ tested (at-loop .loop .inv .1) _ refl in (
+      at-start .pre .0,
+      carry-resolves carries (lawful (at-start .pre .0)) marked _ _ _ (c .before .before .before .term-of .ensures)
+          (c .before .before .memory-of .ensures) (c .before .remember .ensures),
+    )
+
+enum-told : tie.Need-enum-told Inv-loop μ-loop
+enum-told c = search needs
+
+returns : tie.Need-returns Inv-loop μ-loop
+returns c = landed-nowhere _ _ _ _ _ _ (c .before .before .descend .ensures) (c .enum-told .given .1)
+
+enum-known-y : tie.Need-enum-known-y Inv-loop μ-loop
+enum-known-y c = search needs
 
 array-read-c-2 : tie.Need-array-read-c-2 Inv-loop μ-loop
-array-read-c-2 c = omega (arith, c .before .before .before .before .before .before .loop .inv .1 .rest .size)
+array-read-c-2 c = omega (arith, c .before .before .before .before .before .before .before .before .before .before .before .loop .inv .1 .rest .size)
 
 add-c-2 : tie.Need-add-c-2 Inv-loop μ-loop
 add-c-2 c =
-    let at-loop =
-    c .before .before .before .before .before .before in let at-start = at-loop .before .before .before .before in
-    let tested =
-    c .before .before .before .before .before .loop-test .taken in
-    let marked = c .before .before .before .if1 .left in
+    let at-loop = c .before .before .before .before .before .before .before .before .before .before .before in let at-start = at-loop .before .before .before .before in
     omega (
       arith,
       at-loop .loop .inv .1 .rest .size,
-      rebuild-room (at-start .pre .1) _ _ _ tested (at-loop .loop .inv .1) _ refl,
+      rebuild-room (at-start .pre .1) _ _ _ (c .before .before .before .before .before .before .before .before .before .before .loop-test .taken) (at-loop .loop .inv .1) _ refl,
     )
-
-node-requires : tie.Need-node-requires Inv-loop μ-loop
-node-requires c κs =
-    let at-start = c .before .before .before .before .before .before .before .before .before .before in
-    landing-node (c .before .land .ensures .landing) (lawful (at-start .pre .0))
 
 mul-s-2 : tie.Need-mul-s-2 Inv-loop μ-loop
 mul-s-2 c =
-    let at-loop =
-    c .before .before .before .before .before .before .before in
-    let at-start = at-loop .before .before .before .before in
-    let tested =
-    c .before .before .before .before .before .before .loop-test .taken in
-    let marked = c .before .before .before .before .if1 .left in
+    let at-loop = c .before .before .before .before .before .before .before .before .before .before .before in let at-start = at-loop .before .before .before .before in
     omega (
       arith,
       at-loop .loop .inv .1 .rest .size,
-      rebuild-room (at-start .pre .1) _ _ _ tested (at-loop .loop .inv .1) _ refl,
+      rebuild-room (at-start .pre .1) _ _ _ (c .before .before .before .before .before .before .before .before .before .before .loop-test .taken) (at-loop .loop .inv .1) _ refl,
     )
 
 array-write-s-3 : tie.Need-array-write-s-3 Inv-loop μ-loop
 array-write-s-3 c =
-    let at-loop =
-    c .before .before .before .before .before .before .before in
-    let at-start = at-loop .before .before .before .before in
-    let tested =
-    c .before .before .before .before .before .before .loop-test .taken in
-    let marked = c .before .before .before .before .if1 .left in
+    let at-loop = c .before .before .before .before .before .before .before .before .before .before .before in let at-start = at-loop .before .before .before .before in
     omega (
       arith,
       at-loop .loop .inv .1 .rest .size,
-      rebuild-room (at-start .pre .1) _ _ _ tested (at-loop .loop .inv .1) _ refl,
+      rebuild-room (at-start .pre .1) _ _ _ (c .before .before .before .before .before .before .before .before .before .before .loop-test .taken) (at-loop .loop .inv .1) _ refl,
     )
 
 array-write-s-4 : tie.Need-array-write-s-4 Inv-loop μ-loop
 array-write-s-4 c = search needs
 
 add-j-2 : tie.Need-add-j-2 Inv-loop μ-loop
-add-j-2 c = omega (arith, c .before .before .before .before .before .before .loop-test .taken)
+add-j-2 c = omega (arith, c .before .before .before .before .before .before .before .before .before .before .loop-test .taken)
 
 loop-less-2 : tie.Need-loop-less-2 Inv-loop μ-loop
-loop-less-2 c = omega (arith, c .before .before .before .before .before .before .loop-test .taken)
+loop-less-2 c = omega (arith, c .before .before .before .before .before .before .before .before .before .before .loop-test .taken)
 
 -- its residual is a leaf
 loop-again-2 : tie.Need-loop-again-2 Inv-loop μ-loop
 unfolding pushed
 loop-again-2 c =
-    let at-loop =
-    c .before .before .before .before .before .before .before in
-    let at-start = at-loop .before .before .before .before in
-    let tested =
-    c .before .before .before .before .before .before .loop-test .taken in
-    let marked = c .before .before .before .before .if1 .left in (
+    let at-loop = c .before .before .before .before .before .before .before .before .before .before .before in let at-start = at-loop .before .before .before .before in
+    let tested = c .before .before .before .before .before .before .before .before .before .before .loop-test .taken in let marked = c .before .before .before .before .before .before .before .before .if1 .left in
+    let carries = rebuild-carries (at-start .pre .1) _ _ _ tested (at-loop .loop .inv .1) _ refl in
+    let here = landed-leaf _ _ _ _ _ _ (c .before .before .before .descend .ensures) _ (c .before .y .given .1) in (
       omega (arith, tested),
-      rebuild-follow (at-start .pre .1) _ _ _ tested (at-loop .loop .inv .1) _ refl marked _
-          (landing-leaf (c .before .before .land .ensures .landing) (c .before .match .keys1) _ (c .node .ensures) .1),
+      rebuild-carry (at-start .pre .1) _ _ _ tested (at-loop .loop .inv .1) _ refl _
+          (carry-moved carries (lawful (at-start .pre .0)) marked _ _ _ (c .before .before .before .before .before .before .before .term-of .ensures)
+          (c .before .before .before .before .before .before .memory-of .ensures) (c .before .before .before .before .before .remember .ensures) _ (here .1)),
     )
 
+enum-known-b : tie.Need-enum-known-b Inv-loop μ-loop
+enum-known-b c = search needs
+
 resolve-term-requires : tie.Need-resolve-term-requires Inv-loop μ-loop
-resolve-term-requires c κs = (
-  c .before .before .before .before .before .before .before .before .before .before .pre .0,
-  c .before .land .ensures .landing .resolves,
-)
+resolve-term-requires c κs =
+    let at-loop = c .before .before .before .before .before .before .before .before .before .before .before in let at-start = at-loop .before .before .before .before in (
+      at-start .pre .0,
+      landed-pair _ _ _ _ _ _ (c .before .before .before .descend .ensures) _ _ _ _ (c .before .b .given .1) .0,
+    )
 
 add-j-3 : tie.Need-add-j-3 Inv-loop μ-loop
-add-j-3 c = omega (arith, c .before .before .before .before .before .before .loop-test .taken)
+add-j-3 c = omega (arith, c .before .before .before .before .before .before .before .before .before .before .before .loop-test .taken)
 
 loop-less-3 : tie.Need-loop-less-3 Inv-loop μ-loop
-loop-less-3 c = omega (arith, c .before .before .before .before .before .before .loop-test .taken)
+loop-less-3 c = omega (arith, c .before .before .before .before .before .before .before .before .before .before .before .loop-test .taken)
 
 -- its residual is resolved
 loop-again-3 : tie.Need-loop-again-3 Inv-loop μ-loop
 loop-again-3 c =
-    let at-loop =
-    c .before .before .before .before .before .before .before in
-    let at-start = at-loop .before .before .before .before in
-    let tested =
-    c .before .before .before .before .before .before .loop-test .taken in
-    let marked = c .before .before .before .before .if1 .left in (
+    let at-loop = c .before .before .before .before .before .before .before .before .before .before .before .before in let at-start = at-loop .before .before .before .before in
+    let tested = c .before .before .before .before .before .before .before .before .before .before .before .loop-test .taken in let marked = c .before .before .before .before .before .before .before .before .before .if1 .left in
+    let carries = rebuild-carries (at-start .pre .1) _ _ _ tested (at-loop .loop .inv .1) _ refl in
+    let here = landed-pair _ _ _ _ _ _ (c .before .before .before .before .descend .ensures) _ _ _ _ (c .before .before .b .given .1) in (
       omega (arith, tested),
-      rebuild-follow (at-start .pre .1) _ _ _ tested (at-loop .loop .inv .1) _ refl marked _
-          (c .resolve-term .ensures ∙ c .before .before .land .ensures .landing .same),
+      rebuild-carry (at-start .pre .1) _ _ _ tested (at-loop .loop .inv .1) _ refl _
+          (carry-moved carries (lawful (at-start .pre .0)) marked _ _ _ (c .before .before .before .before .before .before .before .before .term-of .ensures)
+          (c .before .before .before .before .before .before .before .memory-of .ensures) (c .before .before .before .before .before .before .remember .ensures) _ (c .resolve-term .ensures ∙ here .1)),
     )
 
-returns : tie.Need-returns Inv-loop μ-loop
-returns c =
+returns-2 : tie.Need-returns-2 Inv-loop μ-loop
+returns-2 c =
     rebuild-last (c .before .before .before .before .before .pre .1) _ _ _ (omega (arith, c .loop-test .left))
     (c .before .loop .inv .1)
 
@@ -211,19 +225,26 @@ rebuild-spec =
     add-j
     loop-less
     loop-again
-    slice-aggregate-land
-    land-requires
+    term-of-requires
+    add-t
+    memory-of-requires
+    remember-requires
+    slice-aggregate-descend
+    descend-requires
+    enum-told
+    returns
+    enum-known-y
     array-read-c-2
     add-c-2
-    node-requires
     mul-s-2
     array-write-s-3
     array-write-s-4
     add-j-2
     loop-less-2
     loop-again-2
+    enum-known-b
     resolve-term-requires
     add-j-3
     loop-less-3
     loop-again-3
-    returns)
+    returns-2)

@@ -37,7 +37,7 @@ read-leaf-requires c κs =
     let fit = start .pre .1 .1 in (
       start .pre .0 .0,
       start .pre .1 .0,
-      head-fits 5 0 _ _ _ 0 (omega arith) (omega arith)
+      head-fits 5 0 _ _ 0 (omega arith) (omega arith)
           (omega (arith, c .before .shared-slice-known2 .given at)) fit,
     )
 

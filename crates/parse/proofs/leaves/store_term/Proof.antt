@@ -1,8 +1,7 @@
--- `parse::leaves::store_term` meets its contract: the bounds of a head keep the sums in range, and the word is
--- `packed`. Assumes nothing.
+-- `parse::leaves::store_term` meets its contract: the bounds of a head keep the sums in range, and the word, which is
+-- `packed`, below `widthUnit`. Assumes nothing.
 use native.Mathlib.Omega.{arith}
 use mathlib.Core.Path.{refl}
-use lib.ListN.{length-set}
 use borrow.Author.Needs.{needs}
 use Rattle.table.specs.Index.{packed}
 use Rattle.parse.proofs.leaves.store_term.Statement.{statement}
@@ -59,21 +58,12 @@ mul-work-3 c = search needs
 slice-write-work : tie.Need-slice-write-work
 slice-write-work c = search needs
 
-add-work-4 : tie.Need-add-work-4
-add-work-4 c = search needs
-
-mul-work-4 : tie.Need-mul-work-4
-mul-work-4 c = search needs
-
-slice-write-work-2 : tie.Need-slice-write-work-2
-slice-write-work-2 c = simp length-set (omega arith)
-
 same-length : tie.Need-same-length
 same-length c = search needs
 
 returns : tie.Need-returns
 unfolding packed
-returns c = refl
+returns c = record { written = refl; small = omega arith }
 
 pub store-term-spec : {M : Type 1} → statement M
 store-term-spec =
@@ -96,8 +86,5 @@ store-term-spec =
     add-work-3
     mul-work-3
     slice-write-work
-    add-work-4
-    mul-work-4
-    slice-write-work-2
     same-length
     returns)

@@ -72,6 +72,9 @@ returns-4 c =
 shared-slice-read-store-counts : tie.Need-shared-slice-read-store-counts
 shared-slice-read-store-counts c = search needs
 
+add-store-counts : tie.Need-add-store-counts
+add-store-counts c = search needs
+
 store-counts-requires : tie.Need-store-counts-requires
 store-counts-requires c κs = search needs
 
@@ -123,6 +126,7 @@ parse-definitions-spec =
     same-length
     returns-4
     shared-slice-read-store-counts
+    add-store-counts
     store-counts-requires
     enum-known-r
     same-length-2

@@ -1,6 +1,8 @@
--- `parse::parser::store_counts` meets its contract: the four stores are those of `counted`, in its order. Assumes
+-- `parse::parser::store_counts` meets its contract: the five stores are those of `counted`, in its order. Assumes
 -- nothing.
+use native.Mathlib.Omega.{arith}
 use mathlib.Core.Path.{refl}
+use lib.ListN.{length-set}
 use Rattle.table.specs.Parse.Structure.{counted}
 use borrow.Author.Needs.{needs}
 use Rattle.parse.proofs.parser.store_counts.Statement.{statement}
@@ -24,6 +26,9 @@ slice-write-work-3 c = search needs
 slice-write-work-4 : tie.Need-slice-write-work-4
 slice-write-work-4 c = search needs
 
+slice-write-work-5 : tie.Need-slice-write-work-5
+slice-write-work-5 c = simp length-set (omega arith)
+
 same-length : tie.Need-same-length
 same-length c = search needs
 
@@ -41,5 +46,6 @@ store-counts-spec =
     slice-write-work-2
     slice-write-work-3
     slice-write-work-4
+    slice-write-work-5
     same-length
     returns)

@@ -163,7 +163,7 @@ read-follower-returns t c =
     let at-read-term = at-next .before .before .before .before in
     let at-follower = at-read-term .before in
     let start = at-follower .before .before .before .before .before in
-    λ r o. follower-read _ _ (start .args .h) (at-follower .follower .result) _ (start .args .n + 1) _ _ _
+    λ i r o. follower-read _ _ (start .args .h) i (at-follower .follower .result) _ (start .args .n + 1) _ _ _
     (at-read-term .read-term .last .1 .0) (start .pre .1 .1 .0 .1) (start .pre .1 .0 .whole) (add-one _) _ _
     (rw (at-next .next .given .1) at (at-read-term .read-term .ensures)) (start .args .n + 1) _
     (c .before .before .store-term .ensures) refl (at-follower .follower .ensures) r o
@@ -177,7 +177,7 @@ read-follower-returns-2 : (t : ℕ)
 read-follower-returns-2 t c =
     let at-read-term = c .before .before .before .before .before in
     let x = rw (c .before .r .given .1) at (at-read-term .read-term .ensures) in
-    λ r o. (follower-stop _ _ _ _ _ _ (add-one _) _ (x .0) r, x .1)
+    λ i r o. (follower-stop _ _ _ _ _ _ (add-one _) _ (x .0) r, x .1)
 
 read-sides-add-read-term : (t : ℕ)
     → read-sides-lts.Need-add-read-term (sides-claims t) (read-sides-at t) read-sides.Post
@@ -236,7 +236,7 @@ read-sides-returns t c =
     let at-next = at-store-term .before .before .before in
     let at-read-term = at-next .before .before .before .before in
     let start = at-read-term .before .before .before .before in
-    λ g y o. sides-read _ _ (start .args .h) (start .args .inner) (start .args .n) (start .args .n + 1) _ _
+    λ i g y o. sides-read _ _ (start .args .h) i (start .args .inner) (start .args .n) (start .args .n + 1) _ _
     (start .args .work .now) (at-read-term .read-term .last .1 .0) (start .pre .1 .1 .1)
     (start .pre .1 .0 .whole) (add-one _) _ _
     (rw (at-next .next .given .1) at (at-read-term .read-term .ensures)) _ _
@@ -252,7 +252,7 @@ read-sides-returns-2 : (t : ℕ)
 read-sides-returns-2 t c =
     let at-read-term = c .before .before .before .before .before in
     let x = rw (c .before .r .given .1) at (at-read-term .read-term .ensures) in
-    λ g y o. (sides-stop _ _ _ _ _ _ (add-one _) _ (x .0) g, x .1)
+    λ i g y o. (sides-stop _ _ _ _ _ _ (add-one _) _ (x .0) g, x .1)
 
 read-term-returns : (t : ℕ)
     → read-term-lts.Need-returns (term-claims t) (read-term-at t) read-term.Post
@@ -320,7 +320,7 @@ read-term-read-follower-requires t c κs =
         (
           (f .within, omega arith),
           (
-            head-fits 2 _ _ _ _ _ (omega arith) (f .digit-few) (omega (arith, f .row-few))
+            head-fits 2 _ _ _ _ (omega arith) (f .digit-few) (omega (arith, f .row-few))
                 (start .pre .1 .1 .2),
             omega (arith, start .pre .1 .1 .2 .shallow),
           ),
@@ -354,7 +354,7 @@ read-term-read-sides-requires t c κs =
         (
           omega arith,
           omega arith,
-          head-fits 3 0 0 _ _ _ (omega arith) (omega arith) (omega arith)
+          head-fits 3 0 0 _ _ (omega arith) (omega arith) (omega arith)
               (start .pre .1 .1 .2),
           side-fits _ _ _ (λ z. omega arith) (c .side .ensures) (start .pre .1 .1 .2),
         ),
@@ -394,7 +394,7 @@ read-term-read-sides-requires-2 t c κs =
         (
           f .within,
           omega arith,
-          head-fits 4 _ _ _ _ _ (omega arith) (f .digit-few) (omega (arith, f .row-few))
+          head-fits 4 _ _ _ _ (omega arith) (f .digit-few) (omega (arith, f .row-few))
               (start .pre .1 .1 .2),
           beside-fits _ _ _ (λ z. omega arith) (c .beside .ensures) (start .pre .1 .1 .2),
         ),
@@ -451,7 +451,8 @@ read-term-returns-6 t c =
     (start .args .at + 1) refl (at-target .target .given .0 .0) (at-target .target .given .0 .1 .0)
     (at-target .target .given .0 .1 .1 .0)
     (rw (at-target .target .given .1) at (at-read-reference .read-reference .ensures))
-    (c .before .before .read-follower .result) (omega arith) (c .before .before .read-follower .ensures)
+    (c .before .before .read-follower .result) (omega arith)
+    (c .before .before .read-follower .ensures (start .args .at))
 
 read-term-same-length-4 : (t : ℕ)
     → read-term-lts.Need-same-length-4 (term-claims t) (read-term-at t) read-term.Post
@@ -481,7 +482,7 @@ read-term-returns-8 t c =
     (start .args .at) (start .args .deep) (start .args .work .now) (c .before .before .read-sides .last .1 .0)
     (omega arith) (λ z. omega arith) (omega arith) (start .args .at + 1) (at-side .side .result)
     (c .before .before .read-sides .result) (omega arith) refl (at-side .side .ensures)
-    (c .before .before .read-sides .ensures)
+    (c .before .before .read-sides .ensures (start .args .at))
 
 read-term-same-length-6 : (t : ℕ)
     → read-term-lts.Need-same-length-6 (term-claims t) (read-term-at t) read-term.Post
@@ -503,7 +504,7 @@ read-term-returns-9 t c =
     (at-target2 .target2 .given .0 .1 .1 .0)
     (rw (at-target2 .target2 .given .1) at (at-read-reference2 .read-reference2 .ensures))
     (c .before .before .read-sides2 .result) (at-beside .beside .result) (omega arith)
-    (at-beside .beside .ensures) (c .before .before .read-sides2 .ensures)
+    (at-beside .beside .ensures) (c .before .before .read-sides2 .ensures (start .args .at))
 
 read-term-same-length-7 : (t : ℕ)
     → read-term-lts.Need-same-length-7 (term-claims t) (read-term-at t) read-term.Post

@@ -18,7 +18,7 @@ use Rattle.residual.proofs.leaves.distinct_in.Lts as lts
 use Rattle.residual.proofs.leaves.found.Reads as found-reads
 use Rattle.residual.proofs.leaves.hold.Reads as hold-reads
 use Rattle.residual.proofs.leaves.key_of.Reads as key-of-reads
-use Rattle.residual.proofs.descend.resolve_at.Reads as resolve-at-reads
+use Rattle.residual.proofs.descent.resolve_at.Reads as resolve-at-reads
 
 abbrev Inv-loop : tie.InvT-loop
 Inv-loop list work bound n m c indices₀ at keys₀ slots₀ k₀ i₀ indices keys slots k i =

@@ -10,7 +10,7 @@ use Rattle.residual.proofs.leaves.distinct_two.Tie as tie
 use Rattle.residual.proofs.leaves.distinct_two.Reads as reads
 use Rattle.residual.proofs.leaves.distinct_two.Lts as lts
 use Rattle.residual.proofs.leaves.same_at.Reads as same-at-reads
-use Rattle.residual.proofs.descend.resolve_at.Reads as resolve-at-reads
+use Rattle.residual.proofs.descent.resolve_at.Reads as resolve-at-reads
 
 resolve-at-requires : tie.Need-resolve-at-requires
 resolve-at-requires c κs =

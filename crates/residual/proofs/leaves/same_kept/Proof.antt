@@ -10,7 +10,7 @@ use Rattle.residual.proofs.leaves.same_kept.Tie as tie
 use Rattle.residual.proofs.leaves.same_kept.Reads as reads
 use Rattle.residual.proofs.leaves.same_kept.Lts as lts
 use Rattle.residual.proofs.leaves.same_at.Reads as same-at-reads
-use Rattle.residual.proofs.descend.resolve_at.Reads as resolve-at-reads
+use Rattle.residual.proofs.descent.resolve_at.Reads as resolve-at-reads
 
 mul-same-at : tie.Need-mul-same-at
 mul-same-at c = search needs

@@ -1,12 +1,11 @@
--- `state::viewer::view` meets its contract: verdict, parity and count say which case of `viewOf` holds. Assumes
--- nothing.
-use Rattle.state.specs.Record.View.{view-failed, view-even, view-even-over, view-odd, view-odd-over}
+-- `state::viewer::view` meets its contract: the part's area says which slice is handed back. Assumes nothing.
 use borrow.Author.Needs.{needs}
+use Rattle.state.specs.Viewed.Laws.{fits-0, fits-1, viewed-0, viewed-1}
 use Rattle.state.proofs.viewer.view.Statement.{statement}
 use Rattle.state.proofs.viewer.view.Tie as tie
 
-enum-told : tie.Need-enum-told
-enum-told c = search needs
+part-of-requires : tie.Need-part-of-requires
+part-of-requires c κs = search needs
 
 sub-result : tie.Need-sub-result
 sub-result c = search needs
@@ -15,16 +14,10 @@ part-result-start : tie.Need-part-result-start
 part-result-start c = search needs
 
 part-result-end : tie.Need-part-result-end
-part-result-end c = search needs
-
-returns : tie.Need-returns
-returns c = view-failed _ _ _ _ (c .before .enum-told .given .1)
-
-enum-told-2 : tie.Need-enum-told-2
-enum-told-2 c = search needs
-
-mul-n : tie.Need-mul-n
-mul-n c = search needs
+part-result-end c =
+    let called = c .before .before in
+    let args = called .before .before .before .args in
+    fits-0 (args .state) (args .area0) (args .area1) _ (called .part-of .ensures) (c .if1 .taken)
 
 sub-result-2 : tie.Need-sub-result-2
 sub-result-2 c = search needs
@@ -33,91 +26,27 @@ part-result-start-2 : tie.Need-part-result-start-2
 part-result-start-2 c = search needs
 
 part-result-end-2 : tie.Need-part-result-end-2
-part-result-end-2 c = search needs
+part-result-end-2 c =
+    let called = c .before .before in
+    let args = called .before .before .before .args in
+    fits-1 (args .state) (args .area0) (args .area1) _ (called .part-of .ensures) (c .if1 .left)
 
-sub-result-3 : tie.Need-sub-result-3
-sub-result-3 c = search needs
-
-part-result-start-3 : tie.Need-part-result-start-3
-part-result-start-3 c = search needs
-
-part-result-end-3 : tie.Need-part-result-end-3
-part-result-end-3 c = search needs
-
-mul-n-2 : tie.Need-mul-n-2
-mul-n-2 c = search needs
-
-sub-result-4 : tie.Need-sub-result-4
-sub-result-4 c = search needs
-
-part-result-start-4 : tie.Need-part-result-start-4
-part-result-start-4 c = search needs
-
-part-result-end-4 : tie.Need-part-result-end-4
-part-result-end-4 c = search needs
-
-sub-result-5 : tie.Need-sub-result-5
-sub-result-5 c = search needs
-
-part-result-start-5 : tie.Need-part-result-start-5
-part-result-start-5 c = search needs
-
-part-result-end-5 : tie.Need-part-result-end-5
-part-result-end-5 c = search needs
+returns : tie.Need-returns
+returns c = viewed-0 _ _ _ _ (c .before .before .before .part-of .ensures) _ (c .before .if1 .taken)
 
 returns-2 : tie.Need-returns-2
-returns-2 c =
-    let if2 = c .before .if2 in
-    let if1 = c .before .before .if1 in
-    let enum-told2 = c .before .before .before .before .enum-told2 in
-    view-even _ _ _ (enum-told2 .given .1) (if1 .taken) (if2 .taken)
-
-returns-3 : tie.Need-returns-3
-returns-3 c =
-    let if2 = c .before .if2 in
-    let if1 = c .before .before .if1 in
-    let enum-told2 = c .before .before .before .before .enum-told2 in
-    view-even-over _ _ _ (enum-told2 .given .1) (if1 .taken) (if2 .left)
-
-returns-4 : tie.Need-returns-4
-returns-4 c =
-    let if3 = c .before .if3 in
-    let if1 = c .before .before .if1 in
-    let enum-told2 = c .before .before .before .before .enum-told2 in
-    view-odd _ _ _ (enum-told2 .given .1) (if1 .left) (if3 .taken)
-
-returns-5 : tie.Need-returns-5
-returns-5 c =
-    let if3 = c .before .if3 in
-    let if1 = c .before .before .if1 in
-    let enum-told2 = c .before .before .before .before .enum-told2 in
-    view-odd-over _ _ _ (enum-told2 .given .1) (if1 .left) (if3 .left)
+returns-2 c = viewed-1 _ _ _ _ (c .before .before .before .part-of .ensures) _ (c .before .if1 .left)
 
 pub view-spec : {M : Type 1} → statement M
 view-spec =
     tie.close
     (tie.spec
-    enum-told
+    part-of-requires
     sub-result
     part-result-start
     part-result-end
-    returns
-    enum-told-2
-    mul-n
     sub-result-2
     part-result-start-2
     part-result-end-2
-    sub-result-3
-    part-result-start-3
-    part-result-end-3
-    mul-n-2
-    sub-result-4
-    part-result-start-4
-    part-result-end-4
-    sub-result-5
-    part-result-start-5
-    part-result-end-5
-    returns-2
-    returns-3
-    returns-4
-    returns-5)
+    returns
+    returns-2)

@@ -3,6 +3,8 @@ use native.Mathlib.Omega.{arith}
 use mathlib.Core.Path.{sym, _∙_}
 use mathlib.Core.Logic.{inl}
 use borrow.Author.Needs.{needs}
+use borrow.Author.Tests.{not-true, not-false}
+use Rattle.walk.specs.Kinds.{kind-yes, kind-no}
 use Rattle.index.specs.Facts.{terms-few}
 use Rattle.step.specs.Prepared.Nodes.{node-known, fill-not-kind, fill-not-held, fill-resolves, fill-yes}
 use Rattle.residual.specs.Lawful.{lawful}
@@ -12,7 +14,6 @@ use Rattle.step.proofs.preparing.prepare_node.Reads as reads
 use Rattle.step.proofs.preparing.prepare_node.Lts as lts
 use Rattle.residual.proofs.distinct.Reads as distinct-reads
 use Rattle.residual.proofs.holds_at.Reads as holds-at-reads
-use Rattle.residual.proofs.kind_at.Reads as kind-at-reads
 use Rattle.residual.proofs.memory_of.Reads as memory-of-reads
 use Rattle.residual.proofs.remember.Reads as remember-reads
 use Rattle.residual.proofs.term_of.Reads as term-of-reads
@@ -26,8 +27,8 @@ slice-read-w c = search needs
 mul-at : tie.Need-mul-at
 mul-at c = search needs
 
-kind-at-requires : tie.Need-kind-at-requires
-kind-at-requires c κs =
+is-prefix-requires : tie.Need-is-prefix-requires
+is-prefix-requires c κs =
     let at-start = c .before .before .before .before in (
       at-start .pre .0,
       node-known _ _ _ _ (at-start .pre .1 .0) _ (at-start .pre .1 .1 .0)
@@ -47,7 +48,7 @@ returns : tie.Need-returns
 returns c =
     let at-start = c .before .before .before .before .before .before in
     fill-not-kind _ _ _ _ (at-start .pre .1 .0) _ (at-start .pre .1 .1 .0) (at-start .pre .1 .1 .1)
-    (λ e. c .if1 .taken (c .before .kind-at .ensures ∙ e))
+    (kind-no _ _ 2 (c .before .is-prefix .ensures) (not-true _ (c .if1 .taken)))
 
 holds-at-requires : tie.Need-holds-at-requires
 holds-at-requires c κs =
@@ -55,7 +56,7 @@ holds-at-requires c κs =
       at-start .pre .0,
       (
         node-known _ _ _ _ (at-start .pre .1 .0) _ (at-start .pre .1 .1 .0) (at-start .pre .1 .1 .1),
-        (inl (sym (c .before .kind-at .ensures) ∙ c .if1 .left), at-start .pre .1 .0 .event),
+        (inl (kind-yes _ _ 2 (c .before .is-prefix .ensures) (not-false _ (c .if1 .left))), at-start .pre .1 .0 .event),
       ),
     )
 
@@ -84,12 +85,12 @@ add-distinct-2 c = search needs
 
 distinct-requires : tie.Need-distinct-requires
 distinct-requires c κs =
-    let at-if1 = c .before .before .before .before .before .before in let at-kind-at = at-if1 .before in
-    let at-start = at-kind-at .before .before .before .before .before in (
+    let at-if1 = c .before .before .before .before .before .before in let at-is-prefix = at-if1 .before in
+    let at-start = at-is-prefix .before .before .before .before .before in (
       at-start .pre .0,
       (
         fill-resolves _ _ _ _ (at-start .pre .1 .0) _ (at-start .pre .1 .1 .0) (at-start .pre .1 .1 .1)
-            (lawful (at-start .pre .0)) (sym (at-kind-at .kind-at .ensures) ∙ at-if1 .if1 .left)
+            (lawful (at-start .pre .0)) (kind-yes _ _ 2 (at-is-prefix .is-prefix .ensures) (not-false _ (at-if1 .if1 .left)))
             (sym (c .before .before .before .before .before .holds-at .ensures)
             ∙ c .before .before .before .before .if2 .taken) _ _ _ (c .before .before .before .term-of .ensures)
             (c .before .before .memory-of .ensures) (c .before .remember .ensures),
@@ -109,10 +110,10 @@ same-length-2 c = search needs
 returns-2 : tie.Need-returns-2
 returns-2 c =
     let at-term-of = c .before .before .before .before .before .before in let at-if2 = at-term-of .before in
-    let at-holds-at = at-if2 .before in let at-if1 = at-holds-at .before in let at-kind-at = at-if1 .before in
-    let at-start = at-kind-at .before .before .before .before .before in
+    let at-holds-at = at-if2 .before in let at-if1 = at-holds-at .before in let at-is-prefix = at-if1 .before in
+    let at-start = at-is-prefix .before .before .before .before .before in
     fill-yes _ _ _ _ (at-start .pre .1 .0) _ (at-start .pre .1 .1 .0) (at-start .pre .1 .1 .1)
-    (lawful (at-start .pre .0)) (sym (at-kind-at .kind-at .ensures) ∙ at-if1 .if1 .left)
+    (lawful (at-start .pre .0)) (kind-yes _ _ 2 (at-is-prefix .is-prefix .ensures) (not-false _ (at-if1 .if1 .left)))
     (sym (at-holds-at .holds-at .ensures) ∙ at-if2 .if2 .taken) _ _ _ (at-term-of .term-of .ensures)
     (c .before .before .before .before .before .memory-of .ensures)
     (c .before .before .before .before .remember .ensures) _ _ (c .before .before .distinct .kept .1 .1 .1 .1 .1 .0)
@@ -131,7 +132,7 @@ returns-3 : tie.Need-returns-3
 returns-3 c =
     let at-start = c .before .before .before .before .before .before .before .before in
     fill-not-held _ _ _ _ (at-start .pre .1 .0) _ (at-start .pre .1 .1 .0) (at-start .pre .1 .1 .1)
-    (sym (c .before .before .before .kind-at .ensures) ∙ c .before .before .if1 .left)
+    (kind-yes _ _ 2 (c .before .before .before .is-prefix .ensures) (not-false _ (c .before .before .if1 .left)))
     (sym (c .before .holds-at .ensures) ∙ c .if2 .left)
 
 pub prepare-node-spec : {M : Type 1} → statement M
@@ -141,7 +142,7 @@ prepare-node-spec =
     mul-w
     slice-read-w
     mul-at
-    kind-at-requires
+    is-prefix-requires
     mul-store
     slice-write-store
     same-length

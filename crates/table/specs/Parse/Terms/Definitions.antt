@@ -18,6 +18,7 @@ use Rattle.table.specs.Grammar.{definition, definitionsOf}
 use Rattle.table.specs.References.{levelIn}
 use Rattle.table.specs.Writing.{definitionNumbers}
 use Rattle.table.specs.Node.{Node, nodes, nodesFrom, noNode, bodySpot}
+use Rattle.table.specs.Layout.{termsAt, setsAt, bodiesAt, levelsAt, widthsAt, structureOf}
 use Rattle.table.specs.Index.{wordOf, setsIn}
 use Rattle.table.specs.Parse.{Stops, SetsReady, DefinitionsFound}
 use Rattle.table.specs.Parse.Terms.{DefinitionFound}
@@ -38,11 +39,12 @@ pub record Defined (sets : List SetDef) (l : List ℕ) (i : ℕ) (w₀ w : List 
   pub few : n ≤ 1024
   pub ends : p ≡ i + length (flatMap definitionNumbers definitions)
   pub same : length w ≡ length w₀
-  pub words : (k : ℕ) → k < n → getD w (4096 + k) 0 ≡ wordOf sets k (getD (nodesFrom 0 i definitions) k noNode)
-  pub places : (k : ℕ) → k < n → getD w (5120 + k) 0 ≡ getD (nodesFrom 0 i definitions) k noNode .place
-  pub roots : (k : ℕ) → k < d → getD w (7232 + k) 0 ≡ sizes (take k definitions)
-  pub levels : (k : ℕ) → k < d → getD w (7265 + k) 0 ≡ levelIn definitions k
-  pub kept : (x : ℕ) → ((4096 ≤ x) × (x < 6144) → ⊥) → ((7232 ≤ x) × (x < 7297) → ⊥) → getD w x 0 ≡ getD w₀ x 0
+  pub words : (k : ℕ) → k < n
+      → structureOf (getD w (termsAt + k) 0) ≡ wordOf sets k (getD (nodesFrom 0 i definitions) k noNode)
+  pub roots : (k : ℕ) → k < d → getD w (bodiesAt + k) 0 ≡ sizes (take k definitions)
+  pub levels : (k : ℕ) → k < d → getD w (levelsAt + k) 0 ≡ levelIn definitions k
+  pub kept : (x : ℕ) → ((termsAt ≤ x) × (x < setsAt) → ⊥) → ((bodiesAt ≤ x) × (x < widthsAt) → ⊥)
+      → getD w x 0 ≡ getD w₀ x 0
   pub within : p ≤ length l
 
 module _ (sets : List SetDef) (l : List ℕ) (i : ℕ) (w₀ : List ℕ) where
@@ -58,7 +60,6 @@ module _ (sets : List SetDef) (l : List ℕ) (i : ℕ) (w₀ : List ℕ) where
         ends = omega arith;
         same = refl;
         words = λ k h. absurd (omega arith);
-        places = λ k h. absurd (omega arith);
         roots = λ k h. absurd (omega arith);
         levels = λ k h. absurd (omega arith);
         kept = λ x a b. refl;
@@ -100,10 +101,10 @@ module _ (sets : List SetDef) (l : List ℕ) (i : ℕ) (w₀ : List ℕ) where
         ∙ ap (λ (x : ℕ). getD (nodes (bodySpot d) (suc p) (b .value .body)) (k - x) noNode) e
 
     next-words : (k : ℕ) → k < m → Dec (k < n)
-        → getD w' (4096 + k) 0 ≡ wordOf sets k (getD (nodesFrom 0 i more) k noNode)
+        → structureOf (getD w' (termsAt + k) 0) ≡ wordOf sets k (getD (nodesFrom 0 i more) k noNode)
     next-words k h (yes c) =
         let f = b .few in
-        b .stored .kept (4096 + k) (λ z. omega arith) (λ z. omega arith) (λ z. omega arith) (λ z. omega arith)
+        ap structureOf (b .stored .kept (termsAt + k) (λ z. omega arith) (λ z. omega arith) (λ z. omega arith))
         ∙ a .words k c ∙ ap (wordOf sets k) (sym (old-node k c))
     next-words k h (no c) =
         let le : n ≤ k = omega arith in
@@ -111,23 +112,12 @@ module _ (sets : List SetDef) (l : List ℕ) (i : ℕ) (w₀ : List ℕ) where
         let f = b .counted in
         rw (new-node k le) (rw z at (b .stored .words (k - n) (omega arith)))
 
-    next-places : (k : ℕ) → k < m → Dec (k < n) → getD w' (5120 + k) 0 ≡ getD (nodesFrom 0 i more) k noNode .place
-    next-places k h (yes c) =
-        let f = b .few in
-        b .stored .kept (5120 + k) (λ z. omega arith) (λ z. omega arith) (λ z. omega arith) (λ z. omega arith)
-        ∙ a .places k c ∙ ap (λ (x : Node). x .place) (sym (old-node k c))
-    next-places k h (no c) =
-        let le : n ≤ k = omega arith in
-        let z : n + (k - n) ≡ k = omega arith in
-        let f = b .counted in
-        rw (new-node k le) (rw z at (b .stored .places (k - n) (omega arith)))
-
-    next-roots : (k : ℕ) → k < d + 1 → Dec (k < d) → getD w' (7232 + k) 0 ≡ sizes (take k more)
+    next-roots : (k : ℕ) → k < d + 1 → Dec (k < d) → getD w' (bodiesAt + k) 0 ≡ sizes (take k more)
     next-roots k h (yes c) =
         let e = a .counted in
         let f = b .few in
         let g = b .counted in
-        b .stored .kept (7232 + k) (λ z. omega arith) (λ z. omega arith) (λ z. omega arith) (λ z. omega arith)
+        b .stored .kept (bodiesAt + k) (λ z. omega arith) (λ z. omega arith) (λ z. omega arith)
         ∙ a .roots k c ∙ sym (roots-old old (b .value) k (omega arith))
     next-roots k h (no c) =
         let e = a .counted in
@@ -137,12 +127,12 @@ module _ (sets : List SetDef) (l : List ℕ) (i : ℕ) (w₀ : List ℕ) where
         ∙ sym (roots-old old (b .value) k (omega arith) ∙ ap (λ (x : ℕ). sizes (take x old)) z
         ∙ ap sizes (take-length old))
 
-    next-levels : (k : ℕ) → k < d + 1 → Dec (k < d) → getD w' (7265 + k) 0 ≡ levelIn more k
+    next-levels : (k : ℕ) → k < d + 1 → Dec (k < d) → getD w' (levelsAt + k) 0 ≡ levelIn more k
     next-levels k h (yes c) =
         let e = a .counted in
         let f = b .few in
         let g = b .counted in
-        b .stored .kept (7265 + k) (λ z. omega arith) (λ z. omega arith) (λ z. omega arith) (λ z. omega arith)
+        b .stored .kept (levelsAt + k) (λ z. omega arith) (λ z. omega arith) (λ z. omega arith)
         ∙ a .levels k c ∙ sym (levels-old old (b .value) k (omega arith))
     next-levels k h (no c) =
         let e = a .counted in
@@ -167,11 +157,10 @@ module _ (sets : List SetDef) (l : List ℕ) (i : ℕ) (w₀ : List ℕ) where
           ends = omega (arith, numbers-snoc old (b .value));
           same = b .stored .same ∙ a .same;
           words = λ k h. next-words k h (decLt k n);
-          places = λ k h. next-places k h (decLt k n);
           roots = λ k h. next-roots k (omega arith) (decLt k d);
           levels = λ k h. next-levels k (omega arith) (decLt k d);
-          kept = λ x y z. b .stored .kept x (λ h. y (omega arith)) (λ h. y (omega arith)) (λ h. z (omega arith))
-              (λ h. z (omega arith)) ∙ a .kept x y z;
+          kept = λ x y z. b .stored .kept x (λ h. y (omega arith)) (λ h. z (omega arith)) (λ h. z (omega arith))
+              ∙ a .kept x y z;
           within = b .within;
         }
 
@@ -191,7 +180,6 @@ module _ (sets : List SetDef) (l : List ℕ) (i : ℕ) (w₀ : List ℕ) where
           few = a .few;
           same = a .same;
           words = a .words;
-          places = a .places;
           roots = λ k h. a .roots k (omega arith);
           levels = λ k h. a .levels k (omega arith);
           kept = a .kept;

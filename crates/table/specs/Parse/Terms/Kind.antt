@@ -10,7 +10,7 @@ use native.Mathlib.Omega.{arith}
 use mathlib.Core.Path.{_≡_, refl, sym, ap, _∙_, subst}
 use mathlib.Core.Bool.{Bool, true, false, _&&_}
 use mathlib.Core.List.{List, [], _∷_}
-use lib.ListN.{length, getD, set}
+use lib.ListN.{length, getD}
 use lib.Dec.{ltb}
 use borrow.Author.Tests.{lt-ltb, le-ltb}
 use Rattle.table.specs.declared.answer.Refusal.{Refusal}
@@ -25,7 +25,8 @@ use Rattle.table.specs.Parser.Steps.{number-got, number-off, number-shor
 use Rattle.table.specs.Grammar.{termOfKind, termWith}
 use Rattle.table.specs.Node.{node, nodes, kindOf, leftSize, refOf, parameterOf}
 use Rattle.table.specs.Index.{targetOf, packed, wordOf}
-use Rattle.table.specs.Parse.{SpotFits, HeadFits, Stops, TermRead}
+use Rattle.table.specs.Layout.{targets}
+use Rattle.table.specs.Parse.{SpotFits, HeadFits, Stops, WordStored, TermRead}
 use Rattle.table.specs.Parse.Terms.{TermFoundBy, TermReadBy, LeafRead, callRest}
 use Rattle.table.specs.Parse.Terms.Stored.{stored-in, stored-one, size-nodes}
 
@@ -116,12 +117,12 @@ module _ (sets : List SetDef) (l : List ℕ) (s : Spot) (n i : ℕ) (w : List �
 
 -- ---- a term's own word
 
-abbrev pub headAt : ℕ → ℕ → ℕ → Spot → ℕ → Head
-headAt kind p t s i = record { kind = kind; parameter = p; target = t; spot = s; place = i }
+abbrev pub headAt : ℕ → ℕ → ℕ → Spot → Head
+headAt kind p t s = record { kind = kind; parameter = p; target = t; spot = s }
 
-pub head-fits : (kind p t : ℕ) (s : Spot) (i deep : ℕ) → kind ≤ 5 → p ≤ 4 → t ≤ 65535 → SpotFits s deep
-    → HeadFits (headAt kind p t s i)
-head-fits kind p t s i deep a b c f =
+pub head-fits : (kind p t : ℕ) (s : Spot) (deep : ℕ) → kind ≤ 5 → p ≤ 4 → t < targets → SpotFits s deep
+    → HeadFits (headAt kind p t s)
+head-fits kind p t s deep a b c f =
     let d = f .shallow in
     record {
       kind = a;
@@ -133,58 +134,58 @@ head-fits kind p t s i deep a b c f =
       own = f .own;
     }
 
-pub head-word : (sets : List SetDef) (h : Head) (n right : ℕ) (p : Term) → h .kind ≡ kindOf p
+pub head-word : (sets : List SetDef) (h : Head) (n right i : ℕ) (p : Term) → h .kind ≡ kindOf p
     → h .parameter ≡ parameterOf (refOf p) → right ≡ n + 1 + leftSize p → h .target ≡ targetOf sets p
-    → packed (h .spot) (h .kind) (h .parameter) right (h .target) ≡ wordOf sets n (node (h .spot) (h .place) p)
+    → packed (h .spot) (h .kind) (h .parameter) right (h .target) ≡ wordOf sets n (node (h .spot) i p)
 unfolding wordOf
-head-word sets h n right p a b c d = rw (a, b, c, d) refl
+head-word sets h n right i p a b c d = rw (a, b, c, d) refl
 
 -- ---- terms without terms in them
 
-module _ (sets : List SetDef) (l : List ℕ) (h : Head) (n from next : ℕ) (w w' : List ℕ) (few : n < 1024)
+module _ (sets : List SetDef) (l : List ℕ) (h : Head) (i n from next : ℕ) (w w' : List ℕ) (few : n < 1024)
     (long : length w ≡ 8192) (small : next ≤ length l) where
   leaf-found : (q : Parser Term) (p : Term) → q (tokensAt l from) ≡ got p (tokensAt l next)
-      → nodes (h .spot) (h .place) p ≡ node (h .spot) (h .place) p ∷ []
-      → w' ≡ set (set w (4096 + n) (wordOf sets n (node (h .spot) (h .place) p))) (5120 + n) (h .place)
-      → TermFoundBy q sets l (h .spot) n (h .place) from w w' next (n + 1)
-  leaf-found q p parsed' only e =
-      let sized = sym (size-nodes (h .spot) (h .place) p) ∙ ap length only in
+      → nodes (h .spot) i p ≡ node (h .spot) i p ∷ []
+      → packed (h .spot) (h .kind) (h .parameter) (n + 1) (h .target) ≡ wordOf sets n (node (h .spot) i p)
+      → WordStored h n (n + 1) w w'
+      → TermFoundBy q sets l (h .spot) n i from w w' next (n + 1)
+  leaf-found q p parsed' only word e =
+      let sized = sym (size-nodes (h .spot) i p) ∙ ap length only in
       record {
         term = p;
         parsed = parsed';
         counted = omega arith;
         few = omega arith;
-        stored = stored-in sets (h .spot) n (h .place) p w w'
-            (rw only (stored-one sets n (node (h .spot) (h .place) p) w w' long few e));
+        stored = stored-in sets (h .spot) n i p w w'
+            (rw only (stored-one sets n (n + 1) (node (h .spot) i p) h w w' long few e word));
         within = small;
       }
 
   leaf-read : (q : Parser Term) (p : Term) (r : TermEnd) → q (tokensAt l from) ≡ got p (tokensAt l next)
-      → nodes (h .spot) (h .place) p ≡ node (h .spot) (h .place) p ∷ []
-      → packed (h .spot) (h .kind) (h .parameter) (n + 1) (h .target) ≡ wordOf sets n (node (h .spot) (h .place) p)
-      → LeafRead h n next w w' r → TermReadBy q sets l (h .spot) n (h .place) from w w' r
+      → nodes (h .spot) i p ≡ node (h .spot) i p ∷ []
+      → packed (h .spot) (h .kind) (h .parameter) (n + 1) (h .target) ≡ wordOf sets n (node (h .spot) i p)
+      → LeafRead h n next w w' r → TermReadBy q sets l (h .spot) n i from w w' r
   leaf-read q p r parsed' only word x =
-      subst (λ (r : TermEnd). TermReadBy q sets l (h .spot) n (h .place) from w w' r) (sym (x .answer))
-      (leaf-found q p parsed' only
-      (x .written ∙ ap (λ (v : ℕ). set (set w (4096 + n) v) (5120 + n) (h .place)) word))
+      subst (λ (r : TermEnd). TermReadBy q sets l (h .spot) n i from w w' r) (sym (x .answer))
+      (leaf-found q p parsed' only word (x .stored))
 
 module _ (sets : List SetDef) (l : List ℕ) (s : Spot) (n i : ℕ) (w w' : List ℕ) (few : n < 1024)
     (long : length w ≡ 8192) (inside : i < length l) (r : TermEnd) where
   pub term-stop : (deep : ℕ) → (deep ≡ 0 → ⊥) → getD l i 0 ≡ 0
-      → LeafRead (headAt 0 0 0 s i) n (i + 1) w w' r → TermRead sets l s deep n i w w' r
+      → LeafRead (headAt 0 0 0 s) n (i + 1) w w' r → TermRead sets l s deep n i w w' r
   unfolding termOfKind pure nodes kindOf refOf leftSize targetOf
   term-stop deep d e x =
       term-kind sets l s n i w deep (deep - 1) 0 w' r inside (omega arith) few e (omega arith)
-      (leaf-read sets l (headAt 0 0 0 s i) n (i + 1) (i + 1) w w' few long (omega arith) _ stop r refl refl
-      (head-word sets (headAt 0 0 0 s i) n (n + 1) stop refl refl (omega arith) refl) x)
+      (leaf-read sets l (headAt 0 0 0 s) i n (i + 1) (i + 1) w w' few long (omega arith) _ stop r refl refl
+      (head-word sets (headAt 0 0 0 s) n (n + 1) i stop refl refl (omega arith) refl) x)
 
   pub term-fail : (deep : ℕ) → (deep ≡ 0 → ⊥) → getD l i 0 ≡ 1
-      → LeafRead (headAt 1 0 0 s i) n (i + 1) w w' r → TermRead sets l s deep n i w w' r
+      → LeafRead (headAt 1 0 0 s) n (i + 1) w w' r → TermRead sets l s deep n i w w' r
   unfolding termOfKind pure nodes kindOf refOf leftSize targetOf
   term-fail deep d e x =
       term-kind sets l s n i w deep (deep - 1) 1 w' r inside (omega arith) few e (omega arith)
-      (leaf-read sets l (headAt 1 0 0 s i) n (i + 1) (i + 1) w w' few long (omega arith) _ fail r refl refl
-      (head-word sets (headAt 1 0 0 s i) n (n + 1) fail refl refl (omega arith) refl) x)
+      (leaf-read sets l (headAt 1 0 0 s) i n (i + 1) (i + 1) w w' few long (omega arith) _ fail r refl refl
+      (head-word sets (headAt 1 0 0 s) n (n + 1) i fail refl refl (omega arith) refl) x)
 
   pub term-call : (deep : ℕ) → (deep ≡ 0 → ⊥) → getD l i 0 ≡ 5
       → TermReadBy callRest sets l s n i (i + 1) w w' r → TermRead sets l s deep n i w w' r
@@ -193,13 +194,13 @@ module _ (sets : List SetDef) (l : List ℕ) (s : Spot) (n i : ℕ) (w w' : List
       term-kind sets l s n i w deep (deep - 1) 5 w' r inside (omega arith) few e (omega arith) x
 
   pub call-read : (p d : ℕ) → p ≡ i + 1 → p < length l → d ≡ getD l p 0
-      → LeafRead (headAt 5 0 d s i) n (p + 1) w w' r → TermReadBy callRest sets l s n i (i + 1) w w' r
+      → LeafRead (headAt 5 0 d s) n (p + 1) w w' r → TermReadBy callRest sets l s n i (i + 1) w w' r
   unfolding callRest pure nodes kindOf refOf leftSize targetOf
   call-read p d e a f x =
       rw (← e)
-      (leaf-read sets l (headAt 5 0 d s i) n p (p + 1) w w' few long (omega arith) _ (call d) r
+      (leaf-read sets l (headAt 5 0 d s) i n p (p + 1) w w' few long (omega arith) _ (call d) r
       (rw f (then-got _ _ _ (number-got _ l p a refl) refl)) refl
-      (head-word sets (headAt 5 0 d s i) n (n + 1) (call d) refl refl (omega arith) refl) x)
+      (head-word sets (headAt 5 0 d s) n (n + 1) i (call d) refl refl (omega arith) refl) x)
 
 pub call-short : (l : List ℕ) (i : ℕ) (r : Refusal) → i < length l → length l ≤ i + 1 → r .number ≡ 3
     → r .place ≡ length l → Stops (callRest (tokensAt l (i + 1))) r

@@ -21,6 +21,7 @@ use Rattle.table.specs.Grammar.{definition}
 use Rattle.table.specs.Grammar.Terms.{term-sound}
 use Rattle.table.specs.Writing.{termNumbers, definitionNumbers}
 use Rattle.table.specs.Node.{bodySpot}
+use Rattle.table.specs.Layout.{bodiesAt, levelsAt}
 use Rattle.table.specs.Parse.{SpotFits, Stops, SetsReady, TermRead}
 use Rattle.table.specs.Parse.Terms.{DefinitionRead}
 use Rattle.table.specs.Parse.Terms.Stored.{ready-kept}
@@ -47,28 +48,28 @@ body-fits d h = record { shallow = omega arith; parallel = omega arith; entry = 
 
 -- a work area with a definition's body number and level
 abbrev pub marked : List ℕ → ℕ → ℕ → ℕ → List ℕ
-marked w d n v = set (set w (7232 + d) n) (7265 + d) v
+marked w d n v = set (set w (bodiesAt + d) n) (levelsAt + d) v
 
 module _ (d n v : ℕ) (w w₁ : List ℕ) (long : length w ≡ 8192) (small : d < 32)
     (e : w₁ ≡ marked w d n v) where
   pub marks-same : length w₁ ≡ length w
   marks-same = ap length e ∙ simp length-set
 
-  marks-kept : (y : ℕ) → (y ≡ 7232 + d → ⊥) → (y ≡ 7265 + d → ⊥) → getD w₁ y 0 ≡ getD w y 0
+  marks-kept : (y : ℕ) → (y ≡ bodiesAt + d → ⊥) → (y ≡ levelsAt + d → ⊥) → getD w₁ y 0 ≡ getD w y 0
   marks-kept y a b =
-      ap (λ (x : List ℕ). getD x y 0) e ∙ getD-set-other (set w (7232 + d) n) (7265 + d) y v 0 b
-      ∙ getD-set-other w (7232 + d) y n 0 a
+      ap (λ (x : List ℕ). getD x y 0) e ∙ getD-set-other (set w (bodiesAt + d) n) (levelsAt + d) y v 0 b
+      ∙ getD-set-other w (bodiesAt + d) y n 0 a
 
-  marks-root : getD w₁ (7232 + d) 0 ≡ n
+  marks-root : getD w₁ (bodiesAt + d) 0 ≡ n
   marks-root =
-      ap (λ (x : List ℕ). getD x (7232 + d) 0) e
-      ∙ getD-set-other (set w (7232 + d) n) (7265 + d) (7232 + d) v 0 (λ h. omega arith)
-      ∙ getD-set-same w (7232 + d) n 0 (omega arith)
+      ap (λ (x : List ℕ). getD x (bodiesAt + d) 0) e
+      ∙ getD-set-other (set w (bodiesAt + d) n) (levelsAt + d) (bodiesAt + d) v 0 (λ h. omega arith)
+      ∙ getD-set-same w (bodiesAt + d) n 0 (omega arith)
 
-  marks-level : getD w₁ (7265 + d) 0 ≡ v
+  marks-level : getD w₁ (levelsAt + d) 0 ≡ v
   marks-level =
-      ap (λ (x : List ℕ). getD x (7265 + d) 0) e
-      ∙ getD-set-same (set w (7232 + d) n) (7265 + d) v 0 (omega (arith, length-set w (7232 + d) n))
+      ap (λ (x : List ℕ). getD x (levelsAt + d) 0) e
+      ∙ getD-set-same (set w (bodiesAt + d) n) (levelsAt + d) v 0 (omega (arith, length-set w (bodiesAt + d) n))
 
   pub marks-ready : (l : List ℕ) (count : ℕ) → SetsReady l w count → SetsReady l w₁ count
   marks-ready l count ready =
@@ -97,11 +98,10 @@ module _ (d n v : ℕ) (w w₁ : List ℕ) (long : length w ≡ 8192) (small : d
           few = x .few;
           stored = record {
             same = t .same ∙ marks-same;
-            root = t .kept (7232 + d) (λ h. omega arith) (λ h. omega arith) ∙ marks-root;
-            level = t .kept (7265 + d) (λ h. omega arith) (λ h. omega arith) ∙ marks-level;
+            root = t .kept (bodiesAt + d) (λ h. omega arith) ∙ marks-root;
+            level = t .kept (levelsAt + d) (λ h. omega arith) ∙ marks-level;
             words = λ k h. rw z at (t .words k h);
-            places = λ k h. rw z at (t .places k h);
-            kept = λ y p q r s. t .kept y p q ∙ marks-kept y r s;
+            kept = λ y p r s. t .kept y p ∙ marks-kept y r s;
           };
           ends = omega arith;
           within = x .within;

@@ -21,6 +21,7 @@ use Rattle.table.specs.Parser.Steps.{number-got, number-off, number-shor
 use Rattle.table.specs.Grammar.{refOfKind, setRef}
 use Rattle.table.specs.Grammar.Terms.{ref-sound}
 use Rattle.table.specs.Writing.{refNumbers}
+use Rattle.table.specs.Layout.{rowsMost, setsAt}
 use Rattle.table.specs.Index.{firstRow, kindOfSet, setWord, setMasks, SetsIndexed}
 use Rattle.table.specs.Parse.{Stops, ReferenceFound}
 
@@ -93,27 +94,27 @@ first-row-most (suc s) (d ∷ sets) =
 
 -- a set's word in two parts
 module _ (sets : List SetDef) (w : List ℕ) (x : SetsIndexed sets w) (s : ℕ) (b : s < length sets) where
-  set-row : getD w (7168 + s) 0 / 2 ≡ firstRow sets s
+  set-row : getD w (setsAt + s) 0 / 2 ≡ firstRow sets s
   unfolding setWord
   set-row =
       let e = x .words s b in
       let k = kind-most (getD sets s (one [])) in
       omega arith
 
-  set-kind : getD w (7168 + s) 0 % 2 ≡ kindOfSet (getD sets s (one []))
+  set-kind : getD w (setsAt + s) 0 % 2 ≡ kindOfSet (getD sets s (one []))
   unfolding setWord
   set-kind =
       let e = x .words s b in
       let k = kind-most (getD sets s (one [])) in
       omega arith
 
-  set-row-few : firstRow sets s ≤ 4096
+  set-row-few : firstRow sets s ≤ rowsMost
   set-row-few = let a = x .rows-few in let b = first-row-most s sets in omega arith
 
 module _ (sets : List SetDef) (l w : List ℕ) (i : ℕ) (x : SetsIndexed sets w) (a : i < length l)
     (b : getD l i 0 < length sets) where
-  pub ref-fixed : (t j : ℕ) → getD w (7168 + getD l i 0) 0 % 2 ≡ 0 → t ≡ getD w (7168 + getD l i 0) 0 / 2 → j ≡ i + 1
-      → ReferenceFound sets l i t 0 j
+  pub ref-fixed : (t j : ℕ) → getD w (setsAt + getD l i 0) 0 % 2 ≡ 0 → t ≡ getD w (setsAt + getD l i 0) 0 / 2
+      → j ≡ i + 1 → ReferenceFound sets l i t 0 j
   ref-fixed t j k e f =
       let s = getD l i 0 in
       let row' = set-row sets w x s b in
@@ -129,7 +130,7 @@ module _ (sets : List SetDef) (l w : List ℕ) (i : ℕ) (x : SetsIndexed sets w
         within = omega arith;
       }
 
-  module _ (k : getD w (7168 + getD l i 0) 0 % 2 ≡ 0 → ⊥) where
+  module _ (k : getD w (setsAt + getD l i 0) 0 % 2 ≡ 0 → ⊥) where
     ref-more : (r : Result SetRef)
         → andThen (number (λ k. leb k 3)) (λ k. pure (family (getD l i 0) k)) (tokensAt l (i + 1)) ≡ r
         → setRef sets (tokensAt l i) ≡ r
@@ -152,7 +153,7 @@ module _ (sets : List SetDef) (l w : List ℕ) (i : ℕ) (x : SetsIndexed sets w
         rw (e, f) (ref-more _ (then-stop _ _ _ (number-off _ l (i + 1) c (lt-leb (getD l (i + 1) 0) 3 h))))
 
     pub ref-family : (t p j : ℕ) → i + 1 < length l → getD l (i + 1) 0 ≤ 3
-        → t ≡ getD w (7168 + getD l i 0) 0 / 2 → p ≡ suc (getD l (i + 1) 0) → j ≡ i + 1 + 1
+        → t ≡ getD w (setsAt + getD l i 0) 0 / 2 → p ≡ suc (getD l (i + 1) 0) → j ≡ i + 1 + 1
         → ReferenceFound sets l i t p j
     unfolding pure
     ref-family t p j c h e f g =

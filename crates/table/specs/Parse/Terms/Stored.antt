@@ -1,22 +1,25 @@
 -- Storing nodes one after another: what stands where, and what is kept.
---     Stored                     the words and places of nodes, from number n on, and nothing else, were stored
+--     Stored                     the words of nodes, from number n on, and nothing else, were stored
 --     stored-one, stored-front, stored-append    one; one before others; some after others
 --     stored-in, stored-out      of a term's nodes it is TermStored
 --     ready-kept, ready-stored   the sets stay where they are
 -- Assumes nothing.
-use Prim.Native.Nat.{ℕ, zero, suc, _+_, _-_, _*_, _<_, _≤_}
+use Prim.Native.Nat.{ℕ, zero, suc, _+_, _-_, _<_, _≤_}
 use native.Mathlib.Omega.{arith}
 use native.Mathlib.Decide.{decLt}
 use mathlib.Core.Path.{_≡_, refl, sym, ap, _∙_}
-use mathlib.Core.List.{List, [], _∷_, _++_, flatMap}
-use lib.ListN.{length, getD, set, length-append, length-set, List·getD-append}
+use mathlib.Core.List.{List, [], _∷_, _++_}
+use lib.ListN.{length, getD, length-append, length-set, List·getD-append}
 use lib.Seq.{getD-append-add, getD-set-same, getD-set-other}
 use Rattle.table.specs.declared.terms.Spot.{Spot}
+use Rattle.table.specs.declared.terms.Head.{Head}
 use Rattle.table.specs.Table.{Term, stop, fail, prefix, choice, par, call, SetDef, size}
 use Rattle.table.specs.Writing.{refNumbers, termNumbers}
-use Rattle.table.specs.Node.{Node, node, nodes, noNode, followerSpot, sideSpot, besideSpot}
-use Rattle.table.specs.Index.{wordOf, SetsIndexed, setMasks, setsIn}
-use Rattle.table.specs.Parse.{TermStored, SetsReady}
+use Rattle.table.specs.Node.{Node, nodes, noNode, followerSpot, sideSpot, besideSpot}
+use Rattle.table.specs.Layout.{termsAt, setsAt, bodiesAt, widthsAt, structureOf}
+use Rattle.table.specs.Layout.Laws.{structure-fits}
+use Rattle.table.specs.Index.{packed, wordOf, setsIn}
+use Rattle.table.specs.Parse.{WordStored, TermStored, SetsReady}
 
 -- ---- how many nodes a term has
 
@@ -51,10 +54,9 @@ right-node xs ys k h =
 
 pub record Stored (sets : List SetDef) (n : ℕ) (xs : List Node) (w w' : List ℕ) : Type 0 where
   pub same : length w' ≡ length w
-  pub words : (k : ℕ) → k < length xs → getD w' (4096 + (n + k)) 0 ≡ wordOf sets (n + k) (getD xs k noNode)
-  pub places : (k : ℕ) → k < length xs → getD w' (5120 + (n + k)) 0 ≡ getD xs k noNode .place
-  pub kept : (x : ℕ) → ((4096 + n ≤ x) × (x < 4096 + (n + length xs)) → ⊥)
-      → ((5120 + n ≤ x) × (x < 5120 + (n + length xs)) → ⊥) → getD w' x 0 ≡ getD w x 0
+  pub words : (k : ℕ) → k < length xs
+      → structureOf (getD w' (termsAt + (n + k)) 0) ≡ wordOf sets (n + k) (getD xs k noNode)
+  pub kept : (x : ℕ) → ((termsAt + n ≤ x) × (x < termsAt + (n + length xs)) → ⊥) → getD w' x 0 ≡ getD w x 0
 
 module _ (sets : List SetDef) where
   pub stored-out : (s : Spot) (n i : ℕ) (p : Term) (w w' : List ℕ) → TermStored sets s n i p w w'
@@ -64,8 +66,7 @@ module _ (sets : List SetDef) where
       record {
         same = t .same;
         words = λ k h. t .words k (omega arith);
-        places = λ k h. t .places k (omega arith);
-        kept = λ x a b. t .kept x (λ h. a (omega arith)) (λ h. b (omega arith));
+        kept = λ x a. t .kept x (λ h. a (omega arith));
       }
 
   pub stored-in : (s : Spot) (n i : ℕ) (p : Term) (w w' : List ℕ) → Stored sets n (nodes s i p) w w'
@@ -75,61 +76,41 @@ module _ (sets : List SetDef) where
       record {
         same = t .same;
         words = λ k h. t .words k (omega arith);
-        places = λ k h. t .places k (omega arith);
-        kept = λ x a b. t .kept x (λ h. a (omega arith)) (λ h. b (omega arith));
+        kept = λ x a. t .kept x (λ h. a (omega arith));
       }
 
-  module _ (n : ℕ) (x : Node) (w w' : List ℕ) (long : length w ≡ 8192) (few : n < 1024)
-      (e : w' ≡ set (set w (4096 + n) (wordOf sets n x)) (5120 + n) (x .place)) where
-    other : (y : ℕ) → (y ≡ 5120 + n → ⊥) → (y ≡ 4096 + n → ⊥) → getD w' y 0 ≡ getD w y 0
-    other y a b =
-        let mid = set w (4096 + n) (wordOf sets n x) in
-        ap (λ (l : List ℕ). getD l y 0) e ∙ getD-set-other mid (5120 + n) y (x .place) 0 a
-        ∙ getD-set-other w (4096 + n) y (wordOf sets n x) 0 b
+  module _ (n right : ℕ) (x : Node) (h : Head) (w w' : List ℕ) (long : length w ≡ 8192) (few : n < 1024)
+      (e : WordStored h n right w w')
+      (is : packed (h .spot) (h .kind) (h .parameter) right (h .target) ≡ wordOf sets n x) where
+    abbrev New : ℕ
+    New = packed (h .spot) (h .kind) (h .parameter) right (h .target)
 
-    word : getD w' (4096 + n) 0 ≡ wordOf sets n x
+    word : structureOf (getD w' (termsAt + n) 0) ≡ wordOf sets n x
     word =
-        let mid = set w (4096 + n) (wordOf sets n x) in
-        ap (λ (l : List ℕ). getD l (4096 + n) 0) e
-        ∙ getD-set-other mid (5120 + n) (4096 + n) (x .place) 0 (λ h. omega arith)
-        ∙ getD-set-same w (4096 + n) (wordOf sets n x) 0 (omega arith)
-
-    place-at : getD w' (5120 + n) 0 ≡ x .place
-    place-at =
-        let mid = set w (4096 + n) (wordOf sets n x) in
-        ap (λ (l : List ℕ). getD l (5120 + n) 0) e
-        ∙ getD-set-same mid (5120 + n) (x .place) 0 (omega (arith, length-set w (4096 + n) (wordOf sets n x)))
+        ap structureOf (ap (λ (l : List ℕ). getD l (termsAt + n) 0) (e .written)
+        ∙ getD-set-same w (termsAt + n) New 0 (omega arith))
+        ∙ structure-fits New (e .small) ∙ is
 
     pub stored-one : Stored sets n (x ∷ []) w w'
     stored-one =
         record {
-          same = ap length e ∙ simp length-set;
-          words = λ k h. let z : n + k ≡ n = omega arith in let z' : k ≡ 0 = omega arith in rw (z, z') word;
-          places = λ k h. let z : n + k ≡ n = omega arith in let z' : k ≡ 0 = omega arith in rw (z, z') place-at;
-          kept = λ y a b. other y (λ h. b (omega arith)) (λ h. a (omega arith));
+          same = ap length (e .written) ∙ simp length-set;
+          words = λ k b. let z : n + k ≡ n = omega arith in let z' : k ≡ 0 = omega arith in rw (z, z') word;
+          kept = λ y a. ap (λ (l : List ℕ). getD l y 0) (e .written)
+              ∙ getD-set-other w (termsAt + n) y New 0 (λ b. a (omega arith));
         }
 
   module _ (n : ℕ) (xs ys : List Node) (w w₁ w' : List ℕ) (few : n + (length xs + length ys) ≤ 1024)
       (a : Stored sets n xs w w₁) (b : Stored sets (n + length xs) ys w₁ w') where
     join-words : (k : ℕ) → k < length xs + length ys → Dec (k < length xs)
-        → getD w' (4096 + (n + k)) 0 ≡ wordOf sets (n + k) (getD (xs ++ ys) k noNode)
+        → structureOf (getD w' (termsAt + (n + k)) 0) ≡ wordOf sets (n + k) (getD (xs ++ ys) k noNode)
     join-words k h (yes c) =
-        b .kept (4096 + (n + k)) (λ z. omega arith) (λ z. omega arith) ∙ a .words k c
+        ap structureOf (b .kept (termsAt + (n + k)) (λ z. omega arith)) ∙ a .words k c
         ∙ ap (wordOf sets (n + k)) (sym (List·getD-append xs ys noNode k c))
     join-words k h (no c) =
         let le : length xs ≤ k = omega arith in
         let e : n + k ≡ n + length xs + (k - length xs) = omega arith in
         rw (right-node xs ys k le, e) (b .words (k - length xs) (omega arith))
-
-    join-places : (k : ℕ) → k < length xs + length ys → Dec (k < length xs)
-        → getD w' (5120 + (n + k)) 0 ≡ getD (xs ++ ys) k noNode .place
-    join-places k h (yes c) =
-        b .kept (5120 + (n + k)) (λ z. omega arith) (λ z. omega arith) ∙ a .places k c
-        ∙ ap (λ (x : Node). x .place) (sym (List·getD-append xs ys noNode k c))
-    join-places k h (no c) =
-        let le : length xs ≤ k = omega arith in
-        let e : n + k ≡ n + length xs + (k - length xs) = omega arith in
-        rw (right-node xs ys k le, e) (b .places (k - length xs) (omega arith))
 
     pub stored-append : Stored sets n (xs ++ ys) w w'
     stored-append =
@@ -137,41 +118,32 @@ module _ (sets : List SetDef) where
         record {
           same = b .same ∙ a .same;
           words = λ k h. join-words k (omega arith) (decLt k (length xs));
-          places = λ k h. join-places k (omega arith) (decLt k (length xs));
-          kept = λ x p q. b .kept x (λ h. p (omega arith)) (λ h. q (omega arith))
-              ∙ a .kept x (λ h. p (omega arith)) (λ h. q (omega arith));
+          kept = λ x p. b .kept x (λ h. p (omega arith)) ∙ a .kept x (λ h. p (omega arith));
         }
 
   -- the nodes in a term are stored before the term's own
   module _ (n : ℕ) (x : Node) (xs : List Node) (w w₁ w' : List ℕ) (few : n + suc (length xs) ≤ 1024)
       (a : Stored sets (suc n) xs w w₁) (b : Stored sets n (x ∷ []) w₁ w') where
     front-words : (k : ℕ) → k < suc (length xs)
-        → getD w' (4096 + (n + k)) 0 ≡ wordOf sets (n + k) (getD (x ∷ xs) k noNode)
+        → structureOf (getD w' (termsAt + (n + k)) 0) ≡ wordOf sets (n + k) (getD (x ∷ xs) k noNode)
     front-words zero h = b .words 0 (omega arith)
     front-words (suc k) h =
         let e : n + suc k ≡ suc n + k = omega arith in
-        rw e (b .kept (4096 + (suc n + k)) (λ z. omega arith) (λ z. omega arith) ∙ a .words k (omega arith))
-
-    front-places : (k : ℕ) → k < suc (length xs) → getD w' (5120 + (n + k)) 0 ≡ getD (x ∷ xs) k noNode .place
-    front-places zero h = b .places 0 (omega arith)
-    front-places (suc k) h =
-        let e : n + suc k ≡ suc n + k = omega arith in
-        rw e (b .kept (5120 + (suc n + k)) (λ z. omega arith) (λ z. omega arith) ∙ a .places k (omega arith))
+        rw e (ap structureOf (b .kept (termsAt + (suc n + k)) (λ z. omega arith)) ∙ a .words k (omega arith))
 
     pub stored-front : Stored sets n (x ∷ xs) w w'
     stored-front =
         record {
           same = b .same ∙ a .same;
           words = front-words;
-          places = front-places;
-          kept = λ y p q. b .kept y (λ h. p (omega arith)) (λ h. q (omega arith))
-              ∙ a .kept y (λ h. p (omega arith)) (λ h. q (omega arith));
+          kept = λ y p. b .kept y (λ h. p (omega arith)) ∙ a .kept y (λ h. p (omega arith));
         }
 
 -- ---- the sets
 
 module _ (l w w' : List ℕ) (count : ℕ) (ready : SetsReady l w count) (same : length w' ≡ length w)
-    (kept : (x : ℕ) → ((4096 ≤ x) × (x < 6144) → ⊥) → ((7232 ≤ x) × (x < 7297) → ⊥) → getD w' x 0 ≡ getD w x 0) where
+    (kept : (x : ℕ) → ((termsAt ≤ x) × (x < setsAt) → ⊥) → ((bodiesAt ≤ x) × (x < widthsAt) → ⊥)
+    → getD w' x 0 ≡ getD w x 0) where
   pub ready-kept : SetsReady l w' count
   ready-kept =
       let old = ready .indexed in
@@ -184,11 +156,11 @@ module _ (l w w' : List ℕ) (count : ℕ) (ready : SetsReady l w count) (same :
           few = some;
           rows-few = rows;
           rows = λ i h. kept i (λ z. omega arith) (λ z. omega arith) ∙ old .rows i h;
-          words = λ s h. kept (7168 + s) (λ z. omega arith) (λ z. omega arith) ∙ old .words s h;
+          words = λ s h. kept (setsAt + s) (λ z. omega arith) (λ z. omega arith) ∙ old .words s h;
         };
       }
 
 pub ready-stored : (l w w' : List ℕ) (count n : ℕ) (xs : List Node) → SetsReady l w count
     → n + length xs ≤ 1024 → Stored (setsIn l) n xs w w' → SetsReady l w' count
 ready-stored l w w' count n xs ready few t =
-    ready-kept l w w' count ready (t .same) (λ x a b. t .kept x (λ h. a (omega arith)) (λ h. a (omega arith)))
+    ready-kept l w w' count ready (t .same) (λ x a b. t .kept x (λ h. a (omega arith)))

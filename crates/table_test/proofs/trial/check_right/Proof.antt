@@ -18,14 +18,14 @@ term-count-requires c κs =
     let checked = c .before .before .before .before .before .check .ensures in
     rw (c .before .enum-told .given .1) at (checked .right (search needs))
 
-is-result-requires : tie.Need-is-result-requires
-is-result-requires c κs = search needs
+is-accepted-requires : tie.Need-is-accepted-requires
+is-accepted-requires c κs = search needs
 
 enum-known-r : tie.Need-enum-known-r
 enum-known-r c = search needs
 
-check-refused-requires : tie.Need-check-refused-requires
-check-refused-requires c κs = search needs
+is-declined-requires : tie.Need-is-declined-requires
+is-declined-requires c κs = search needs
 
 same-length : tie.Need-same-length
 same-length c = search needs
@@ -47,9 +47,9 @@ check-right-spec =
     check-requires
     enum-told
     term-count-requires
-    is-result-requires
+    is-accepted-requires
     enum-known-r
-    check-refused-requires
+    is-declined-requires
     same-length
     returns
     same-length-2

@@ -12,6 +12,7 @@ use borrow.Fn.Kinds.{In}
 use borrow.Fn.PlainCycle.{Measures, is, falls, and}
 use Rattle.table.specs.Index.{tableIn}
 use Rattle.index.specs.Facts.{terms-few}
+use Rattle.walk.specs.Kinds.{kind-yes, kind-no}
 use Rattle.walk.specs.Course.{leafRest}
 use Rattle.walk.specs.Course.Nodes.{stands-left, stands-right}
 use Rattle.walk.specs.Course.Places.{walk-end, push-room, bits-fit, next-place, next-kept, next-leaf, known}
@@ -33,7 +34,7 @@ use Rattle.residual.proofs.push.Reads as push-reads
 use Rattle.residual.proofs.resolve_at.Reads as resolve-at-reads
 use Rattle.walk.proofs.nodes.can_at.Reads as can-at-reads
 use Rattle.residual.proofs.holds_at.Reads as holds-at-reads
-use Rattle.residual.proofs.kind_at.Reads as kind-at-reads
+use Rattle.walk.proofs.nodes.is_pair.Reads as is-pair-reads
 use Rattle.residual.proofs.memory_of.Reads as memory-of-reads
 use Rattle.slots.proofs.put.Reads as put-reads
 use Rattle.residual.proofs.remember.Reads as remember-reads
@@ -70,11 +71,12 @@ abbrev walk-pair-below : ℕ → In 4 walk-pair-kinds.ps
 walk-pair-below t =
     and 4 walk-pair-kinds.ps (falls 4 walk-pair-kinds.ps _<_ μ-walk-pair t) walk-pair.Pre
 
-walk-shared-slice-read-n : (t : ℕ) → walk-lts.Need-shared-slice-read-n (
+abbrev walk-claims : ℕ → walk-lts.Claims
+walk-claims t = (
   put-reads.Asked,
   put-reads.Learnt,
-  kind-at-reads.Asked,
-  kind-at-reads.Learnt,
+  is-pair-reads.Asked,
+  is-pair-reads.Learnt,
   push-reads.Asked,
   push-reads.Learnt,
   walk-below t,
@@ -83,169 +85,80 @@ walk-shared-slice-read-n : (t : ℕ) → walk-lts.Need-shared-slice-read-n (
   walk-pair.Post,
   walk-leaf-below t,
   walk-leaf.Post,
-) (walk-at t) walk.Post
+)
+
+abbrev walk-leaf-claims : ℕ → walk-leaf-lts.Claims
+walk-leaf-claims t = (
+  term-of-reads.Asked,
+  term-of-reads.Learnt,
+  memory-of-reads.Asked,
+  memory-of-reads.Learnt,
+  remember-reads.Asked,
+  remember-reads.Learnt,
+  resolve-at-reads.Asked,
+  resolve-at-reads.Learnt,
+  walk-below t,
+  walk.Post,
+)
+
+abbrev walk-pair-claims : ℕ → walk-pair-lts.Claims
+walk-pair-claims t = (
+  push-reads.Asked,
+  push-reads.Learnt,
+  can-at-reads.Asked,
+  can-at-reads.Learnt,
+  holds-at-reads.Asked,
+  holds-at-reads.Learnt,
+  walk-below t,
+  walk.Post,
+)
+
+walk-shared-slice-read-n : (t : ℕ) → walk-lts.Need-shared-slice-read-n (walk-claims t) (walk-at t) walk.Post
 walk-shared-slice-read-n t c =
     let at-start = c .before .before .before .before .before in
     omega (arith, at-start .pre .1 .1 .0 .size, at-start .pre .1 .1 .0 .few)
 
-walk-put-requires : (t : ℕ) → walk-lts.Need-put-requires (
-  put-reads.Asked,
-  put-reads.Learnt,
-  kind-at-reads.Asked,
-  kind-at-reads.Learnt,
-  push-reads.Asked,
-  push-reads.Learnt,
-  walk-below t,
-  walk.Post,
-  walk-pair-below t,
-  walk-pair.Post,
-  walk-leaf-below t,
-  walk-leaf.Post,
-) (walk-at t) walk.Post
+walk-put-requires : (t : ℕ) → walk-lts.Need-put-requires (walk-claims t) (walk-at t) walk.Post
 walk-put-requires t c κs = c .before .before .before .before .before .before .before .pre .1 .1 .1 .held
 
-walk-same-length : (t : ℕ) → walk-lts.Need-same-length (
-  put-reads.Asked,
-  put-reads.Learnt,
-  kind-at-reads.Asked,
-  kind-at-reads.Learnt,
-  push-reads.Asked,
-  push-reads.Learnt,
-  walk-below t,
-  walk.Post,
-  walk-pair-below t,
-  walk-pair.Post,
-  walk-leaf-below t,
-  walk-leaf.Post,
-) (walk-at t) walk.Post
+walk-same-length : (t : ℕ) → walk-lts.Need-same-length (walk-claims t) (walk-at t) walk.Post
 walk-same-length t c = search needs
 
-walk-returns : (t : ℕ) → walk-lts.Need-returns (
-  put-reads.Asked,
-  put-reads.Learnt,
-  kind-at-reads.Asked,
-  kind-at-reads.Learnt,
-  push-reads.Asked,
-  push-reads.Learnt,
-  walk-below t,
-  walk.Post,
-  walk-pair-below t,
-  walk-pair.Post,
-  walk-leaf-below t,
-  walk-leaf.Post,
-) (walk-at t) walk.Post
+walk-returns : (t : ℕ) → walk-lts.Need-returns (walk-claims t) (walk-at t) walk.Post
 walk-returns t c =
     let at-start = c .before .before .before .before .before .before .before .before .before .before in
     walk-end (at-start .pre .1 .1 .0) _ _ _ _ _ (c .before .before .before .before .if1 .taken) _ _
     (c .before .before .put .ensures)
 
-walk-mul-w : (t : ℕ) → walk-lts.Need-mul-w (
-  put-reads.Asked,
-  put-reads.Learnt,
-  kind-at-reads.Asked,
-  kind-at-reads.Learnt,
-  push-reads.Asked,
-  push-reads.Learnt,
-  walk-below t,
-  walk.Post,
-  walk-pair-below t,
-  walk-pair.Post,
-  walk-leaf-below t,
-  walk-leaf.Post,
-) (walk-at t) walk.Post
+walk-mul-w : (t : ℕ) → walk-lts.Need-mul-w (walk-claims t) (walk-at t) walk.Post
 walk-mul-w t c =
     let at-start = c .before .before .before .before .before .before in
     omega (arith, at-start .pre .1 .1 .0 .size, at-start .pre .1 .1 .0 .few, c .if1 .left)
 
-walk-shared-slice-read-w : (t : ℕ) → walk-lts.Need-shared-slice-read-w (
-  put-reads.Asked,
-  put-reads.Learnt,
-  kind-at-reads.Asked,
-  kind-at-reads.Learnt,
-  push-reads.Asked,
-  push-reads.Learnt,
-  walk-below t,
-  walk.Post,
-  walk-pair-below t,
-  walk-pair.Post,
-  walk-leaf-below t,
-  walk-leaf.Post,
-) (walk-at t) walk.Post
+walk-shared-slice-read-w : (t : ℕ) → walk-lts.Need-shared-slice-read-w (walk-claims t) (walk-at t) walk.Post
 walk-shared-slice-read-w t c =
     let at-start = c .before .before .before .before .before .before .before in
     omega (arith, at-start .pre .1 .1 .0 .size, at-start .pre .1 .1 .0 .few, c .before .if1 .left)
 
-walk-kind-at-requires : (t : ℕ) → walk-lts.Need-kind-at-requires (
-  put-reads.Asked,
-  put-reads.Learnt,
-  kind-at-reads.Asked,
-  kind-at-reads.Learnt,
-  push-reads.Asked,
-  push-reads.Learnt,
-  walk-below t,
-  walk.Post,
-  walk-pair-below t,
-  walk-pair.Post,
-  walk-leaf-below t,
-  walk-leaf.Post,
-) (walk-at t) walk.Post
-walk-kind-at-requires t c κs =
+walk-is-pair-requires : (t : ℕ) → walk-lts.Need-is-pair-requires (walk-claims t) (walk-at t) walk.Post
+walk-is-pair-requires t c κs =
     let at-start = c .before .before .before .before .before .before .before in (
       at-start .pre .1 .0,
       known (at-start .pre .1 .1 .0) _ _ _ _ _ (at-start .pre .1 .1 .1)
           (c .before .if1 .left) .within,
     )
 
-walk-push-requires : (t : ℕ) → walk-lts.Need-push-requires (
-  put-reads.Asked,
-  put-reads.Learnt,
-  kind-at-reads.Asked,
-  kind-at-reads.Learnt,
-  push-reads.Asked,
-  push-reads.Learnt,
-  walk-below t,
-  walk.Post,
-  walk-pair-below t,
-  walk-pair.Post,
-  walk-leaf-below t,
-  walk-leaf.Post,
-) (walk-at t) walk.Post
+walk-push-requires : (t : ℕ) → walk-lts.Need-push-requires (walk-claims t) (walk-at t) walk.Post
 walk-push-requires t c κs =
     let at-start = c .before .before .before .before .before .before .before .before .before in
     push-room (at-start .pre .1 .1 .0) _ _ _ _ _ (at-start .pre .1 .1 .1) (c .before .before .before .if1 .left)
 
-walk-add-walk : (t : ℕ) → walk-lts.Need-add-walk (
-  put-reads.Asked,
-  put-reads.Learnt,
-  kind-at-reads.Asked,
-  kind-at-reads.Learnt,
-  push-reads.Asked,
-  push-reads.Learnt,
-  walk-below t,
-  walk.Post,
-  walk-pair-below t,
-  walk-pair.Post,
-  walk-leaf-below t,
-  walk-leaf.Post,
-) (walk-at t) walk.Post
+walk-add-walk : (t : ℕ) → walk-lts.Need-add-walk (walk-claims t) (walk-at t) walk.Post
 walk-add-walk t c =
     let at-start = c .before .before .before .before .before .before .before .before .before .before .before in
     omega (arith, at-start .pre .1 .1 .0 .few, c .before .before .before .before .before .if1 .left)
 
-walk-mul-walk : (t : ℕ) → walk-lts.Need-mul-walk (
-  put-reads.Asked,
-  put-reads.Learnt,
-  kind-at-reads.Asked,
-  kind-at-reads.Learnt,
-  push-reads.Asked,
-  push-reads.Learnt,
-  walk-below t,
-  walk.Post,
-  walk-pair-below t,
-  walk-pair.Post,
-  walk-leaf-below t,
-  walk-leaf.Post,
-) (walk-at t) walk.Post
+walk-mul-walk : (t : ℕ) → walk-lts.Need-mul-walk (walk-claims t) (walk-at t) walk.Post
 walk-mul-walk t c =
     let at-start = c .before .before .before .before .before .before .before .before .before .before .before in
     omega (
@@ -254,20 +167,7 @@ walk-mul-walk t c =
           (c .before .before .before .before .before .if1 .left),
     )
 
-walk-walk-requires : (t : ℕ) → walk-lts.Need-walk-requires (
-  put-reads.Asked,
-  put-reads.Learnt,
-  kind-at-reads.Asked,
-  kind-at-reads.Learnt,
-  push-reads.Asked,
-  push-reads.Learnt,
-  walk-below t,
-  walk.Post,
-  walk-pair-below t,
-  walk-pair.Post,
-  walk-leaf-below t,
-  walk-leaf.Post,
-) (walk-at t) walk.Post
+walk-walk-requires : (t : ℕ) → walk-lts.Need-walk-requires (walk-claims t) (walk-at t) walk.Post
 walk-walk-requires t c κs =
     let at-if1 = c .before .before .before .before .before .before in
     let at-start = at-if1 .before .before .before .before .before .before in (
@@ -280,81 +180,30 @@ walk-walk-requires t c κs =
               (at-if1 .if1 .left) _ _ _ _ (omega arith) (c .before .before .push .ensures)
               (at-start .pre .1 .1 .1 .held)
               (next-kept (at-start .pre .1 .1 .0) _ _ _ _ _ (at-start .pre .1 .1 .1) (at-if1 .if1 .left)
-              (sym (c .before .before .before .before .kind-at .ensures) ∙ c .before .if3 .taken)),
+              (kind-yes _ _ 4 (c .before .before .before .before .is-pair .ensures) (c .before .if3 .taken))),
         ),
       ),
     )
 
-walk-same-length-2 : (t : ℕ) → walk-lts.Need-same-length-2 (
-  put-reads.Asked,
-  put-reads.Learnt,
-  kind-at-reads.Asked,
-  kind-at-reads.Learnt,
-  push-reads.Asked,
-  push-reads.Learnt,
-  walk-below t,
-  walk.Post,
-  walk-pair-below t,
-  walk-pair.Post,
-  walk-leaf-below t,
-  walk-leaf.Post,
-) (walk-at t) walk.Post
+walk-same-length-2 : (t : ℕ) → walk-lts.Need-same-length-2 (walk-claims t) (walk-at t) walk.Post
 walk-same-length-2 t c = search needs
 
-walk-returns-2 : (t : ℕ) → walk-lts.Need-returns-2 (
-  put-reads.Asked,
-  put-reads.Learnt,
-  kind-at-reads.Asked,
-  kind-at-reads.Learnt,
-  push-reads.Asked,
-  push-reads.Learnt,
-  walk-below t,
-  walk.Post,
-  walk-pair-below t,
-  walk-pair.Post,
-  walk-leaf-below t,
-  walk-leaf.Post,
-) (walk-at t) walk.Post
+walk-returns-2 : (t : ℕ) → walk-lts.Need-returns-2 (walk-claims t) (walk-at t) walk.Post
 walk-returns-2 t c =
-    let at-if2 = c .before .before .before .before .before .before in let at-kind-at = at-if2 .before in
-    let at-if1 = at-kind-at .before .before in
+    let at-if2 = c .before .before .before .before .before .before in let at-is-pair = at-if2 .before in
+    let at-if1 = at-is-pair .before .before in
     let at-start = at-if1 .before .before .before .before .before .before in
     walk-kept-pair (at-start .pre .1 .1 .0) _ _ _ _ _ (at-start .pre .1 .1 .1) (at-if1 .if1 .left)
-    (at-if2 .if2 .taken) (sym (at-kind-at .kind-at .ensures) ∙ c .before .before .before .before .if3 .taken) _
+    (at-if2 .if2 .taken) (kind-yes _ _ 4 (at-is-pair .is-pair .ensures)
+    (c .before .before .before .before .if3 .taken)) _
     (c .before .before .before .before .before .push .ensures) _ _ (c .before .before .walk .ensures)
 
-walk-add-walk-2 : (t : ℕ) → walk-lts.Need-add-walk-2 (
-  put-reads.Asked,
-  put-reads.Learnt,
-  kind-at-reads.Asked,
-  kind-at-reads.Learnt,
-  push-reads.Asked,
-  push-reads.Learnt,
-  walk-below t,
-  walk.Post,
-  walk-pair-below t,
-  walk-pair.Post,
-  walk-leaf-below t,
-  walk-leaf.Post,
-) (walk-at t) walk.Post
+walk-add-walk-2 : (t : ℕ) → walk-lts.Need-add-walk-2 (walk-claims t) (walk-at t) walk.Post
 walk-add-walk-2 t c =
     let at-start = c .before .before .before .before .before .before .before .before .before .before .before in
     omega (arith, at-start .pre .1 .1 .0 .few, c .before .before .before .before .before .if1 .left)
 
-walk-walk-requires-2 : (t : ℕ) → walk-lts.Need-walk-requires-2 (
-  put-reads.Asked,
-  put-reads.Learnt,
-  kind-at-reads.Asked,
-  kind-at-reads.Learnt,
-  push-reads.Asked,
-  push-reads.Learnt,
-  walk-below t,
-  walk.Post,
-  walk-pair-below t,
-  walk-pair.Post,
-  walk-leaf-below t,
-  walk-leaf.Post,
-) (walk-at t) walk.Post
+walk-walk-requires-2 : (t : ℕ) → walk-lts.Need-walk-requires-2 (walk-claims t) (walk-at t) walk.Post
 walk-walk-requires-2 t c κs =
     let at-if1 = c .before .before .before .before .before .before in
     let at-start = at-if1 .before .before .before .before .before .before in (
@@ -367,63 +216,25 @@ walk-walk-requires-2 t c κs =
               (at-if1 .if1 .left) _ _ _ _ (omega arith) (c .before .before .push .ensures)
               (at-start .pre .1 .1 .1 .held)
               (next-leaf (at-start .pre .1 .1 .0) _ _ _ _ _ (at-start .pre .1 .1 .1) (at-if1 .if1 .left)
-              (λ e. c .before .if3 .left (c .before .before .before .before .kind-at .ensures ∙ e))),
+              (kind-no _ _ 4 (c .before .before .before .before .is-pair .ensures) (c .before .if3 .left))),
         ),
       ),
     )
 
-walk-same-length-3 : (t : ℕ) → walk-lts.Need-same-length-3 (
-  put-reads.Asked,
-  put-reads.Learnt,
-  kind-at-reads.Asked,
-  kind-at-reads.Learnt,
-  push-reads.Asked,
-  push-reads.Learnt,
-  walk-below t,
-  walk.Post,
-  walk-pair-below t,
-  walk-pair.Post,
-  walk-leaf-below t,
-  walk-leaf.Post,
-) (walk-at t) walk.Post
+walk-same-length-3 : (t : ℕ) → walk-lts.Need-same-length-3 (walk-claims t) (walk-at t) walk.Post
 walk-same-length-3 t c = search needs
 
-walk-returns-3 : (t : ℕ) → walk-lts.Need-returns-3 (
-  put-reads.Asked,
-  put-reads.Learnt,
-  kind-at-reads.Asked,
-  kind-at-reads.Learnt,
-  push-reads.Asked,
-  push-reads.Learnt,
-  walk-below t,
-  walk.Post,
-  walk-pair-below t,
-  walk-pair.Post,
-  walk-leaf-below t,
-  walk-leaf.Post,
-) (walk-at t) walk.Post
+walk-returns-3 : (t : ℕ) → walk-lts.Need-returns-3 (walk-claims t) (walk-at t) walk.Post
 walk-returns-3 t c =
-    let at-if2 = c .before .before .before .before .before .before in let at-kind-at = at-if2 .before in
-    let at-if1 = at-kind-at .before .before in
+    let at-if2 = c .before .before .before .before .before .before in let at-is-pair = at-if2 .before in
+    let at-if1 = at-is-pair .before .before in
     let at-start = at-if1 .before .before .before .before .before .before in
     walk-kept-leaf (at-start .pre .1 .1 .0) _ _ _ _ _ (at-start .pre .1 .1 .1) (at-if1 .if1 .left)
-    (at-if2 .if2 .taken) (λ e. c .before .before .before .before .if3 .left (at-kind-at .kind-at .ensures ∙ e)) _
+    (at-if2 .if2 .taken) (kind-no _ _ 4 (at-is-pair .is-pair .ensures)
+    (c .before .before .before .before .if3 .left)) _
     (c .before .before .before .before .before .push .ensures) _ _ (c .before .before .walk2 .ensures)
 
-walk-walk-pair-requires : (t : ℕ) → walk-lts.Need-walk-pair-requires (
-  put-reads.Asked,
-  put-reads.Learnt,
-  kind-at-reads.Asked,
-  kind-at-reads.Learnt,
-  push-reads.Asked,
-  push-reads.Learnt,
-  walk-below t,
-  walk.Post,
-  walk-pair-below t,
-  walk-pair.Post,
-  walk-leaf-below t,
-  walk-leaf.Post,
-) (walk-at t) walk.Post
+walk-walk-pair-requires : (t : ℕ) → walk-lts.Need-walk-pair-requires (walk-claims t) (walk-at t) walk.Post
 walk-walk-pair-requires t c κs =
     let at-if1 = c .before .before .before .before .before in
     let at-start = at-if1 .before .before .before .before .before .before in (
@@ -435,60 +246,21 @@ walk-walk-pair-requires t c κs =
           (
             odd-place _ _ _ _ _ _ _ _ (c .before .before .if2 .left) (at-start .pre .1 .1 .1),
             at-if1 .if1 .left,
-            sym (c .before .before .before .kind-at .ensures) ∙ c .before .if4 .taken,
+            kind-yes _ _ 4 (c .before .before .before .is-pair .ensures) (c .before .if4 .taken),
           ),
         ),
       ),
     )
 
-walk-same-length-4 : (t : ℕ) → walk-lts.Need-same-length-4 (
-  put-reads.Asked,
-  put-reads.Learnt,
-  kind-at-reads.Asked,
-  kind-at-reads.Learnt,
-  push-reads.Asked,
-  push-reads.Learnt,
-  walk-below t,
-  walk.Post,
-  walk-pair-below t,
-  walk-pair.Post,
-  walk-leaf-below t,
-  walk-leaf.Post,
-) (walk-at t) walk.Post
+walk-same-length-4 : (t : ℕ) → walk-lts.Need-same-length-4 (walk-claims t) (walk-at t) walk.Post
 walk-same-length-4 t c = search needs
 
-walk-returns-4 : (t : ℕ) → walk-lts.Need-returns-4 (
-  put-reads.Asked,
-  put-reads.Learnt,
-  kind-at-reads.Asked,
-  kind-at-reads.Learnt,
-  push-reads.Asked,
-  push-reads.Learnt,
-  walk-below t,
-  walk.Post,
-  walk-pair-below t,
-  walk-pair.Post,
-  walk-leaf-below t,
-  walk-leaf.Post,
-) (walk-at t) walk.Post
+walk-returns-4 : (t : ℕ) → walk-lts.Need-returns-4 (walk-claims t) (walk-at t) walk.Post
 walk-returns-4 t c =
     odd-gave _ _ _ _ _ _ _ _ (c .before .before .before .before .before .if2 .left)
     (c .before .before .walk-pair .ensures)
 
-walk-walk-leaf-requires : (t : ℕ) → walk-lts.Need-walk-leaf-requires (
-  put-reads.Asked,
-  put-reads.Learnt,
-  kind-at-reads.Asked,
-  kind-at-reads.Learnt,
-  push-reads.Asked,
-  push-reads.Learnt,
-  walk-below t,
-  walk.Post,
-  walk-pair-below t,
-  walk-pair.Post,
-  walk-leaf-below t,
-  walk-leaf.Post,
-) (walk-at t) walk.Post
+walk-walk-leaf-requires : (t : ℕ) → walk-lts.Need-walk-leaf-requires (walk-claims t) (walk-at t) walk.Post
 walk-walk-leaf-requires t c κs =
     let at-if1 = c .before .before .before .before .before in
     let at-start = at-if1 .before .before .before .before .before .before in (
@@ -500,42 +272,16 @@ walk-walk-leaf-requires t c κs =
           (
             odd-place _ _ _ _ _ _ _ _ (c .before .before .if2 .left) (at-start .pre .1 .1 .1),
             at-if1 .if1 .left,
-            λ e. c .before .if4 .left (c .before .before .before .kind-at .ensures ∙ e),
+            kind-no _ _ 4 (c .before .before .before .is-pair .ensures) (c .before .if4 .left),
           ),
         ),
       ),
     )
 
-walk-same-length-5 : (t : ℕ) → walk-lts.Need-same-length-5 (
-  put-reads.Asked,
-  put-reads.Learnt,
-  kind-at-reads.Asked,
-  kind-at-reads.Learnt,
-  push-reads.Asked,
-  push-reads.Learnt,
-  walk-below t,
-  walk.Post,
-  walk-pair-below t,
-  walk-pair.Post,
-  walk-leaf-below t,
-  walk-leaf.Post,
-) (walk-at t) walk.Post
+walk-same-length-5 : (t : ℕ) → walk-lts.Need-same-length-5 (walk-claims t) (walk-at t) walk.Post
 walk-same-length-5 t c = search needs
 
-walk-returns-5 : (t : ℕ) → walk-lts.Need-returns-5 (
-  put-reads.Asked,
-  put-reads.Learnt,
-  kind-at-reads.Asked,
-  kind-at-reads.Learnt,
-  push-reads.Asked,
-  push-reads.Learnt,
-  walk-below t,
-  walk.Post,
-  walk-pair-below t,
-  walk-pair.Post,
-  walk-leaf-below t,
-  walk-leaf.Post,
-) (walk-at t) walk.Post
+walk-returns-5 : (t : ℕ) → walk-lts.Need-returns-5 (walk-claims t) (walk-at t) walk.Post
 walk-returns-5 t c =
     odd-gave _ _ _ _ _ _ _ _ (c .before .before .before .before .before .if2 .left)
     (c .before .before .walk-leaf .ensures)
@@ -549,189 +295,69 @@ walk-leaf-Inv-loop list work store bound e k rest slot area₀ count w f t m c�
 abbrev walk-leaf-μ-loop : walk-leaf-lts.MeasureT-loop
 walk-leaf-μ-loop list work store bound e k rest slot area₀ count w f t m c₀ j₀ area c j = f - j
 
-walk-leaf-mul-w : (t : ℕ) → walk-leaf-lts.Need-mul-w (
-  term-of-reads.Asked,
-  term-of-reads.Learnt,
-  memory-of-reads.Asked,
-  memory-of-reads.Learnt,
-  remember-reads.Asked,
-  remember-reads.Learnt,
-  resolve-at-reads.Asked,
-  resolve-at-reads.Learnt,
-  walk-below t,
-  walk.Post,
-) (walk-leaf-at t) walk-leaf.Post walk-leaf-Inv-loop walk-leaf-μ-loop
+walk-leaf-mul-w : (t : ℕ)
+    → walk-leaf-lts.Need-mul-w (walk-leaf-claims t) (walk-leaf-at t) walk-leaf.Post walk-leaf-Inv-loop walk-leaf-μ-loop
 walk-leaf-mul-w t c =
     let at-start = c .before .before .before .before in
     omega (arith, at-start .pre .1 .1 .0 .size, at-start .pre .1 .1 .0 .few, at-start .pre .1 .1 .1 .1)
 
-walk-leaf-shared-slice-read-w : (t : ℕ) → walk-leaf-lts.Need-shared-slice-read-w (
-  term-of-reads.Asked,
-  term-of-reads.Learnt,
-  memory-of-reads.Asked,
-  memory-of-reads.Learnt,
-  remember-reads.Asked,
-  remember-reads.Learnt,
-  resolve-at-reads.Asked,
-  resolve-at-reads.Learnt,
-  walk-below t,
-  walk.Post,
-) (walk-leaf-at t) walk-leaf.Post walk-leaf-Inv-loop walk-leaf-μ-loop
+walk-leaf-shared-slice-read-w : (t : ℕ)
+    → walk-leaf-lts.Need-shared-slice-read-w (walk-leaf-claims t) (walk-leaf-at t) walk-leaf.Post walk-leaf-Inv-loop walk-leaf-μ-loop
 walk-leaf-shared-slice-read-w t c =
     let at-start = c .before .before .before .before .before in
     omega (arith, at-start .pre .1 .1 .0 .size, at-start .pre .1 .1 .0 .few, at-start .pre .1 .1 .1 .1)
 
-walk-leaf-mul-f : (t : ℕ) → walk-leaf-lts.Need-mul-f (
-  term-of-reads.Asked,
-  term-of-reads.Learnt,
-  memory-of-reads.Asked,
-  memory-of-reads.Learnt,
-  remember-reads.Asked,
-  remember-reads.Learnt,
-  resolve-at-reads.Asked,
-  resolve-at-reads.Learnt,
-  walk-below t,
-  walk.Post,
-) (walk-leaf-at t) walk-leaf.Post walk-leaf-Inv-loop walk-leaf-μ-loop
+walk-leaf-mul-f : (t : ℕ)
+    → walk-leaf-lts.Need-mul-f (walk-leaf-claims t) (walk-leaf-at t) walk-leaf.Post walk-leaf-Inv-loop walk-leaf-μ-loop
 walk-leaf-mul-f t c =
     let at-start = c .before .before .before .before .before in
     omega (arith, at-start .pre .1 .1 .0 .size, at-start .pre .1 .1 .0 .few, at-start .pre .1 .1 .1 .1)
 
-walk-leaf-mul-f-2 : (t : ℕ) → walk-leaf-lts.Need-mul-f-2 (
-  term-of-reads.Asked,
-  term-of-reads.Learnt,
-  memory-of-reads.Asked,
-  memory-of-reads.Learnt,
-  remember-reads.Asked,
-  remember-reads.Learnt,
-  resolve-at-reads.Asked,
-  resolve-at-reads.Learnt,
-  walk-below t,
-  walk.Post,
-) (walk-leaf-at t) walk-leaf.Post walk-leaf-Inv-loop walk-leaf-μ-loop
+walk-leaf-mul-f-2 : (t : ℕ)
+    → walk-leaf-lts.Need-mul-f-2 (walk-leaf-claims t) (walk-leaf-at t) walk-leaf.Post walk-leaf-Inv-loop walk-leaf-μ-loop
 walk-leaf-mul-f-2 t c =
     let at-start = c .before .before .before .before .before in
     omega (arith, at-start .pre .1 .1 .0 .size, at-start .pre .1 .1 .0 .few, at-start .pre .1 .1 .1 .1)
 
-walk-leaf-shared-slice-read-f : (t : ℕ) → walk-leaf-lts.Need-shared-slice-read-f (
-  term-of-reads.Asked,
-  term-of-reads.Learnt,
-  memory-of-reads.Asked,
-  memory-of-reads.Learnt,
-  remember-reads.Asked,
-  remember-reads.Learnt,
-  resolve-at-reads.Asked,
-  resolve-at-reads.Learnt,
-  walk-below t,
-  walk.Post,
-) (walk-leaf-at t) walk-leaf.Post walk-leaf-Inv-loop walk-leaf-μ-loop
+walk-leaf-shared-slice-read-f : (t : ℕ)
+    → walk-leaf-lts.Need-shared-slice-read-f (walk-leaf-claims t) (walk-leaf-at t) walk-leaf.Post walk-leaf-Inv-loop walk-leaf-μ-loop
 walk-leaf-shared-slice-read-f t c =
     let at-start = c .before .before .before .before .before .before in
     omega (arith, at-start .pre .1 .1 .0 .size, at-start .pre .1 .1 .0 .few, at-start .pre .1 .1 .1 .1)
 
-walk-leaf-term-of-requires : (t : ℕ) → walk-leaf-lts.Need-term-of-requires (
-  term-of-reads.Asked,
-  term-of-reads.Learnt,
-  memory-of-reads.Asked,
-  memory-of-reads.Learnt,
-  remember-reads.Asked,
-  remember-reads.Learnt,
-  resolve-at-reads.Asked,
-  resolve-at-reads.Learnt,
-  walk-below t,
-  walk.Post,
-) (walk-leaf-at t) walk-leaf.Post walk-leaf-Inv-loop walk-leaf-μ-loop
+walk-leaf-term-of-requires : (t : ℕ)
+    → walk-leaf-lts.Need-term-of-requires (walk-leaf-claims t) (walk-leaf-at t) walk-leaf.Post walk-leaf-Inv-loop walk-leaf-μ-loop
 walk-leaf-term-of-requires t c κs = search needs
 
-walk-leaf-memory-of-requires : (t : ℕ) → walk-leaf-lts.Need-memory-of-requires (
-  term-of-reads.Asked,
-  term-of-reads.Learnt,
-  memory-of-reads.Asked,
-  memory-of-reads.Learnt,
-  remember-reads.Asked,
-  remember-reads.Learnt,
-  resolve-at-reads.Asked,
-  resolve-at-reads.Learnt,
-  walk-below t,
-  walk.Post,
-) (walk-leaf-at t) walk-leaf.Post walk-leaf-Inv-loop walk-leaf-μ-loop
+walk-leaf-memory-of-requires : (t : ℕ)
+    → walk-leaf-lts.Need-memory-of-requires (walk-leaf-claims t) (walk-leaf-at t) walk-leaf.Post walk-leaf-Inv-loop walk-leaf-μ-loop
 walk-leaf-memory-of-requires t c κs = search needs
 
-walk-leaf-remember-requires : (t : ℕ) → walk-leaf-lts.Need-remember-requires (
-  term-of-reads.Asked,
-  term-of-reads.Learnt,
-  memory-of-reads.Asked,
-  memory-of-reads.Learnt,
-  remember-reads.Asked,
-  remember-reads.Learnt,
-  resolve-at-reads.Asked,
-  resolve-at-reads.Learnt,
-  walk-below t,
-  walk.Post,
-) (walk-leaf-at t) walk-leaf.Post walk-leaf-Inv-loop walk-leaf-μ-loop
+walk-leaf-remember-requires : (t : ℕ)
+    → walk-leaf-lts.Need-remember-requires (walk-leaf-claims t) (walk-leaf-at t) walk-leaf.Post walk-leaf-Inv-loop walk-leaf-μ-loop
 walk-leaf-remember-requires t c κs =
     let at-start = c .before .before .before .before .before .before .before .before in at-start .pre .1 .1 .0 .event
 
-walk-leaf-loop-holds : (t : ℕ) → walk-leaf-lts.Need-loop-holds (
-  term-of-reads.Asked,
-  term-of-reads.Learnt,
-  memory-of-reads.Asked,
-  memory-of-reads.Learnt,
-  remember-reads.Asked,
-  remember-reads.Learnt,
-  resolve-at-reads.Asked,
-  resolve-at-reads.Learnt,
-  walk-below t,
-  walk.Post,
-) (walk-leaf-at t) walk-leaf.Post walk-leaf-Inv-loop walk-leaf-μ-loop
+walk-leaf-loop-holds : (t : ℕ)
+    → walk-leaf-lts.Need-loop-holds (walk-leaf-claims t) (walk-leaf-at t) walk-leaf.Post walk-leaf-Inv-loop walk-leaf-μ-loop
 walk-leaf-loop-holds t c =
     let at-start = c .before .before .before .before .before .before .before .before .before in
     (omega arith, refl, at-start .pre .1 .1 .1 .0 .held, refl)
 
-walk-leaf-mul-i : (t : ℕ) → walk-leaf-lts.Need-mul-i (
-  term-of-reads.Asked,
-  term-of-reads.Learnt,
-  memory-of-reads.Asked,
-  memory-of-reads.Learnt,
-  remember-reads.Asked,
-  remember-reads.Learnt,
-  resolve-at-reads.Asked,
-  resolve-at-reads.Learnt,
-  walk-below t,
-  walk.Post,
-) (walk-leaf-at t) walk-leaf.Post walk-leaf-Inv-loop walk-leaf-μ-loop
+walk-leaf-mul-i : (t : ℕ)
+    → walk-leaf-lts.Need-mul-i (walk-leaf-claims t) (walk-leaf-at t) walk-leaf.Post walk-leaf-Inv-loop walk-leaf-μ-loop
 walk-leaf-mul-i t c =
     let at-start = c .before .before .before .before .before .before .before .before .before .before .before in
     omega (arith, at-start .pre .1 .1 .0 .size, at-start .pre .1 .1 .0 .few, at-start .pre .1 .1 .1 .1)
 
-walk-leaf-add-i : (t : ℕ) → walk-leaf-lts.Need-add-i (
-  term-of-reads.Asked,
-  term-of-reads.Learnt,
-  memory-of-reads.Asked,
-  memory-of-reads.Learnt,
-  remember-reads.Asked,
-  remember-reads.Learnt,
-  resolve-at-reads.Asked,
-  resolve-at-reads.Learnt,
-  walk-below t,
-  walk.Post,
-) (walk-leaf-at t) walk-leaf.Post walk-leaf-Inv-loop walk-leaf-μ-loop
+walk-leaf-add-i : (t : ℕ)
+    → walk-leaf-lts.Need-add-i (walk-leaf-claims t) (walk-leaf-at t) walk-leaf.Post walk-leaf-Inv-loop walk-leaf-μ-loop
 walk-leaf-add-i t c =
     let at-start = c .before .before .before .before .before .before .before .before .before .before .before in
     omega (arith, at-start .pre .1 .1 .0 .size, at-start .pre .1 .1 .0 .few, at-start .pre .1 .1 .1 .1)
 
-walk-leaf-add-i-2 : (t : ℕ) → walk-leaf-lts.Need-add-i-2 (
-  term-of-reads.Asked,
-  term-of-reads.Learnt,
-  memory-of-reads.Asked,
-  memory-of-reads.Learnt,
-  remember-reads.Asked,
-  remember-reads.Learnt,
-  resolve-at-reads.Asked,
-  resolve-at-reads.Learnt,
-  walk-below t,
-  walk.Post,
-) (walk-leaf-at t) walk-leaf.Post walk-leaf-Inv-loop walk-leaf-μ-loop
+walk-leaf-add-i-2 : (t : ℕ)
+    → walk-leaf-lts.Need-add-i-2 (walk-leaf-claims t) (walk-leaf-at t) walk-leaf.Post walk-leaf-Inv-loop walk-leaf-μ-loop
 walk-leaf-add-i-2 t c =
     let at-start = c .before .before .before .before .before .before .before .before .before .before .before in
     omega (
@@ -743,18 +369,8 @@ walk-leaf-add-i-2 t c =
           (at-start .pre .1 .1 .1 .2) _ _ (c .loop-test .taken) refl,
     )
 
-walk-leaf-mul-i-2 : (t : ℕ) → walk-leaf-lts.Need-mul-i-2 (
-  term-of-reads.Asked,
-  term-of-reads.Learnt,
-  memory-of-reads.Asked,
-  memory-of-reads.Learnt,
-  remember-reads.Asked,
-  remember-reads.Learnt,
-  resolve-at-reads.Asked,
-  resolve-at-reads.Learnt,
-  walk-below t,
-  walk.Post,
-) (walk-leaf-at t) walk-leaf.Post walk-leaf-Inv-loop walk-leaf-μ-loop
+walk-leaf-mul-i-2 : (t : ℕ)
+    → walk-leaf-lts.Need-mul-i-2 (walk-leaf-claims t) (walk-leaf-at t) walk-leaf.Post walk-leaf-Inv-loop walk-leaf-μ-loop
 walk-leaf-mul-i-2 t c =
     let at-start = c .before .before .before .before .before .before .before .before .before .before .before in
     omega (
@@ -766,18 +382,8 @@ walk-leaf-mul-i-2 t c =
           (at-start .pre .1 .1 .1 .2) _ _ (c .loop-test .taken) refl,
     )
 
-walk-leaf-shared-slice-read-i : (t : ℕ) → walk-leaf-lts.Need-shared-slice-read-i (
-  term-of-reads.Asked,
-  term-of-reads.Learnt,
-  memory-of-reads.Asked,
-  memory-of-reads.Learnt,
-  remember-reads.Asked,
-  remember-reads.Learnt,
-  resolve-at-reads.Asked,
-  resolve-at-reads.Learnt,
-  walk-below t,
-  walk.Post,
-) (walk-leaf-at t) walk-leaf.Post walk-leaf-Inv-loop walk-leaf-μ-loop
+walk-leaf-shared-slice-read-i : (t : ℕ)
+    → walk-leaf-lts.Need-shared-slice-read-i (walk-leaf-claims t) (walk-leaf-at t) walk-leaf.Post walk-leaf-Inv-loop walk-leaf-μ-loop
 walk-leaf-shared-slice-read-i t c =
     let at-start = c .before .before .before .before .before .before .before .before .before .before .before .before
     in omega (
@@ -789,18 +395,8 @@ walk-leaf-shared-slice-read-i t c =
           (at-start .pre .1 .1 .1 .2) _ _ (c .before .loop-test .taken) refl,
     )
 
-walk-leaf-add-resolve-at : (t : ℕ) → walk-leaf-lts.Need-add-resolve-at (
-  term-of-reads.Asked,
-  term-of-reads.Learnt,
-  memory-of-reads.Asked,
-  memory-of-reads.Learnt,
-  remember-reads.Asked,
-  remember-reads.Learnt,
-  resolve-at-reads.Asked,
-  resolve-at-reads.Learnt,
-  walk-below t,
-  walk.Post,
-) (walk-leaf-at t) walk-leaf.Post walk-leaf-Inv-loop walk-leaf-μ-loop
+walk-leaf-add-resolve-at : (t : ℕ)
+    → walk-leaf-lts.Need-add-resolve-at (walk-leaf-claims t) (walk-leaf-at t) walk-leaf.Post walk-leaf-Inv-loop walk-leaf-μ-loop
 walk-leaf-add-resolve-at t c =
     let at-start = c .before .before .before .before .before .before .before .before .before .before .before .before
     in omega (
@@ -811,18 +407,8 @@ walk-leaf-add-resolve-at t c =
       terms-few (at-start .pre .1 .0),
     )
 
-walk-leaf-resolve-at-requires : (t : ℕ) → walk-leaf-lts.Need-resolve-at-requires (
-  term-of-reads.Asked,
-  term-of-reads.Learnt,
-  memory-of-reads.Asked,
-  memory-of-reads.Learnt,
-  remember-reads.Asked,
-  remember-reads.Learnt,
-  resolve-at-reads.Asked,
-  resolve-at-reads.Learnt,
-  walk-below t,
-  walk.Post,
-) (walk-leaf-at t) walk-leaf.Post walk-leaf-Inv-loop walk-leaf-μ-loop
+walk-leaf-resolve-at-requires : (t : ℕ)
+    → walk-leaf-lts.Need-resolve-at-requires (walk-leaf-claims t) (walk-leaf-at t) walk-leaf.Post walk-leaf-Inv-loop walk-leaf-μ-loop
 walk-leaf-resolve-at-requires t c κs =
     let at-start = c .before .before .before .before .before .before .before .before .before .before .before .before
     in (
@@ -833,35 +419,15 @@ walk-leaf-resolve-at-requires t c κs =
           (c .before .before .before .before .memory-of .ensures) (c .before .before .before .remember .ensures)),
     )
 
-walk-leaf-add-walk : (t : ℕ) → walk-leaf-lts.Need-add-walk (
-  term-of-reads.Asked,
-  term-of-reads.Learnt,
-  memory-of-reads.Asked,
-  memory-of-reads.Learnt,
-  remember-reads.Asked,
-  remember-reads.Learnt,
-  resolve-at-reads.Asked,
-  resolve-at-reads.Learnt,
-  walk-below t,
-  walk.Post,
-) (walk-leaf-at t) walk-leaf.Post walk-leaf-Inv-loop walk-leaf-μ-loop
+walk-leaf-add-walk : (t : ℕ)
+    → walk-leaf-lts.Need-add-walk (walk-leaf-claims t) (walk-leaf-at t) walk-leaf.Post walk-leaf-Inv-loop walk-leaf-μ-loop
 walk-leaf-add-walk t c =
     let at-start
     = c .before .before .before .before .before .before .before .before .before .before .before .before .before in
     omega (arith, at-start .pre .1 .1 .0 .size, at-start .pre .1 .1 .0 .few, at-start .pre .1 .1 .1 .1)
 
-walk-leaf-walk-requires : (t : ℕ) → walk-leaf-lts.Need-walk-requires (
-  term-of-reads.Asked,
-  term-of-reads.Learnt,
-  memory-of-reads.Asked,
-  memory-of-reads.Learnt,
-  remember-reads.Asked,
-  remember-reads.Learnt,
-  resolve-at-reads.Asked,
-  resolve-at-reads.Learnt,
-  walk-below t,
-  walk.Post,
-) (walk-leaf-at t) walk-leaf.Post walk-leaf-Inv-loop walk-leaf-μ-loop
+walk-leaf-walk-requires : (t : ℕ)
+    → walk-leaf-lts.Need-walk-requires (walk-leaf-claims t) (walk-leaf-at t) walk-leaf.Post walk-leaf-Inv-loop walk-leaf-μ-loop
 walk-leaf-walk-requires t c κs =
     let at-memory-of = c .before .before .before .before .before .before in let at-term-of = at-memory-of .before in
     let at-start = at-term-of .before .before .before .before .before .before .before in (
@@ -880,32 +446,12 @@ walk-leaf-walk-requires t c κs =
       ),
     )
 
-walk-leaf-enum-known-d : (t : ℕ) → walk-leaf-lts.Need-enum-known-d (
-  term-of-reads.Asked,
-  term-of-reads.Learnt,
-  memory-of-reads.Asked,
-  memory-of-reads.Learnt,
-  remember-reads.Asked,
-  remember-reads.Learnt,
-  resolve-at-reads.Asked,
-  resolve-at-reads.Learnt,
-  walk-below t,
-  walk.Post,
-) (walk-leaf-at t) walk-leaf.Post walk-leaf-Inv-loop walk-leaf-μ-loop
+walk-leaf-enum-known-d : (t : ℕ)
+    → walk-leaf-lts.Need-enum-known-d (walk-leaf-claims t) (walk-leaf-at t) walk-leaf.Post walk-leaf-Inv-loop walk-leaf-μ-loop
 walk-leaf-enum-known-d t c = search needs
 
-walk-leaf-add-j : (t : ℕ) → walk-leaf-lts.Need-add-j (
-  term-of-reads.Asked,
-  term-of-reads.Learnt,
-  memory-of-reads.Asked,
-  memory-of-reads.Learnt,
-  remember-reads.Asked,
-  remember-reads.Learnt,
-  resolve-at-reads.Asked,
-  resolve-at-reads.Learnt,
-  walk-below t,
-  walk.Post,
-) (walk-leaf-at t) walk-leaf.Post walk-leaf-Inv-loop walk-leaf-μ-loop
+walk-leaf-add-j : (t : ℕ)
+    → walk-leaf-lts.Need-add-j (walk-leaf-claims t) (walk-leaf-at t) walk-leaf.Post walk-leaf-Inv-loop walk-leaf-μ-loop
 walk-leaf-add-j t c =
     let at-loop-test = c .before .before .before .before .before .before .before .before .before in
     let at-start
@@ -918,32 +464,12 @@ walk-leaf-add-j t c =
           (at-start .pre .1 .1 .1 .2) _ _ (at-loop-test .loop-test .taken) refl,
     )
 
-walk-leaf-loop-less : (t : ℕ) → walk-leaf-lts.Need-loop-less (
-  term-of-reads.Asked,
-  term-of-reads.Learnt,
-  memory-of-reads.Asked,
-  memory-of-reads.Learnt,
-  remember-reads.Asked,
-  remember-reads.Learnt,
-  resolve-at-reads.Asked,
-  resolve-at-reads.Learnt,
-  walk-below t,
-  walk.Post,
-) (walk-leaf-at t) walk-leaf.Post walk-leaf-Inv-loop walk-leaf-μ-loop
+walk-leaf-loop-less : (t : ℕ)
+    → walk-leaf-lts.Need-loop-less (walk-leaf-claims t) (walk-leaf-at t) walk-leaf.Post walk-leaf-Inv-loop walk-leaf-μ-loop
 walk-leaf-loop-less t c = search needs
 
-walk-leaf-loop-again : (t : ℕ) → walk-leaf-lts.Need-loop-again (
-  term-of-reads.Asked,
-  term-of-reads.Learnt,
-  memory-of-reads.Asked,
-  memory-of-reads.Learnt,
-  remember-reads.Asked,
-  remember-reads.Learnt,
-  resolve-at-reads.Asked,
-  resolve-at-reads.Learnt,
-  walk-below t,
-  walk.Post,
-) (walk-leaf-at t) walk-leaf.Post walk-leaf-Inv-loop walk-leaf-μ-loop
+walk-leaf-loop-again : (t : ℕ)
+    → walk-leaf-lts.Need-loop-again (walk-leaf-claims t) (walk-leaf-at t) walk-leaf.Post walk-leaf-Inv-loop walk-leaf-μ-loop
 walk-leaf-loop-again t c =
     let at-walk = c .before .before .before .before .before in let at-resolve-at = at-walk .before .before in
     let at-loop-test = at-resolve-at .before .before in let at-loop = at-loop-test .before in
@@ -961,46 +487,16 @@ walk-leaf-loop-again t c =
       q .0 ∙ at-loop .loop .inv .3,
     )
 
-walk-leaf-enum-told : (t : ℕ) → walk-leaf-lts.Need-enum-told (
-  term-of-reads.Asked,
-  term-of-reads.Learnt,
-  memory-of-reads.Asked,
-  memory-of-reads.Learnt,
-  remember-reads.Asked,
-  remember-reads.Learnt,
-  resolve-at-reads.Asked,
-  resolve-at-reads.Learnt,
-  walk-below t,
-  walk.Post,
-) (walk-leaf-at t) walk-leaf.Post walk-leaf-Inv-loop walk-leaf-μ-loop
+walk-leaf-enum-told : (t : ℕ)
+    → walk-leaf-lts.Need-enum-told (walk-leaf-claims t) (walk-leaf-at t) walk-leaf.Post walk-leaf-Inv-loop walk-leaf-μ-loop
 walk-leaf-enum-told t c = search needs
 
-walk-leaf-same-length : (t : ℕ) → walk-leaf-lts.Need-same-length (
-  term-of-reads.Asked,
-  term-of-reads.Learnt,
-  memory-of-reads.Asked,
-  memory-of-reads.Learnt,
-  remember-reads.Asked,
-  remember-reads.Learnt,
-  resolve-at-reads.Asked,
-  resolve-at-reads.Learnt,
-  walk-below t,
-  walk.Post,
-) (walk-leaf-at t) walk-leaf.Post walk-leaf-Inv-loop walk-leaf-μ-loop
+walk-leaf-same-length : (t : ℕ)
+    → walk-leaf-lts.Need-same-length (walk-leaf-claims t) (walk-leaf-at t) walk-leaf.Post walk-leaf-Inv-loop walk-leaf-μ-loop
 walk-leaf-same-length t c = search needs
 
-walk-leaf-returns : (t : ℕ) → walk-leaf-lts.Need-returns (
-  term-of-reads.Asked,
-  term-of-reads.Learnt,
-  memory-of-reads.Asked,
-  memory-of-reads.Learnt,
-  remember-reads.Asked,
-  remember-reads.Learnt,
-  resolve-at-reads.Asked,
-  resolve-at-reads.Learnt,
-  walk-below t,
-  walk.Post,
-) (walk-leaf-at t) walk-leaf.Post walk-leaf-Inv-loop walk-leaf-μ-loop
+walk-leaf-returns : (t : ℕ)
+    → walk-leaf-lts.Need-returns (walk-leaf-claims t) (walk-leaf-at t) walk-leaf.Post walk-leaf-Inv-loop walk-leaf-μ-loop
 walk-leaf-returns t c =
     let at-resolve-at = c .before .before .before .before .before .before in
     let at-loop-test = at-resolve-at .before .before in let at-loop = at-loop-test .before in
@@ -1018,32 +514,12 @@ walk-leaf-returns t c =
       fits = omega arith;
     }
 
-walk-leaf-same-length-2 : (t : ℕ) → walk-leaf-lts.Need-same-length-2 (
-  term-of-reads.Asked,
-  term-of-reads.Learnt,
-  memory-of-reads.Asked,
-  memory-of-reads.Learnt,
-  remember-reads.Asked,
-  remember-reads.Learnt,
-  resolve-at-reads.Asked,
-  resolve-at-reads.Learnt,
-  walk-below t,
-  walk.Post,
-) (walk-leaf-at t) walk-leaf.Post walk-leaf-Inv-loop walk-leaf-μ-loop
+walk-leaf-same-length-2 : (t : ℕ)
+    → walk-leaf-lts.Need-same-length-2 (walk-leaf-claims t) (walk-leaf-at t) walk-leaf.Post walk-leaf-Inv-loop walk-leaf-μ-loop
 walk-leaf-same-length-2 t c = search needs
 
-walk-leaf-returns-2 : (t : ℕ) → walk-leaf-lts.Need-returns-2 (
-  term-of-reads.Asked,
-  term-of-reads.Learnt,
-  memory-of-reads.Asked,
-  memory-of-reads.Learnt,
-  remember-reads.Asked,
-  remember-reads.Learnt,
-  resolve-at-reads.Asked,
-  resolve-at-reads.Learnt,
-  walk-below t,
-  walk.Post,
-) (walk-leaf-at t) walk-leaf.Post walk-leaf-Inv-loop walk-leaf-μ-loop
+walk-leaf-returns-2 : (t : ℕ)
+    → walk-leaf-lts.Need-returns-2 (walk-leaf-claims t) (walk-leaf-at t) walk-leaf.Post walk-leaf-Inv-loop walk-leaf-μ-loop
 walk-leaf-returns-2 t c =
     let at-start = c .before .before .before .before .before .before .before .before .before .before .before in
     record {
@@ -1054,72 +530,30 @@ walk-leaf-returns-2 t c =
       fits = c .before .loop .inv .2;
     }
 
-walk-pair-mul-w : (t : ℕ) → walk-pair-lts.Need-mul-w (
-  push-reads.Asked,
-  push-reads.Learnt,
-  can-at-reads.Asked,
-  can-at-reads.Learnt,
-  holds-at-reads.Asked,
-  holds-at-reads.Learnt,
-  walk-below t,
-  walk.Post,
-) (walk-pair-at t) walk-pair.Post
+walk-pair-mul-w : (t : ℕ) → walk-pair-lts.Need-mul-w (walk-pair-claims t) (walk-pair-at t) walk-pair.Post
 walk-pair-mul-w t c =
     let at-start = c .before .before .before .before in
     omega (arith, at-start .pre .1 .1 .0 .size, at-start .pre .1 .1 .0 .few, at-start .pre .1 .1 .1 .1)
 
-walk-pair-shared-slice-read-w : (t : ℕ) → walk-pair-lts.Need-shared-slice-read-w (
-  push-reads.Asked,
-  push-reads.Learnt,
-  can-at-reads.Asked,
-  can-at-reads.Learnt,
-  holds-at-reads.Asked,
-  holds-at-reads.Learnt,
-  walk-below t,
-  walk.Post,
-) (walk-pair-at t) walk-pair.Post
+walk-pair-shared-slice-read-w : (t : ℕ)
+    → walk-pair-lts.Need-shared-slice-read-w (walk-pair-claims t) (walk-pair-at t) walk-pair.Post
 walk-pair-shared-slice-read-w t c =
     let at-start = c .before .before .before .before .before in
     omega (arith, at-start .pre .1 .1 .0 .size, at-start .pre .1 .1 .0 .few, at-start .pre .1 .1 .1 .1)
 
-walk-pair-push-requires : (t : ℕ) → walk-pair-lts.Need-push-requires (
-  push-reads.Asked,
-  push-reads.Learnt,
-  can-at-reads.Asked,
-  can-at-reads.Learnt,
-  holds-at-reads.Asked,
-  holds-at-reads.Learnt,
-  walk-below t,
-  walk.Post,
-) (walk-pair-at t) walk-pair.Post
+walk-pair-push-requires : (t : ℕ)
+    → walk-pair-lts.Need-push-requires (walk-pair-claims t) (walk-pair-at t) walk-pair.Post
 walk-pair-push-requires t c κs =
     let at-start = c .before .before .before .before .before in
     push-room (at-start .pre .1 .1 .0) _ _ _ _ _ (at-start .pre .1 .1 .1 .0) (at-start .pre .1 .1 .1 .1)
 
-walk-pair-add-can-at : (t : ℕ) → walk-pair-lts.Need-add-can-at (
-  push-reads.Asked,
-  push-reads.Learnt,
-  can-at-reads.Asked,
-  can-at-reads.Learnt,
-  holds-at-reads.Asked,
-  holds-at-reads.Learnt,
-  walk-below t,
-  walk.Post,
-) (walk-pair-at t) walk-pair.Post
+walk-pair-add-can-at : (t : ℕ) → walk-pair-lts.Need-add-can-at (walk-pair-claims t) (walk-pair-at t) walk-pair.Post
 walk-pair-add-can-at t c =
     let at-start = c .before .before .before .before .before .before in
     omega (arith, at-start .pre .1 .1 .0 .size, at-start .pre .1 .1 .0 .few, at-start .pre .1 .1 .1 .1)
 
-walk-pair-can-at-requires : (t : ℕ) → walk-pair-lts.Need-can-at-requires (
-  push-reads.Asked,
-  push-reads.Learnt,
-  can-at-reads.Asked,
-  can-at-reads.Learnt,
-  holds-at-reads.Asked,
-  holds-at-reads.Learnt,
-  walk-below t,
-  walk.Post,
-) (walk-pair-at t) walk-pair.Post
+walk-pair-can-at-requires : (t : ℕ)
+    → walk-pair-lts.Need-can-at-requires (walk-pair-claims t) (walk-pair-at t) walk-pair.Post
 walk-pair-can-at-requires t c κs =
     let at-start = c .before .before .before .before .before .before in (
       at-start .pre .1 .0,
@@ -1132,16 +566,8 @@ walk-pair-can-at-requires t c κs =
       ),
     )
 
-walk-pair-can-at-requires-2 : (t : ℕ) → walk-pair-lts.Need-can-at-requires-2 (
-  push-reads.Asked,
-  push-reads.Learnt,
-  can-at-reads.Asked,
-  can-at-reads.Learnt,
-  holds-at-reads.Asked,
-  holds-at-reads.Learnt,
-  walk-below t,
-  walk.Post,
-) (walk-pair-at t) walk-pair.Post
+walk-pair-can-at-requires-2 : (t : ℕ)
+    → walk-pair-lts.Need-can-at-requires-2 (walk-pair-claims t) (walk-pair-at t) walk-pair.Post
 walk-pair-can-at-requires-2 t c κs =
     let at-start = c .before .before .before .before .before .before .before in (
       at-start .pre .1 .0,
@@ -1154,16 +580,8 @@ walk-pair-can-at-requires-2 t c κs =
       ),
     )
 
-walk-pair-holds-at-requires : (t : ℕ) → walk-pair-lts.Need-holds-at-requires (
-  push-reads.Asked,
-  push-reads.Learnt,
-  can-at-reads.Asked,
-  can-at-reads.Learnt,
-  holds-at-reads.Asked,
-  holds-at-reads.Learnt,
-  walk-below t,
-  walk.Post,
-) (walk-pair-at t) walk-pair.Post
+walk-pair-holds-at-requires : (t : ℕ)
+    → walk-pair-lts.Need-holds-at-requires (walk-pair-claims t) (walk-pair-at t) walk-pair.Post
 walk-pair-holds-at-requires t c κs =
     let at-start = c .before .before .before .before .before .before .before .before in (
       at-start .pre .1 .0,
@@ -1173,60 +591,25 @@ walk-pair-holds-at-requires t c κs =
       ),
     )
 
-walk-pair-add-walk : (t : ℕ) → walk-pair-lts.Need-add-walk (
-  push-reads.Asked,
-  push-reads.Learnt,
-  can-at-reads.Asked,
-  can-at-reads.Learnt,
-  holds-at-reads.Asked,
-  holds-at-reads.Learnt,
-  walk-below t,
-  walk.Post,
-) (walk-pair-at t) walk-pair.Post
+walk-pair-add-walk : (t : ℕ) → walk-pair-lts.Need-add-walk (walk-pair-claims t) (walk-pair-at t) walk-pair.Post
 walk-pair-add-walk t c =
     let at-start = c .before .before .before .before .before .before .before .before .before .before .before .before
     in omega (arith, at-start .pre .1 .1 .0 .size, at-start .pre .1 .1 .0 .few, at-start .pre .1 .1 .1 .1)
 
-walk-pair-mul-walk : (t : ℕ) → walk-pair-lts.Need-mul-walk (
-  push-reads.Asked,
-  push-reads.Learnt,
-  can-at-reads.Asked,
-  can-at-reads.Learnt,
-  holds-at-reads.Asked,
-  holds-at-reads.Learnt,
-  walk-below t,
-  walk.Post,
-) (walk-pair-at t) walk-pair.Post
+walk-pair-mul-walk : (t : ℕ) → walk-pair-lts.Need-mul-walk (walk-pair-claims t) (walk-pair-at t) walk-pair.Post
 walk-pair-mul-walk t c =
     let at-start = c .before .before .before .before .before .before .before .before .before .before .before .before
     in omega
     (arith, bits-fit (at-start .pre .1 .1 .0) _ _ _ _ _ (at-start .pre .1 .1 .1 .0) (at-start .pre .1 .1 .1 .1))
 
-walk-pair-add-walk-2 : (t : ℕ) → walk-pair-lts.Need-add-walk-2 (
-  push-reads.Asked,
-  push-reads.Learnt,
-  can-at-reads.Asked,
-  can-at-reads.Learnt,
-  holds-at-reads.Asked,
-  holds-at-reads.Learnt,
-  walk-below t,
-  walk.Post,
-) (walk-pair-at t) walk-pair.Post
+walk-pair-add-walk-2 : (t : ℕ) → walk-pair-lts.Need-add-walk-2 (walk-pair-claims t) (walk-pair-at t) walk-pair.Post
 walk-pair-add-walk-2 t c =
     let at-start = c .before .before .before .before .before .before .before .before .before .before .before .before
     in omega
     (arith, bits-fit (at-start .pre .1 .1 .0) _ _ _ _ _ (at-start .pre .1 .1 .1 .0) (at-start .pre .1 .1 .1 .1))
 
-walk-pair-walk-requires : (t : ℕ) → walk-pair-lts.Need-walk-requires (
-  push-reads.Asked,
-  push-reads.Learnt,
-  can-at-reads.Asked,
-  can-at-reads.Learnt,
-  holds-at-reads.Asked,
-  holds-at-reads.Learnt,
-  walk-below t,
-  walk.Post,
-) (walk-pair-at t) walk-pair.Post
+walk-pair-walk-requires : (t : ℕ)
+    → walk-pair-lts.Need-walk-requires (walk-pair-claims t) (walk-pair-at t) walk-pair.Post
 walk-pair-walk-requires t c κs =
     let at-push = c .before .before .before .before .before .before .before in
     let at-start = at-push .before .before .before .before .before .before in (
@@ -1246,28 +629,10 @@ walk-pair-walk-requires t c κs =
       ),
     )
 
-walk-pair-same-length : (t : ℕ) → walk-pair-lts.Need-same-length (
-  push-reads.Asked,
-  push-reads.Learnt,
-  can-at-reads.Asked,
-  can-at-reads.Learnt,
-  holds-at-reads.Asked,
-  holds-at-reads.Learnt,
-  walk-below t,
-  walk.Post,
-) (walk-pair-at t) walk-pair.Post
+walk-pair-same-length : (t : ℕ) → walk-pair-lts.Need-same-length (walk-pair-claims t) (walk-pair-at t) walk-pair.Post
 walk-pair-same-length t c = search needs
 
-walk-pair-returns : (t : ℕ) → walk-pair-lts.Need-returns (
-  push-reads.Asked,
-  push-reads.Learnt,
-  can-at-reads.Asked,
-  can-at-reads.Learnt,
-  holds-at-reads.Asked,
-  holds-at-reads.Learnt,
-  walk-below t,
-  walk.Post,
-) (walk-pair-at t) walk-pair.Post
+walk-pair-returns : (t : ℕ) → walk-pair-lts.Need-returns (walk-pair-claims t) (walk-pair-at t) walk-pair.Post
 walk-pair-returns t c =
     let at-if1 = c .before .before .before .before .before .before in let at-holds-at = at-if1 .before in
     let at-can-at2 = at-holds-at .before in let at-can-at = at-can-at2 .before in let at-push = at-can-at .before in
@@ -1277,16 +642,7 @@ walk-pair-returns t c =
     (sym (at-holds-at .holds-at .ensures) ∙ at-if1 .if1 .taken) _ (at-push .push .ensures) _ _
     (c .before .before .walk .ensures)
 
-walk-pair-returns-2 : (t : ℕ) → walk-pair-lts.Need-returns-2 (
-  push-reads.Asked,
-  push-reads.Learnt,
-  can-at-reads.Asked,
-  can-at-reads.Learnt,
-  holds-at-reads.Asked,
-  holds-at-reads.Learnt,
-  walk-below t,
-  walk.Post,
-) (walk-pair-at t) walk-pair.Post
+walk-pair-returns-2 : (t : ℕ) → walk-pair-lts.Need-returns-2 (walk-pair-claims t) (walk-pair-at t) walk-pair.Post
 walk-pair-returns-2 t c =
     let at-start = c .before .before .before .before .before .before .before .before .before .before .before .before
     in pair-right-stuck (at-start .pre .1 .1 .0) _ _ _ _ _ (at-start .pre .1 .1 .1 .0) (at-start .pre .1 .1 .1 .1)
@@ -1294,16 +650,7 @@ walk-pair-returns-2 t c =
     (c .before .before .before .before .can-at2 .ensures) (sym (c .before .before .before .holds-at .ensures)
     ∙ c .before .before .if1 .taken) (c .before .if2 .taken) (c .if3 .left)
 
-walk-pair-returns-3 : (t : ℕ) → walk-pair-lts.Need-returns-3 (
-  push-reads.Asked,
-  push-reads.Learnt,
-  can-at-reads.Asked,
-  can-at-reads.Learnt,
-  holds-at-reads.Asked,
-  holds-at-reads.Learnt,
-  walk-below t,
-  walk.Post,
-) (walk-pair-at t) walk-pair.Post
+walk-pair-returns-3 : (t : ℕ) → walk-pair-lts.Need-returns-3 (walk-pair-claims t) (walk-pair-at t) walk-pair.Post
 walk-pair-returns-3 t c =
     let at-start = c .before .before .before .before .before .before .before .before .before .before .before in
     pair-left-stuck (at-start .pre .1 .1 .0) _ _ _ _ _ (at-start .pre .1 .1 .1 .0) (at-start .pre .1 .1 .1 .1)
@@ -1311,60 +658,25 @@ walk-pair-returns-3 t c =
     (c .before .before .before .can-at2 .ensures) (sym (c .before .before .holds-at .ensures) ∙ c .before .if1 .taken)
     (c .if2 .left)
 
-walk-pair-add-walk-3 : (t : ℕ) → walk-pair-lts.Need-add-walk-3 (
-  push-reads.Asked,
-  push-reads.Learnt,
-  can-at-reads.Asked,
-  can-at-reads.Learnt,
-  holds-at-reads.Asked,
-  holds-at-reads.Learnt,
-  walk-below t,
-  walk.Post,
-) (walk-pair-at t) walk-pair.Post
+walk-pair-add-walk-3 : (t : ℕ) → walk-pair-lts.Need-add-walk-3 (walk-pair-claims t) (walk-pair-at t) walk-pair.Post
 walk-pair-add-walk-3 t c =
     let at-start = c .before .before .before .before .before .before .before .before .before .before .before .before
     in omega (arith, at-start .pre .1 .1 .0 .size, at-start .pre .1 .1 .0 .few, at-start .pre .1 .1 .1 .1)
 
-walk-pair-mul-walk-2 : (t : ℕ) → walk-pair-lts.Need-mul-walk-2 (
-  push-reads.Asked,
-  push-reads.Learnt,
-  can-at-reads.Asked,
-  can-at-reads.Learnt,
-  holds-at-reads.Asked,
-  holds-at-reads.Learnt,
-  walk-below t,
-  walk.Post,
-) (walk-pair-at t) walk-pair.Post
+walk-pair-mul-walk-2 : (t : ℕ) → walk-pair-lts.Need-mul-walk-2 (walk-pair-claims t) (walk-pair-at t) walk-pair.Post
 walk-pair-mul-walk-2 t c =
     let at-start = c .before .before .before .before .before .before .before .before .before .before .before .before
     in omega
     (arith, bits-fit (at-start .pre .1 .1 .0) _ _ _ _ _ (at-start .pre .1 .1 .1 .0) (at-start .pre .1 .1 .1 .1))
 
-walk-pair-add-walk-4 : (t : ℕ) → walk-pair-lts.Need-add-walk-4 (
-  push-reads.Asked,
-  push-reads.Learnt,
-  can-at-reads.Asked,
-  can-at-reads.Learnt,
-  holds-at-reads.Asked,
-  holds-at-reads.Learnt,
-  walk-below t,
-  walk.Post,
-) (walk-pair-at t) walk-pair.Post
+walk-pair-add-walk-4 : (t : ℕ) → walk-pair-lts.Need-add-walk-4 (walk-pair-claims t) (walk-pair-at t) walk-pair.Post
 walk-pair-add-walk-4 t c =
     let at-start = c .before .before .before .before .before .before .before .before .before .before .before .before
     in omega
     (arith, bits-fit (at-start .pre .1 .1 .0) _ _ _ _ _ (at-start .pre .1 .1 .1 .0) (at-start .pre .1 .1 .1 .1))
 
-walk-pair-walk-requires-2 : (t : ℕ) → walk-pair-lts.Need-walk-requires-2 (
-  push-reads.Asked,
-  push-reads.Learnt,
-  can-at-reads.Asked,
-  can-at-reads.Learnt,
-  holds-at-reads.Asked,
-  holds-at-reads.Learnt,
-  walk-below t,
-  walk.Post,
-) (walk-pair-at t) walk-pair.Post
+walk-pair-walk-requires-2 : (t : ℕ)
+    → walk-pair-lts.Need-walk-requires-2 (walk-pair-claims t) (walk-pair-at t) walk-pair.Post
 walk-pair-walk-requires-2 t c κs =
     let at-push = c .before .before .before .before .before .before .before in
     let at-start = at-push .before .before .before .before .before .before in (
@@ -1383,73 +695,30 @@ walk-pair-walk-requires-2 t c κs =
       ),
     )
 
-walk-pair-enum-known-c : (t : ℕ) → walk-pair-lts.Need-enum-known-c (
-  push-reads.Asked,
-  push-reads.Learnt,
-  can-at-reads.Asked,
-  can-at-reads.Learnt,
-  holds-at-reads.Asked,
-  holds-at-reads.Learnt,
-  walk-below t,
-  walk.Post,
-) (walk-pair-at t) walk-pair.Post
+walk-pair-enum-known-c : (t : ℕ)
+    → walk-pair-lts.Need-enum-known-c (walk-pair-claims t) (walk-pair-at t) walk-pair.Post
 walk-pair-enum-known-c t c = search needs
 
-walk-pair-add-walk-5 : (t : ℕ) → walk-pair-lts.Need-add-walk-5 (
-  push-reads.Asked,
-  push-reads.Learnt,
-  can-at-reads.Asked,
-  can-at-reads.Learnt,
-  holds-at-reads.Asked,
-  holds-at-reads.Learnt,
-  walk-below t,
-  walk.Post,
-) (walk-pair-at t) walk-pair.Post
+walk-pair-add-walk-5 : (t : ℕ) → walk-pair-lts.Need-add-walk-5 (walk-pair-claims t) (walk-pair-at t) walk-pair.Post
 walk-pair-add-walk-5 t c =
     let after-can = c .before .before .before .before .before .before .before .before .before .before in
     let at-start = after-can .before .before .before .before .before .before .before .before .before in
     omega (arith, at-start .pre .1 .1 .0 .size, at-start .pre .1 .1 .0 .few, at-start .pre .1 .1 .1 .1)
 
-walk-pair-mul-walk-3 : (t : ℕ) → walk-pair-lts.Need-mul-walk-3 (
-  push-reads.Asked,
-  push-reads.Learnt,
-  can-at-reads.Asked,
-  can-at-reads.Learnt,
-  holds-at-reads.Asked,
-  holds-at-reads.Learnt,
-  walk-below t,
-  walk.Post,
-) (walk-pair-at t) walk-pair.Post
+walk-pair-mul-walk-3 : (t : ℕ) → walk-pair-lts.Need-mul-walk-3 (walk-pair-claims t) (walk-pair-at t) walk-pair.Post
 walk-pair-mul-walk-3 t c =
     let after-can = c .before .before .before .before .before .before .before .before .before .before in
     let at-start = after-can .before .before .before .before .before .before .before .before .before in
     omega (arith, bits-fit (at-start .pre .1 .1 .0) _ _ _ _ _ (at-start .pre .1 .1 .1 .0) (at-start .pre .1 .1 .1 .1))
 
-walk-pair-add-walk-6 : (t : ℕ) → walk-pair-lts.Need-add-walk-6 (
-  push-reads.Asked,
-  push-reads.Learnt,
-  can-at-reads.Asked,
-  can-at-reads.Learnt,
-  holds-at-reads.Asked,
-  holds-at-reads.Learnt,
-  walk-below t,
-  walk.Post,
-) (walk-pair-at t) walk-pair.Post
+walk-pair-add-walk-6 : (t : ℕ) → walk-pair-lts.Need-add-walk-6 (walk-pair-claims t) (walk-pair-at t) walk-pair.Post
 walk-pair-add-walk-6 t c =
     let after-can = c .before .before .before .before .before .before .before .before .before .before in
     let at-start = after-can .before .before .before .before .before .before .before .before .before in
     omega (arith, bits-fit (at-start .pre .1 .1 .0) _ _ _ _ _ (at-start .pre .1 .1 .1 .0) (at-start .pre .1 .1 .1 .1))
 
-walk-pair-walk-requires-3 : (t : ℕ) → walk-pair-lts.Need-walk-requires-3 (
-  push-reads.Asked,
-  push-reads.Learnt,
-  can-at-reads.Asked,
-  can-at-reads.Learnt,
-  holds-at-reads.Asked,
-  holds-at-reads.Learnt,
-  walk-below t,
-  walk.Post,
-) (walk-pair-at t) walk-pair.Post
+walk-pair-walk-requires-3 : (t : ℕ)
+    → walk-pair-lts.Need-walk-requires-3 (walk-pair-claims t) (walk-pair-at t) walk-pair.Post
 walk-pair-walk-requires-3 t c κs =
     let at-walk2 = c .before .before .before .before .before .before in
     let at-if1 = at-walk2 .before .before .before .before in let at-holds-at = at-if1 .before in
@@ -1473,40 +742,14 @@ walk-pair-walk-requires-3 t c κs =
       ),
     )
 
-walk-pair-enum-told : (t : ℕ) → walk-pair-lts.Need-enum-told (
-  push-reads.Asked,
-  push-reads.Learnt,
-  can-at-reads.Asked,
-  can-at-reads.Learnt,
-  holds-at-reads.Asked,
-  holds-at-reads.Learnt,
-  walk-below t,
-  walk.Post,
-) (walk-pair-at t) walk-pair.Post
+walk-pair-enum-told : (t : ℕ) → walk-pair-lts.Need-enum-told (walk-pair-claims t) (walk-pair-at t) walk-pair.Post
 walk-pair-enum-told t c = search needs
 
-walk-pair-same-length-2 : (t : ℕ) → walk-pair-lts.Need-same-length-2 (
-  push-reads.Asked,
-  push-reads.Learnt,
-  can-at-reads.Asked,
-  can-at-reads.Learnt,
-  holds-at-reads.Asked,
-  holds-at-reads.Learnt,
-  walk-below t,
-  walk.Post,
-) (walk-pair-at t) walk-pair.Post
+walk-pair-same-length-2 : (t : ℕ)
+    → walk-pair-lts.Need-same-length-2 (walk-pair-claims t) (walk-pair-at t) walk-pair.Post
 walk-pair-same-length-2 t c = search needs
 
-walk-pair-returns-4 : (t : ℕ) → walk-pair-lts.Need-returns-4 (
-  push-reads.Asked,
-  push-reads.Learnt,
-  can-at-reads.Asked,
-  can-at-reads.Learnt,
-  holds-at-reads.Asked,
-  holds-at-reads.Learnt,
-  walk-below t,
-  walk.Post,
-) (walk-pair-at t) walk-pair.Post
+walk-pair-returns-4 : (t : ℕ) → walk-pair-lts.Need-returns-4 (walk-pair-claims t) (walk-pair-at t) walk-pair.Post
 walk-pair-returns-4 t c =
     let at-walk2 = c .before .before .before .before .before .before .before .before .before in
     let at-if1 = at-walk2 .before .before .before .before in let at-holds-at = at-if1 .before in
@@ -1518,28 +761,11 @@ walk-pair-returns-4 t c =
     (at-walk2 .walk2 .ensures) _ (c .before .before .before .before .before .c .given .1) _ _
     (c .before .before .walk3 .ensures)
 
-walk-pair-same-length-3 : (t : ℕ) → walk-pair-lts.Need-same-length-3 (
-  push-reads.Asked,
-  push-reads.Learnt,
-  can-at-reads.Asked,
-  can-at-reads.Learnt,
-  holds-at-reads.Asked,
-  holds-at-reads.Learnt,
-  walk-below t,
-  walk.Post,
-) (walk-pair-at t) walk-pair.Post
+walk-pair-same-length-3 : (t : ℕ)
+    → walk-pair-lts.Need-same-length-3 (walk-pair-claims t) (walk-pair-at t) walk-pair.Post
 walk-pair-same-length-3 t c = search needs
 
-walk-pair-returns-5 : (t : ℕ) → walk-pair-lts.Need-returns-5 (
-  push-reads.Asked,
-  push-reads.Learnt,
-  can-at-reads.Asked,
-  can-at-reads.Learnt,
-  holds-at-reads.Asked,
-  holds-at-reads.Learnt,
-  walk-below t,
-  walk.Post,
-) (walk-pair-at t) walk-pair.Post
+walk-pair-returns-5 : (t : ℕ) → walk-pair-lts.Need-returns-5 (walk-pair-claims t) (walk-pair-at t) walk-pair.Post
 walk-pair-returns-5 t c =
     let at-if1 = c .before .before .before .before .before .before .before .before in
     let at-holds-at = at-if1 .before in let at-can-at2 = at-holds-at .before in let at-can-at = at-can-at2 .before in
@@ -1549,60 +775,25 @@ walk-pair-returns-5 t c =
     (sym (at-holds-at .holds-at .ensures) ∙ at-if1 .if1 .left) _ (at-push .push .ensures) _ _
     (c .before .before .before .before .walk2 .ensures) (c .enum-told .given .1)
 
-walk-pair-add-walk-7 : (t : ℕ) → walk-pair-lts.Need-add-walk-7 (
-  push-reads.Asked,
-  push-reads.Learnt,
-  can-at-reads.Asked,
-  can-at-reads.Learnt,
-  holds-at-reads.Asked,
-  holds-at-reads.Learnt,
-  walk-below t,
-  walk.Post,
-) (walk-pair-at t) walk-pair.Post
+walk-pair-add-walk-7 : (t : ℕ) → walk-pair-lts.Need-add-walk-7 (walk-pair-claims t) (walk-pair-at t) walk-pair.Post
 walk-pair-add-walk-7 t c =
     let at-start = c .before .before .before .before .before .before .before .before .before .before .before .before
     in omega (arith, at-start .pre .1 .1 .0 .size, at-start .pre .1 .1 .0 .few, at-start .pre .1 .1 .1 .1)
 
-walk-pair-mul-walk-4 : (t : ℕ) → walk-pair-lts.Need-mul-walk-4 (
-  push-reads.Asked,
-  push-reads.Learnt,
-  can-at-reads.Asked,
-  can-at-reads.Learnt,
-  holds-at-reads.Asked,
-  holds-at-reads.Learnt,
-  walk-below t,
-  walk.Post,
-) (walk-pair-at t) walk-pair.Post
+walk-pair-mul-walk-4 : (t : ℕ) → walk-pair-lts.Need-mul-walk-4 (walk-pair-claims t) (walk-pair-at t) walk-pair.Post
 walk-pair-mul-walk-4 t c =
     let at-start = c .before .before .before .before .before .before .before .before .before .before .before .before
     in omega
     (arith, bits-fit (at-start .pre .1 .1 .0) _ _ _ _ _ (at-start .pre .1 .1 .1 .0) (at-start .pre .1 .1 .1 .1))
 
-walk-pair-add-walk-8 : (t : ℕ) → walk-pair-lts.Need-add-walk-8 (
-  push-reads.Asked,
-  push-reads.Learnt,
-  can-at-reads.Asked,
-  can-at-reads.Learnt,
-  holds-at-reads.Asked,
-  holds-at-reads.Learnt,
-  walk-below t,
-  walk.Post,
-) (walk-pair-at t) walk-pair.Post
+walk-pair-add-walk-8 : (t : ℕ) → walk-pair-lts.Need-add-walk-8 (walk-pair-claims t) (walk-pair-at t) walk-pair.Post
 walk-pair-add-walk-8 t c =
     let at-start = c .before .before .before .before .before .before .before .before .before .before .before .before
     in omega
     (arith, bits-fit (at-start .pre .1 .1 .0) _ _ _ _ _ (at-start .pre .1 .1 .1 .0) (at-start .pre .1 .1 .1 .1))
 
-walk-pair-walk-requires-4 : (t : ℕ) → walk-pair-lts.Need-walk-requires-4 (
-  push-reads.Asked,
-  push-reads.Learnt,
-  can-at-reads.Asked,
-  can-at-reads.Learnt,
-  holds-at-reads.Asked,
-  holds-at-reads.Learnt,
-  walk-below t,
-  walk.Post,
-) (walk-pair-at t) walk-pair.Post
+walk-pair-walk-requires-4 : (t : ℕ)
+    → walk-pair-lts.Need-walk-requires-4 (walk-pair-claims t) (walk-pair-at t) walk-pair.Post
 walk-pair-walk-requires-4 t c κs =
     let at-push = c .before .before .before .before .before .before .before in
     let at-start = at-push .before .before .before .before .before .before in (
@@ -1621,28 +812,11 @@ walk-pair-walk-requires-4 t c κs =
       ),
     )
 
-walk-pair-same-length-4 : (t : ℕ) → walk-pair-lts.Need-same-length-4 (
-  push-reads.Asked,
-  push-reads.Learnt,
-  can-at-reads.Asked,
-  can-at-reads.Learnt,
-  holds-at-reads.Asked,
-  holds-at-reads.Learnt,
-  walk-below t,
-  walk.Post,
-) (walk-pair-at t) walk-pair.Post
+walk-pair-same-length-4 : (t : ℕ)
+    → walk-pair-lts.Need-same-length-4 (walk-pair-claims t) (walk-pair-at t) walk-pair.Post
 walk-pair-same-length-4 t c = search needs
 
-walk-pair-returns-6 : (t : ℕ) → walk-pair-lts.Need-returns-6 (
-  push-reads.Asked,
-  push-reads.Learnt,
-  can-at-reads.Asked,
-  can-at-reads.Learnt,
-  holds-at-reads.Asked,
-  holds-at-reads.Learnt,
-  walk-below t,
-  walk.Post,
-) (walk-pair-at t) walk-pair.Post
+walk-pair-returns-6 : (t : ℕ) → walk-pair-lts.Need-returns-6 (walk-pair-claims t) (walk-pair-at t) walk-pair.Post
 walk-pair-returns-6 t c =
     let at-if1 = c .before .before .before .before .before .before in let at-holds-at = at-if1 .before in
     let at-can-at2 = at-holds-at .before in let at-can-at = at-can-at2 .before in let at-push = at-can-at .before in
@@ -1652,60 +826,25 @@ walk-pair-returns-6 t c =
     (sym (at-holds-at .holds-at .ensures) ∙ at-if1 .if1 .left) (c .before .before .before .before .if5 .left) _
     (at-push .push .ensures) _ _ (c .before .before .walk4 .ensures)
 
-walk-pair-add-walk-9 : (t : ℕ) → walk-pair-lts.Need-add-walk-9 (
-  push-reads.Asked,
-  push-reads.Learnt,
-  can-at-reads.Asked,
-  can-at-reads.Learnt,
-  holds-at-reads.Asked,
-  holds-at-reads.Learnt,
-  walk-below t,
-  walk.Post,
-) (walk-pair-at t) walk-pair.Post
+walk-pair-add-walk-9 : (t : ℕ) → walk-pair-lts.Need-add-walk-9 (walk-pair-claims t) (walk-pair-at t) walk-pair.Post
 walk-pair-add-walk-9 t c =
     let at-start = c .before .before .before .before .before .before .before .before .before .before .before .before
     in omega (arith, at-start .pre .1 .1 .0 .size, at-start .pre .1 .1 .0 .few, at-start .pre .1 .1 .1 .1)
 
-walk-pair-mul-walk-5 : (t : ℕ) → walk-pair-lts.Need-mul-walk-5 (
-  push-reads.Asked,
-  push-reads.Learnt,
-  can-at-reads.Asked,
-  can-at-reads.Learnt,
-  holds-at-reads.Asked,
-  holds-at-reads.Learnt,
-  walk-below t,
-  walk.Post,
-) (walk-pair-at t) walk-pair.Post
+walk-pair-mul-walk-5 : (t : ℕ) → walk-pair-lts.Need-mul-walk-5 (walk-pair-claims t) (walk-pair-at t) walk-pair.Post
 walk-pair-mul-walk-5 t c =
     let at-start = c .before .before .before .before .before .before .before .before .before .before .before .before
     in omega
     (arith, bits-fit (at-start .pre .1 .1 .0) _ _ _ _ _ (at-start .pre .1 .1 .1 .0) (at-start .pre .1 .1 .1 .1))
 
-walk-pair-add-walk-10 : (t : ℕ) → walk-pair-lts.Need-add-walk-10 (
-  push-reads.Asked,
-  push-reads.Learnt,
-  can-at-reads.Asked,
-  can-at-reads.Learnt,
-  holds-at-reads.Asked,
-  holds-at-reads.Learnt,
-  walk-below t,
-  walk.Post,
-) (walk-pair-at t) walk-pair.Post
+walk-pair-add-walk-10 : (t : ℕ) → walk-pair-lts.Need-add-walk-10 (walk-pair-claims t) (walk-pair-at t) walk-pair.Post
 walk-pair-add-walk-10 t c =
     let at-start = c .before .before .before .before .before .before .before .before .before .before .before .before
     in omega
     (arith, bits-fit (at-start .pre .1 .1 .0) _ _ _ _ _ (at-start .pre .1 .1 .1 .0) (at-start .pre .1 .1 .1 .1))
 
-walk-pair-walk-requires-5 : (t : ℕ) → walk-pair-lts.Need-walk-requires-5 (
-  push-reads.Asked,
-  push-reads.Learnt,
-  can-at-reads.Asked,
-  can-at-reads.Learnt,
-  holds-at-reads.Asked,
-  holds-at-reads.Learnt,
-  walk-below t,
-  walk.Post,
-) (walk-pair-at t) walk-pair.Post
+walk-pair-walk-requires-5 : (t : ℕ)
+    → walk-pair-lts.Need-walk-requires-5 (walk-pair-claims t) (walk-pair-at t) walk-pair.Post
 walk-pair-walk-requires-5 t c κs =
     let at-push = c .before .before .before .before .before .before .before in
     let at-start = at-push .before .before .before .before .before .before in (
@@ -1724,28 +863,11 @@ walk-pair-walk-requires-5 t c κs =
       ),
     )
 
-walk-pair-same-length-5 : (t : ℕ) → walk-pair-lts.Need-same-length-5 (
-  push-reads.Asked,
-  push-reads.Learnt,
-  can-at-reads.Asked,
-  can-at-reads.Learnt,
-  holds-at-reads.Asked,
-  holds-at-reads.Learnt,
-  walk-below t,
-  walk.Post,
-) (walk-pair-at t) walk-pair.Post
+walk-pair-same-length-5 : (t : ℕ)
+    → walk-pair-lts.Need-same-length-5 (walk-pair-claims t) (walk-pair-at t) walk-pair.Post
 walk-pair-same-length-5 t c = search needs
 
-walk-pair-returns-7 : (t : ℕ) → walk-pair-lts.Need-returns-7 (
-  push-reads.Asked,
-  push-reads.Learnt,
-  can-at-reads.Asked,
-  can-at-reads.Learnt,
-  holds-at-reads.Asked,
-  holds-at-reads.Learnt,
-  walk-below t,
-  walk.Post,
-) (walk-pair-at t) walk-pair.Post
+walk-pair-returns-7 : (t : ℕ) → walk-pair-lts.Need-returns-7 (walk-pair-claims t) (walk-pair-at t) walk-pair.Post
 walk-pair-returns-7 t c =
     let at-if1 = c .before .before .before .before .before .before in let at-holds-at = at-if1 .before in
     let at-can-at2 = at-holds-at .before in let at-can-at = at-can-at2 .before in let at-push = at-can-at .before in
@@ -1755,16 +877,7 @@ walk-pair-returns-7 t c =
     (sym (at-holds-at .holds-at .ensures) ∙ at-if1 .if1 .left) (c .before .before .before .before .before .if4 .left)
     _ (at-push .push .ensures) _ _ (c .before .before .walk5 .ensures)
 
-walk-pair-returns-8 : (t : ℕ) → walk-pair-lts.Need-returns-8 (
-  push-reads.Asked,
-  push-reads.Learnt,
-  can-at-reads.Asked,
-  can-at-reads.Learnt,
-  holds-at-reads.Asked,
-  holds-at-reads.Learnt,
-  walk-below t,
-  walk.Post,
-) (walk-pair-at t) walk-pair.Post
+walk-pair-returns-8 : (t : ℕ) → walk-pair-lts.Need-returns-8 (walk-pair-claims t) (walk-pair-at t) walk-pair.Post
 walk-pair-returns-8 t c =
     let at-start = c .before .before .before .before .before .before .before .before .before .before .before .before
     in pair-no-side (at-start .pre .1 .1 .0) _ _ _ _ _ (at-start .pre .1 .1 .1 .0) (at-start .pre .1 .1 .1 .1)
@@ -1773,29 +886,14 @@ walk-pair-returns-8 t c =
     ∙ c .before .before .if1 .left) (c .before .if4 .left) (c .if6 .left)
 
 pub +walk+walk-leaf+walk-pair-spec : {M : Type 1} → statement M
-+walk+walk-leaf+walk-pair-spec = close μ-walk μ-walk-leaf μ-walk-pair (λ t. walk-lts.spec (
-  put-reads.Asked,
-  put-reads.Learnt,
-  kind-at-reads.Asked,
-  kind-at-reads.Learnt,
-  push-reads.Asked,
-  push-reads.Learnt,
-  walk-below t,
-  walk.Post,
-  walk-pair-below t,
-  walk-pair.Post,
-  walk-leaf-below t,
-  walk-leaf.Post,
-)
-    (walk-at t)
-    walk.Post
++walk+walk-leaf+walk-pair-spec = close μ-walk μ-walk-leaf μ-walk-pair (λ t. walk-lts.spec (walk-claims t) (walk-at t) walk.Post
     (walk-shared-slice-read-n t)
     (walk-put-requires t)
     (walk-same-length t)
     (walk-returns t)
     (walk-mul-w t)
     (walk-shared-slice-read-w t)
-    (walk-kind-at-requires t)
+    (walk-is-pair-requires t)
     (walk-push-requires t)
     (walk-add-walk t)
     (walk-mul-walk t)
@@ -1812,20 +910,7 @@ pub +walk+walk-leaf+walk-pair-spec : {M : Type 1} → statement M
     (walk-walk-leaf-requires t)
     (walk-same-length-5 t)
     (walk-returns-5 t))
-    (λ t. walk-leaf-lts.spec (
-      term-of-reads.Asked,
-      term-of-reads.Learnt,
-      memory-of-reads.Asked,
-      memory-of-reads.Learnt,
-      remember-reads.Asked,
-      remember-reads.Learnt,
-      resolve-at-reads.Asked,
-      resolve-at-reads.Learnt,
-      walk-below t,
-      walk.Post,
-    )
-    (walk-leaf-at t)
-    walk-leaf.Post
+    (λ t. walk-leaf-lts.spec (walk-leaf-claims t) (walk-leaf-at t) walk-leaf.Post
     walk-leaf-Inv-loop
     walk-leaf-μ-loop
     (walk-leaf-mul-w t)
@@ -1855,18 +940,7 @@ pub +walk+walk-leaf+walk-pair-spec : {M : Type 1} → statement M
     (walk-leaf-returns t)
     (walk-leaf-same-length-2 t)
     (walk-leaf-returns-2 t))
-    λ t. walk-pair-lts.spec (
-      push-reads.Asked,
-      push-reads.Learnt,
-      can-at-reads.Asked,
-      can-at-reads.Learnt,
-      holds-at-reads.Asked,
-      holds-at-reads.Learnt,
-      walk-below t,
-      walk.Post,
-    )
-    (walk-pair-at t)
-    walk-pair.Post
+    λ t. walk-pair-lts.spec (walk-pair-claims t) (walk-pair-at t) walk-pair.Post
     (walk-pair-mul-w t)
     (walk-pair-shared-slice-read-w t)
     (walk-pair-push-requires t)

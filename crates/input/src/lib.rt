@@ -1,0 +1,32 @@
+// Standard input, a lent buffer at a time.
+//     fill      a lent buffer, filled with what comes next
+//     fail      the message that it could not be read
+// What one read leaves is decided in `reading`, and there alone a part of a buffer can be made that
+// is the input's last. `specs/Reading.antt` has the definitions.
+mod reading;
+
+pub use reading::Filled;
+pub use reading::Part;
+ghost use lib.ListN.{length};
+ghost use Rattle.input.specs.Reading.{Fills};
+use libc::STDIN_FILENO;
+use reading::Read;
+use reading::after_read;
+
+// Reads until the buffer is full, the input ends or a read fails.
+pub fn fill(buffer: &mut [u8]) -> Filled
+    ensures { λ r. ⌜ Fills (length (now (buffer .exit))) r ⌝ }
+{
+    let mut n = 0;
+    loop {
+        let got = libc::read(STDIN_FILENO, &mut buffer[n..]);
+        match after_read(buffer.len(), n, got) {
+            Read::More(next) => n = next,
+            Read::Done(filled) => return filled,
+        }
+    }
+}
+
+pub fn fail() {
+    os::fail(b"standard input");
+}

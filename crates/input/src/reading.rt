@@ -1,0 +1,64 @@
+// What one read leaves of a buffer that is being filled.
+//     Part, Filled     what a filled buffer holds
+//     after_read       by what `read` answered
+ghost use Prim.Native.Nat.{_≤_};
+ghost use mathlib.Core.Path.{_≡_};
+ghost use Rattle.input.specs.Reading.{afterRead};
+
+// The first `count` bytes of a buffer are the input's. They are its last, or the buffer is full.
+// Only `after_read` makes one: no other code can say that an input ended.
+pub struct Part {
+    count: usize,
+    last: bool,
+}
+
+impl Part {
+    pub fn count(self) -> usize
+        ensures { λ r. ⌜ r ≡ self .count ⌝ }
+    {
+        self.count
+    }
+
+    pub fn last(self) -> bool
+        ensures { λ r. ⌜ r ≡ self .last ⌝ }
+    {
+        self.last
+    }
+}
+
+// What a buffer holds; or that a read failed, and then nothing of it is to be judged.
+pub enum Filled {
+    Bytes(Part),
+    Broken,
+}
+
+// So many bytes stand, and there is room for more; or the buffer is not read into any more.
+pub enum Read {
+    More(usize),
+    Done(Filled),
+}
+
+// Into a buffer of that size, of which n bytes stood, a read answered `got`.
+pub fn after_read(size: usize, n: usize, got: isize) -> Read
+    requires { ⌜ n ≤ size ⌝ }
+    ensures { λ r. ⌜ r ≡ afterRead size n got ⌝ }
+{
+    if got < 0 {
+        return Read::Done(Filled::Broken);
+    }
+    let more = got as usize;
+    if size - n <= more {
+        return Read::Done(Filled::Bytes(Part {
+            count: size,
+            last: false,
+        }));
+    }
+    if more == 0 {
+        return Read::Done(Filled::Bytes(Part {
+            count: n,
+            last: true,
+        }));
+    }
+    let next = n + more;
+    Read::More(next)
+}
