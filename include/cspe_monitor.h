@@ -10,8 +10,8 @@
  * none of them. The library allocates nothing and keeps nothing between calls, so calls on different buffers may run
  * at the same time.
  *
- * Stack. Where a table's ways through choices and calls are short, 44 KiB were measured, and up to 425 KiB where they
- * are as long as can be (tools/stack). No proof bounds it; a thread with 512 KiB has room.
+ * Stack. 44 KiB were measured on most tables, and 51 KiB where the ways through choices, calls and parallels are long
+ * (tools/stack). No proof bounds it; a thread with 96 KiB has room.
  *
  * What is returned. Each function but cspe_view returns the refusal's number, 0 where there is none (enum
  * cspe_refusal). One more word is written through the last pointer on every call: the result, the

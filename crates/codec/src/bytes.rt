@@ -6,7 +6,7 @@ ghost use Prim.Native.Nat.{ℕ, _+_, _≤_};
 ghost use lib.ListN.{length, take, drop};
 ghost use mathlib.Core.List.{_++_};
 ghost use Rattle.numbers.specs.Number.{listBytes};
-ghost use Rattle.table.specs.Judging.{Decoding};
+ghost use Rattle.table_index.specs.Judging.{Decoding};
 
 // How many numbers were read, the place after them, and whether a number stands there that is not
 // well written.

@@ -3,13 +3,13 @@ use crate::bytes::Decoded;
 use crate::bytes::decode;
 use crate::clear::clear_numbers;
 use judge::byte_place;
-use judge::clear_words;
+use slots::clear_all;
 use table::Answer;
 use table::Judged;
 use table::Refusal;
 ghost use mathlib.Core.Path.{_≡_};
 ghost use lib.ListN.{length};
-ghost use Rattle.table.specs.BytesRefused.Judged.{Within, BytesDeclined, BytesJudged};
+ghost use Rattle.table_index.specs.BytesJudged.{Within, BytesDeclined, BytesJudged};
 ghost use Rattle.table.specs.Operations.{readOf};
 ghost use Rattle.table.specs.Answers.{outcome, ReadSaid};
 
@@ -129,6 +129,6 @@ pub fn read(bytes: &[u8], out: &mut [u16], work: &mut [u64]) -> Answer
         });
     }
     let answer = read_bytes(bytes, out, work);
-    clear_words(work);
+    clear_all(work);
     answer
 }

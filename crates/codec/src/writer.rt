@@ -2,7 +2,7 @@
 use crate::bytes::encode;
 use judge::byte_place;
 use judge::check_list;
-use judge::clear_words;
+use slots::clear_all;
 use table::Answer;
 use table::Judged;
 use table::Refusal;
@@ -45,6 +45,6 @@ pub fn write(list: &[u16], out: &mut [u8], work: &mut [u64]) -> Answer
         });
     }
     let answer = write_list(list, out, work);
-    clear_words(work);
+    clear_all(work);
     answer
 }

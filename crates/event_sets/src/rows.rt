@@ -4,12 +4,12 @@ use table::Place;
 use table::Refusal;
 use table::Row;
 use table::SetEnd;
-use table::layout;
+use table_index::layout;
 ghost use mathlib.Core.Path.{_≡_};
 ghost use Prim.Native.Nat.{ℕ, _+_, _*_, _<_, _≤_, _^_};
 ghost use lib.ListN.{length};
-ghost use Rattle.table.specs.Layout.{rowsMost};
-ghost use Rattle.table.specs.Parse.{rowCount, RowRead, RowsRead, SetRead, SetsRead};
+ghost use Rattle.table_index.specs.Layout.{rowsMost};
+ghost use Rattle.table_index.specs.Parse.{rowCount, RowRead, RowsRead, SetRead, SetsRead};
 
 // 2 to the power of an event.
 fn power(e: u16) -> u64

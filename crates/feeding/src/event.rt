@@ -1,15 +1,23 @@
 // One event (document 01, "Operations": "each event fills the other and zeroes the first"; refusals
 // 11 to 13). The promises are in `specs/Feeding.antt`.
 ghost use mathlib.Core.Path.{_≡_};
-ghost use Prim.Native.Nat.{_<_};
 ghost use lib.ListN.{length};
-ghost use Rattle.table.specs.Index.{tableIn, Indexed};
+ghost use Rattle.table_index.specs.Index.{tableIn, Indexed};
+ghost use Rattle.monitor_spec.specs.State.{slotCount};
 ghost use Rattle.state.specs.Record.{monitorOf};
-ghost use Rattle.feeding.specs.Feeding.{Holding, Standing, Advanced, Moved, TakenBy};
+ghost use Rattle.step_laws.specs.Holds.{AreaHolds, heldIn};
+ghost use Rattle.feeding.specs.Feeding.{Empty, NextBy, Holding, Standing, Advanced};
+ghost use Rattle.feeding.specs.Feeding.{Moved, TakenBy};
+use set_step::Held;
 use state::State;
 use state::clear_all;
 use state::clear_first;
-use step::Held;
+
+// How many residuals there are after an event, or the number of a refusal.
+pub enum Next {
+    Count(usize),
+    Refused(u8),
+}
 
 // The record after an event, or the number of a refusal.
 pub enum Taken {
@@ -17,60 +25,96 @@ pub enum Taken {
     Stopped(u8),
 }
 
-// Fills the other area with the residuals after event e, and zeroes the words in use of the present
-// one; where they exceed the slots, both areas are as they were.
-fn advance(
+// Fills the destination, which is zero, with the residuals after event e of those that the source
+// holds; so many events were taken before. The destination's slots are the most that there may be.
+// Where the event is refused it is zero again. The store is for a step's own use.
+pub fn next_set(
     list: &[u16],
     work: &[u64],
-    e: u64,
+    e: u8,
+    taken: u64,
+    source: &[u64],
     count: usize,
-    present: &mut [u64],
-    other: &mut [u64],
+    destination: &mut [u64],
     store: &mut [u64],
-) -> Held
+) -> Next
     requires { ⌜ Indexed (now list) (now work) ⌝ }
-    requires { ⌜ Holding (tableIn (now list)) (now present) (now other) count ⌝ }
-    requires { ⌜ (e < tableIn (now list) .alphabet) × (length (now store) ≡ 4112) ⌝ }
+    requires { ⌜ AreaHolds (tableIn (now list)) (now source) count ⌝ }
+    requires { ⌜ Empty (now destination) × (length (now store) ≡ 4112) ⌝ }
     ensures { λ r.
-        ⌜ Advanced (tableIn (now (list .entry))) e count
-        (now (present .entry)) (now (other .entry))
-        r (now (present .exit)) (now (other .exit)) ⌝ }
+        ⌜ NextBy (tableIn (now (list .entry))) (slotCount (now (destination .entry))) taken
+        (heldIn (tableIn (now (list .entry))) (now (source .entry)) count) e
+        r (now (destination .exit)) ⌝ }
 {
-    match step::step_set(list, work, e, present, count, store, other) {
-        Held::Count(c) => {
-            clear_first(present, count * 16);
-            Held::Count(c)
-        }
+    let event = e as u64;
+    if index::alphabet(list, work) <= event {
+        return Next::Refused(11);
+    }
+    if taken == 18446744073709551615 {
+        return Next::Refused(12);
+    }
+    match set_step::step_set(list, work, event, source, count, store, destination) {
+        Held::Count(c) => Next::Count(c),
         Held::Exceeded => {
-            clear_all(other);
-            Held::Exceeded
+            clear_all(destination);
+            Next::Refused(13)
         }
     }
 }
 
-// The same, where the present area is the one that the parity of the events taken says.
-fn advance_present(
+// Fills the other area with the residuals after event e, and zeroes the words in use of the present
+// one; where the event is refused, both areas are as they were.
+pub fn advance(
     list: &[u16],
     work: &[u64],
-    e: u64,
+    e: u8,
+    taken: u64,
+    count: usize,
+    present: &mut [u64],
+    other: &mut [u64],
+    store: &mut [u64],
+) -> Next
+    requires { ⌜ Indexed (now list) (now work) ⌝ }
+    requires { ⌜ Holding (tableIn (now list)) (now present) (now other) count ⌝ }
+    requires { ⌜ length (now store) ≡ 4112 ⌝ }
+    ensures { λ r.
+        ⌜ Advanced (tableIn (now (list .entry))) e taken count
+        (now (present .entry)) (now (other .entry))
+        r (now (present .exit)) (now (other .exit)) ⌝ }
+{
+    match next_set(list, work, e, taken, present, count, other, store) {
+        Next::Count(c) => {
+            clear_first(present, count * 16);
+            Next::Count(c)
+        }
+        Next::Refused(number) => Next::Refused(number),
+    }
+}
+
+// The same, where the present area is the one that the parity of the events taken says.
+pub fn advance_present(
+    list: &[u16],
+    work: &[u64],
+    e: u8,
     state: State,
     area0: &mut [u64],
     area1: &mut [u64],
     store: &mut [u64],
-) -> Held
+) -> Next
     requires { ⌜ Indexed (now list) (now work) ⌝ }
     requires { ⌜ Standing (tableIn (now list)) (monitorOf state (now area0) (now area1)) ⌝ }
-    requires { ⌜ (e < tableIn (now list) .alphabet) × (length (now store) ≡ 4112) ⌝ }
+    requires { ⌜ length (now store) ≡ 4112 ⌝ }
     ensures { λ r.
         ⌜ Moved (tableIn (now (list .entry)))
         (monitorOf state (now (area0 .entry)) (now (area1 .entry))) e
         r (now (area0 .exit)) (now (area1 .exit)) ⌝ }
 {
+    let taken = state.taken;
     let count = state.count as usize;
-    if state.taken % 2 == 0 {
-        return advance(list, work, e, count, area0, area1, store);
+    if taken % 2 == 0 {
+        return advance(list, work, e, taken, count, area0, area1, store);
     }
-    advance(list, work, e, count, area1, area0, store)
+    advance(list, work, e, taken, count, area1, area0, store)
 }
 
 // Takes one event, or refuses it and keeps the areas. The store is for a step's own use.
@@ -91,15 +135,8 @@ pub fn take_event(
         (monitorOf state (now (area0 .entry)) (now (area1 .entry))) e
         r (now (area0 .exit)) (now (area1 .exit)) ⌝ }
 {
-    let event = e as u64;
-    if index::alphabet(list, work) <= event {
-        return Taken::Stopped(11);
-    }
-    if state.taken == 18446744073709551615 {
-        return Taken::Stopped(12);
-    }
-    match advance_present(list, work, event, state, area0, area1, store) {
-        Held::Count(c) => Taken::Went(state.after(c as u64)),
-        Held::Exceeded => Taken::Stopped(13),
+    match advance_present(list, work, e, state, area0, area1, store) {
+        Next::Count(c) => Taken::Went(state.after(c as u64)),
+        Next::Refused(number) => Taken::Stopped(number),
     }
 }

@@ -1,20 +1,17 @@
 // Feed (document 01, "Operations", "When the monitor declines"): what it comes to is `feedOf` of
 // crate monitor_spec.
 ghost use mathlib.Core.Path.{_≡_};
-ghost use mathlib.Core.Bool.{true};
-ghost use Rattle.table.specs.Index.{tableIn, Indexed};
-ghost use Rattle.monitor_spec.specs.State.{areasMeasured};
+ghost use Rattle.table_index.specs.Index.{tableIn, Indexed};
 ghost use Rattle.monitor_spec.specs.Feed.{feedOf};
 ghost use Rattle.state.specs.Record.{monitorOf};
 ghost use Rattle.state.specs.Answers.{outcome};
-ghost use Rattle.feeding.specs.Feeding.{Standing, EndedBy, FedBy};
+ghost use Rattle.feeding.specs.Feeding.{Standing, EndedBy};
 use crate::event::Taken;
 use crate::event::take_event;
+use entering::enter_on;
 use state::Answer;
 use state::State;
 use state::clear_all;
-use state::consistent;
-use state::lengths_fit;
 use table::Judged;
 use table::Refusal;
 
@@ -51,31 +48,6 @@ fn take_all(
     Answer::Given(reached)
 }
 
-// On an accepted table, whose index stands in the work area.
-fn feed_accepted(
-    list: &[u16],
-    work: &[u64],
-    state: State,
-    area0: &mut [u64],
-    area1: &mut [u64],
-    events: &[u8],
-) -> Answer
-    requires { ⌜ Indexed (now list) (now work) ⌝ }
-    requires { ⌜ areasMeasured (now area0) (now area1) ≡ true ⌝ }
-    ensures { λ r.
-        ⌜ FedBy (tableIn (now (list .entry)))
-        (monitorOf state (now (area0 .entry)) (now (area1 .entry))) (now (events .entry))
-        r (now (area0 .exit)) (now (area1 .exit)) ⌝ }
-{
-    if !consistent(list, work, state, area0, area1) {
-        return Answer::Refused(Refusal {
-            number: 10,
-            place: 0,
-        });
-    }
-    take_all(list, work, state, area0, area1, events)
-}
-
 // Takes events: the record after them, or a refusal.
 pub fn feed(
     list: &[u16],
@@ -91,15 +63,9 @@ pub fn feed(
         (monitorOf state (now (area0 .entry)) (now (area1 .entry)))
         (now (events .entry)) (now (work .entry)) ⌝ }
 {
-    if !lengths_fit(area0.len(), area1.len(), work.len()) {
-        return Answer::Refused(Refusal {
-            number: 1,
-            place: 0,
-        });
-    }
-    match judge::check(list, work) {
+    match enter_on(list, state, area0, area1, work) {
         Judged::Accepted => {
-            let answer = feed_accepted(list, work, state, area0, area1, events);
+            let answer = take_all(list, work, state, area0, area1, events);
             clear_all(work);
             answer
         }

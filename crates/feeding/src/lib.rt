@@ -3,4 +3,10 @@
 mod event;
 mod feeder;
 
+pub use event::Next;
+pub use event::Taken;
+pub use event::advance;
+pub use event::advance_present;
+pub use event::next_set;
+pub use event::take_event;
 pub use feeder::feed;

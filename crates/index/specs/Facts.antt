@@ -17,12 +17,12 @@ use Rattle.table.specs.Table.{SetRef, fixed, family, Term, stop, fail, prefix, 
 use Rattle.table.specs.Table.{Table, termCount, bodyNumber, enclosing}
 use Rattle.table.specs.Context.{Each}
 use Rattle.table.specs.Fields.{Fields, OfRef, RefExists, ParamSmall}
-use Rattle.table.specs.References.Nodes.{node-links}
+use Rattle.table_index.specs.References.Nodes.{node-links}
 use Rattle.table.specs.Width.{reach}
 use Rattle.table.specs.Width.Reach.{bodies-all}
 use Rattle.table.specs.Branches.{branches, bodyIn}
 use Rattle.table.specs.Branches.Capped.{capped}
-use Rattle.table.specs.Resolve.Laws.{reach-most}
+use Rattle.table.specs.Width.Reach.{reach-most}
 use Rattle.table.specs.Rules.{Rules}
 use Rattle.table.specs.Rules.Laws.{no-wrong}
 use Rattle.table.specs.Judge.Laws.{list-out}
@@ -31,10 +31,10 @@ use Rattle.table.specs.Node.Parts.{size-positive}
 use Rattle.table.specs.Node.Laws.{body-node, each-node, node-fits, spot-of}
 use Rattle.table.specs.Node.Numbers.{enclosing-at}
 use Rattle.table.specs.Member.{rowOf}
-use Rattle.table.specs.Layout.{termsAt, bodiesAt, alphabetAt, definitionCountAt, termCountAt, kindDigit}
-use Rattle.table.specs.Layout.{parameterDigit, prefixesDigit, rightDigit, targetDigit, reachDigit, branchesDigit}
-use Rattle.table.specs.Index.{targetOf, firstRow, Indexed, tableIn}
-use Rattle.table.specs.Index.Laws.{Digits, digits, left-inside}
+use Rattle.table_index.specs.Layout.{termsAt, bodiesAt, alphabetAt, definitionCountAt, termCountAt, kindDigit}
+use Rattle.table_index.specs.Layout.{parameterDigit, prefixesDigit, rightDigit, targetDigit, reachDigit, branchesDigit}
+use Rattle.table_index.specs.Index.{targetOf, firstRow, Indexed, tableIn}
+use Rattle.table_index.specs.Index.Laws.{Digits, digits, left-inside}
 use Rattle.index.specs.Rows.{RowAt, fixed-row, family-row}
 
 pub indexed-rules : {l w : List ℕ} → Indexed l w → Rules (tableIn l)

@@ -21,8 +21,8 @@ use Rattle.table.specs.Table.{SetRef, fixed, family, SetDef, one, each, Table}
 use Rattle.table.specs.Fields.{Ascending, EachRow, FamilyRows, IsOne, IsEach, RefExists, Fields}
 use Rattle.table.specs.Node.{setOf, parameterOf}
 use Rattle.table.specs.Member.{elem, rowIn, rowOf}
-use Rattle.table.specs.Layout.{rowsMost}
-use Rattle.table.specs.Index.{maskOf, setMasks, firstRow, SetsIndexed}
+use Rattle.table_index.specs.Layout.{rowsMost}
+use Rattle.table_index.specs.Index.{maskOf, setMasks, firstRow, SetsIndexed}
 
 -- ---- masks
 

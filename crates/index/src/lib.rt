@@ -1,7 +1,7 @@
 // The index of an accepted table: what the monitor asks of it. Each function needs the list whose
 // table was judged and the work area in which `check` left its index; it says what the abstract
 // table of the list has.
-use table::layout;
+use table_index::layout;
 ghost use mathlib.Core.Path.{_≡_};
 ghost use mathlib.Core.Logic.{_⊎_};
 ghost use Prim.Native.Nat.{ℕ, _+_, _/_, _%_, _^_, _<_, _≤_};
@@ -13,7 +13,7 @@ ghost use Rattle.table.specs.Branches.{branches as branchesOf};
 ghost use Rattle.table.specs.Branches.Capped.{capped};
 ghost use Rattle.table.specs.Node.{termOf, kindOf, leftSize, calledOf, refOf, parameterOf};
 ghost use Rattle.table.specs.Member.{inRow};
-ghost use Rattle.table.specs.Index.{tableIn, Indexed};
+ghost use Rattle.table_index.specs.Index.{tableIn, Indexed};
 
 // The alphabet size.
 pub fn alphabet(list: &[u16], work: &[u64]) -> u64

@@ -1,15 +1,15 @@
 // Branches of terms (document 01: openings), counted up to 257: refusal 9.
 use table::First;
-use table::layout;
+use table_index::layout;
 ghost use mathlib.Core.Path.{_≡_};
 ghost use mathlib.Core.Option.{none};
 ghost use Prim.Native.Nat.{_+_, _*_, min};
 ghost use Rattle.table.specs.References.{firstWrong};
-ghost use Rattle.table.specs.Index.{tableIn, Reaching};
-ghost use Rattle.table.specs.Judging.{Judging, ExcessDone};
-ghost use Rattle.table.specs.Filling.{BranchesAsked, BranchesGiven, FillAsked};
-ghost use Rattle.table.specs.Filling.{BranchesFilled, AllAsked, AllDone};
-ghost use Rattle.table.specs.Filling.{ExcessAsked, exceeds};
+ghost use Rattle.table_index.specs.Index.{tableIn, Reaching};
+ghost use Rattle.table_index.specs.Judging.{Judging, ExcessDone};
+ghost use Rattle.table_index.specs.Filling.{BranchesAsked, BranchesGiven, FillAsked};
+ghost use Rattle.table_index.specs.Filling.{BranchesFilled, AllAsked, AllDone};
+ghost use Rattle.table_index.specs.Filling.{ExcessAsked, exceeds};
 
 // a + b, or 257 where that is more than 256
 fn sum_capped(a: u64, b: u64) -> u64

@@ -1,16 +1,16 @@
 // The judging of a number list: refusals 3, 5, 6, 7, 8, 9, and 2 after them.
 use crate::branches::first_excess;
-use crate::clear::clear_words;
 use crate::places::byte_place;
 use crate::references::first_bad_reference;
 use crate::widths::first_wide_level;
+use slots::clear_all;
 use table::First;
 use table::Judged;
 use table::Refusal;
 ghost use mathlib.Core.Path.{_≡_};
 ghost use lib.ListN.{length};
-ghost use Rattle.table.specs.Parse.{Whole};
-ghost use Rattle.table.specs.Judging.{JudgeDone, CheckDone, Checked};
+ghost use Rattle.table_index.specs.Parse.{Whole};
+ghost use Rattle.table_index.specs.Judging.{JudgeDone, CheckDone, Checked};
 
 // Refusals 7, 8 and 9 of a parsed table.
 fn judge_parsed(list: &[u16], work: &mut [u64]) -> Judged
@@ -74,7 +74,7 @@ pub fn check(list: &[u16], work: &mut [u64]) -> Judged
     match check_list(list, work) {
         Judged::Accepted => Judged::Accepted,
         Judged::Declined(r) => {
-            clear_words(work);
+            clear_all(work);
             Judged::Declined(r)
         }
     }

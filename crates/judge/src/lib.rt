@@ -4,7 +4,6 @@
 // judgement, `specs/Index.antt` for the index, `specs/Judging.antt` for what the code promises.
 mod branches;
 mod checker;
-mod clear;
 mod places;
 mod references;
 mod widths;
@@ -12,5 +11,4 @@ mod widths;
 pub use checker::check;
 pub use checker::check_list;
 pub use checker::judge;
-pub use clear::clear_words;
 pub use places::byte_place;

@@ -1,17 +1,17 @@
 // The rules on references: refusal 7.
 use table::First;
-use table::layout;
+use table_index::layout;
 ghost use mathlib.Core.Path.{_≡_};
 ghost use Prim.Native.Nat.{_<_};
 ghost use lib.ListN.{length};
 ghost use Rattle.table.specs.Table.{termCount};
 ghost use Rattle.table.specs.References.{firstWrong};
-ghost use Rattle.table.specs.References.Words.{wordFits, badReference};
-ghost use Rattle.table.specs.Layout.{ownDigit};
+ghost use Rattle.table_index.specs.References.Words.{wordFits, badReference};
+ghost use Rattle.table_index.specs.Layout.{ownDigit};
 ghost use Rattle.table.specs.Node.{termOf};
-ghost use Rattle.table.specs.Index.{tableIn};
-ghost use Rattle.table.specs.Index.Heads.{headLength, headsBefore};
-ghost use Rattle.table.specs.Judging.{Judging, firstOf};
+ghost use Rattle.table_index.specs.Index.{tableIn};
+ghost use Rattle.table_index.specs.Index.Heads.{headLength, headsBefore};
+ghost use Rattle.table_index.specs.Judging.{Judging, firstOf};
 
 // Whether the call with this word keeps the rules.
 fn call_fits(list: &[u16], work: &[u64], w: u64) -> bool

@@ -1,15 +1,15 @@
 // Widths of levels (document 01: hands): refusal 8; and the reach of terms.
 use table::First;
-use table::layout;
+use table_index::layout;
 ghost use mathlib.Core.Path.{_≡_};
 ghost use mathlib.Core.Option.{none};
 ghost use Prim.Native.Nat.{_<_, max};
 ghost use lib.ListN.{length};
 ghost use Rattle.table.specs.References.{firstWrong};
-ghost use Rattle.table.specs.Index.{tableIn};
-ghost use Rattle.table.specs.Judging.{Judging, WideDone};
-ghost use Rattle.table.specs.Filling.{storedCall, WidthAsked, WidthGiven, WidthsAsked};
-ghost use Rattle.table.specs.Filling.{WidthsFilled, LevelAsked, BodyDone, LevelDone};
+ghost use Rattle.table_index.specs.Index.{tableIn};
+ghost use Rattle.table_index.specs.Judging.{Judging, WideDone};
+ghost use Rattle.table_index.specs.Filling.{storedCall, WidthAsked, WidthGiven, WidthsAsked};
+ghost use Rattle.table_index.specs.Filling.{WidthsFilled, LevelAsked, BodyDone, LevelDone};
 
 fn larger(a: u64, b: u64) -> u64
     ensures { λ r. ⌜ r ≡ max a b ⌝ }

@@ -20,19 +20,24 @@ use Rattle.table.specs.Judge.{unlessMet, placed, judgeRead, judge, judgeBytes, 
 use Rattle.table.specs.Memory.{digit, remember}
 use Rattle.table.specs.Member.{elem, rowIn, rowOf, inRow, recalled, member}
 use Rattle.meaning.specs.Figure1.{bodyCount}
-use Rattle.monitor_spec.specs.Residual.{pairs, resolveIn, resolveDef, resolve, afterLeaf, afterPair, after, afterAll}
-use Rattle.monitor_spec.specs.Residual.{run}
-use Rattle.monitor_spec.specs.Residual.{fromDefinition, residualsOf}
-use Rattle.monitor_spec.specs.Slots.{pack, termOfWord, memoryOf, nodes, slotOf, compareWords, insertSorted, canon, slotsOf}
+use Rattle.residuals.specs.Residual.{pairs, resolveIn, resolveDef, resolve, afterLeaf, afterPair, after, afterAll}
+use Rattle.residuals.specs.Residual.{run}
+use Rattle.residuals.specs.Residual.{fromDefinition, residualsOf}
+use Rattle.node_word.specs.Word.{digitBits, digitBound, pack, termOfWord, memoryOf}
+use Rattle.residuals.specs.Keep.{keep}
+use Rattle.residuals.specs.Slots.{nodes, slotOf, compareWords, insertSorted, canon, slotsOf}
 use Rattle.monitor_spec.specs.Valid.{joinTrees, plant, plantWord, forest, oneTree, slotResidual, held, digitFits}
 use Rattle.monitor_spec.specs.Valid.{memoryFits, memoriesFit, reachAt, reachSum, validSlot}
-use Rattle.monitor_spec.specs.State.{areasMeasured, workMeasured, slotCount, even, choose, chunks, fill}
+use Rattle.monitor_spec.specs.State.{nextVerdict, freshState, stateAfter, areasMeasured, workMeasured, slotCount}
+use Rattle.monitor_spec.specs.State.{counted, holding}
+use Rattle.monitor_spec.specs.State.{even, choose, chunks, fill}
 use Rattle.monitor_spec.specs.Consistent.{every, allZero, ascendsFrom, ascends, verdictFits, recordFits, areaFits}
 use Rattle.monitor_spec.specs.Consistent.{consistent}
+use Rattle.monitor_spec.specs.Entering.{measuring, judging, entrance, agreeing, entranceOn, entering, refusing}
 use Rattle.monitor_spec.specs.Fold.{through}
-use Rattle.monitor_spec.specs.Feed.{presentSlots, nextSlots, nextVerdict, taking, takeEvent, endingOf, refusing}
-use Rattle.monitor_spec.specs.Feed.{feedAccepted, feedJudged, feedOf}
-use Rattle.monitor_spec.specs.Start.{startAccepted, startJudged, startOf}
+use Rattle.monitor_spec.specs.Feed.{presentSlots, nextSlots, taking, eventRefused, takeEvent, endingOf}
+use Rattle.monitor_spec.specs.Feed.{feedOf}
+use Rattle.monitor_spec.specs.Start.{startAccepted, startOf}
 use Rattle.line_spec.specs.Line.{cut, headBy, headOf, verdictLine, stateLine, answerLine, fresh, monitorLeft}
 use Rattle.line_spec.specs.Line.{startedBy}
 use Rattle.line_spec.specs.Line.{startedLine, readLine, headLine, lineOf}
@@ -48,13 +53,14 @@ unfolding flatMap size sizes bodyOf bodyNumber termIn termOfDefs termAt prefixes
     branchesWith branchesAt bodyIn nextBranches allBranches followerAbove bodyAbove tooManyBranches
     unlessMet placed judgeRead judge sized judgeList digit remember elem rowIn rowOf inRow recalled member bodyCount
     pairs resolveIn resolveDef resolve afterLeaf afterPair after afterAll run fromDefinition residualsOf
-    pack termOfWord memoryOf nodes slotOf compareWords insertSorted canon slotsOf
+    digitBits digitBound pack termOfWord memoryOf keep nodes slotOf compareWords insertSorted canon slotsOf
     joinTrees plant plantWord forest oneTree slotResidual held digitFits memoryFits memoriesFit reachAt reachSum
     validSlot
     areasMeasured workMeasured slotCount even choose chunks flatten fill
     every allZero ascendsFrom ascends verdictFits recordFits areaFits consistent through
-    presentSlots nextSlots nextVerdict taking takeEvent endingOf refusing feedAccepted feedJudged feedOf
-    startAccepted startJudged startOf
+    presentSlots nextSlots nextVerdict counted holding freshState stateAfter
+    taking eventRefused takeEvent endingOf feedOf
+    measuring judging entrance agreeing entranceOn entering refusing startAccepted startOf
     carry later scanWith readNumber byteToken byteTokensWith byteTokens judgeBytes
     cut headBy headOf verdictLine stateLine answerLine fresh monitorLeft startedBy startedLine readLine headLine lineOf
     drawn Rows

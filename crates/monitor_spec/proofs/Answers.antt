@@ -17,9 +17,11 @@ use Rattle.monitor_spec.specs.Fold.{Ended, through, took}
 use Rattle.monitor_spec.specs.Fold.Laws.{through-stops, took-then, took-took, none-took, some-stopped}
 use Rattle.monitor_spec.specs.State.{State, Monitor, given, refused, stopped, Outcome}
 use Rattle.monitor_spec.specs.State.{workMeasured, slotCount, laid}
-use Rattle.monitor_spec.specs.Feed.{takeEvent, endingOf, refusing, feedOf}
+use Rattle.monitor_spec.specs.Entering.{refusing}
+use Rattle.monitor_spec.specs.Feed.{takeEvent, endingOf, feedOf}
 use Rattle.monitor_spec.specs.Joined.{extend}
 use Rattle.monitor_spec.specs.Expected.{verdictOf, monitorAfter}
+use Rattle.monitor_spec.specs.Expected.Records.{record-verdict}
 use Rattle.monitor_spec.specs.Expected.Steps.{Fed}
 use Rattle.monitor_spec.specs.History.{Leaves}
 use Rattle.monitor_spec.specs.History.Laws.{extends, measured, feed-refused, feed-goes}
@@ -212,6 +214,7 @@ module _ (t : Table) (regular : Regular t) (n : ℕ) (s : List ℕ) (fed : Fed t
         let (h, x) = gives-to r e in
         ap (λ (z : State). z .verdict)
         (given-same r (monitorAfter t n (s ++ es) .state) (sym e ∙ gives-from (T-true (workMeasured w) h) x))
+        ∙ record-verdict t (s ++ es)
 
 -- ---- demand 2: one list fed to a fresh monitor
 

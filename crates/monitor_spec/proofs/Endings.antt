@@ -18,7 +18,8 @@ use Rattle.monitor_spec.specs.State.{State, Monitor, given, stopped}
 use Rattle.monitor_spec.specs.Feed.{takeEvent, endingOf}
 use Rattle.monitor_spec.specs.Joined.{residualCount}
 use Rattle.monitor_spec.specs.Expected.{monitorAfter}
-use Rattle.monitor_spec.specs.Expected.Steps.{Fed, length-snoc, sift, take-sifts}
+use Rattle.monitor_spec.specs.Expected.Records.{length-snoc}
+use Rattle.monitor_spec.specs.Expected.Steps.{Fed, sift, take-sifts}
 use Rattle.monitor_spec.specs.Stops.{Stops, unknown, full, exceeded}
 
 pub T-true : (b : Bool) → T b → b ≡ true

@@ -11,44 +11,43 @@ use Rattle.table.specs.Judge.{accepted, declined, judgeList}
 use Rattle.table.specs.Operations.{zeros}
 use Rattle.monitor_spec.specs.Fold.{Ended, through}
 use Rattle.monitor_spec.specs.State.{Monitor, Answer, refused, Outcome}
-use Rattle.monitor_spec.specs.Feed.{takeEvent, endingOf, refusing, feedAccepted, feedJudged, feedOf}
+use Rattle.monitor_spec.specs.Entering.{refusing}
+use Rattle.monitor_spec.specs.Feed.{takeEvent, endingOf, feedOf}
+use Rattle.monitor_spec.specs.Feed.Laws.{feed-shut, feed-admits}
 use Rattle.monitor_spec.specs.Refusals.{CallRefused, WorkLeft}
 use Rattle.monitor_spec.proofs.Endings.{none-answer, some-answer}
-use Rattle.monitor_spec.proofs.Gate.{measured-in, unmeasured-in, Lent, Held}
-use Rattle.monitor_spec.proofs.Gate.{held-in, unheld-in, Gate, shut-1, shut-table, shut-10, clear, gate}
+use Rattle.monitor_spec.proofs.Gate.{Lent, Held, entrance-1, entrance-table, entrance-10, entrance-open}
+use Rattle.monitor_spec.proofs.Gate.{Gate, shut-1, shut-table, shut-10, clear, gate}
 use Rattle.monitor_spec.proofs.Gate.{refused-exactly}
 use Rattle.monitor_spec.proofs.Forms.{refused-same, refused-given, refused-stopped}
 
 module _ (l : List ℕ) (m : Monitor) (es w : List ℕ) where
   -- ---- the whole outcome
 
-  pub on-1 : (Lent l m w → ⊥) → feedOf l m es w ≡ refusing 1 0 m w
-  unfolding feedOf
-  on-1 x = rw (unmeasured-in (m .area0) (m .area1) w x, feedOf)
+  abbrev A : List ℕ
+  A = m .area0
 
-  on-table : Lent l m w → (n p : ℕ) → judgeList l ≡ declined n p → feedOf l m es w ≡ refusing n p m (zeros (length w))
-  unfolding feedOf feedJudged
-  on-table x n p d = rw (measured-in (m .area0) (m .area1) w x, d, feedOf)
+  abbrev B : List ℕ
+  B = m .area1
 
-  on-accepted : Lent l m w → (ns : List ℕ) (t : Table) → judgeList l ≡ accepted ns t
-      → feedOf l m es w ≡ feedAccepted t m es w
-  unfolding feedOf feedJudged
-  on-accepted x ns t d = rw (measured-in (m .area0) (m .area1) w x, d, feedOf)
+  pub on-1 : (Lent l m w → ⊥) → feedOf l m es w ≡ refusing A B 1 0 w
+  on-1 x = feed-shut l m es w 1 0 w (entrance-1 l m w x)
+
+  on-table : Lent l m w → (n p : ℕ) → judgeList l ≡ declined n p → feedOf l m es w ≡ refusing A B n p (zeros (length w))
+  on-table x n p d = feed-shut l m es w n p (zeros (length w)) (entrance-table l m w x n p d)
 
   on-10 : Lent l m w → (ns : List ℕ) (t : Table) → judgeList l ≡ accepted ns t → (Held l m w t → ⊥)
-      → feedOf l m es w ≡ refusing 10 0 m (zeros (length w))
-  unfolding feedAccepted
-  on-10 x ns t d h = on-accepted x ns t d ∙ rw (unheld-in l m w x ns t d h, feedAccepted)
+      → feedOf l m es w ≡ refusing A B 10 0 (zeros (length w))
+  on-10 x ns t d h = feed-shut l m es w 10 0 (zeros (length w)) (entrance-10 l m w x ns t d h)
 
   pub on-open : Lent l m w → (ns : List ℕ) (t : Table) → judgeList l ≡ accepted ns t → Held l m w t
       → feedOf l m es w ≡ endingOf (length w) (through (takeEvent t) m 0 es)
-  unfolding feedAccepted
-  on-open x ns t d h = on-accepted x ns t d ∙ rw (held-in l m w ns t d h, feedAccepted)
+  on-open x ns t d h = feed-admits l m es w t (entrance-open l m w x ns t d h)
 
   abbrev said : Answer
   said = feedOf l m es w .answer
 
-  says-refused : (n p : ℕ) (v : List ℕ) → feedOf l m es w ≡ refusing n p m v → said ≡ refused n p
+  says-refused : (n p : ℕ) (v : List ℕ) → feedOf l m es w ≡ refusing A B n p v → said ≡ refused n p
   unfolding refusing
   says-refused n p v e = ap (λ (z : Outcome). z .answer) e
 
@@ -108,7 +107,7 @@ module _ (l : List ℕ) (m : Monitor) (es w : List ℕ) where
   unfolding refusing
   feed-keeps n p e = by (gate l m w)
     where
-      kept : (k q : ℕ) (v : List ℕ) → feedOf l m es w ≡ refusing k q m v
+      kept : (k q : ℕ) (v : List ℕ) → feedOf l m es w ≡ refusing A B k q v
           → (feedOf l m es w .area0 ≡ m .area0) × (feedOf l m es w .area1 ≡ m .area1)
       kept k q v f = (ap (λ (z : Outcome). z .area0) f, ap (λ (z : Outcome). z .area1) f)
 

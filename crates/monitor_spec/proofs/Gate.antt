@@ -1,6 +1,7 @@
 -- What stands before a call's events or Offer's word: 1 for lent lengths, 2 to 9 for the table, 10 for the monitor, or
 -- none of them.
 --     measured-in, measured-out, is-table-in, is-table-out    the tests and their conditions
+--     entrance-1, entrance-table, entrance-10, entrance-open  what an operation enters by
 --     Gate, gate        one of the four
 --     refused-exactly   an operation that refuses at the first three refuses exactly so
 -- Assumes nothing.
@@ -16,6 +17,7 @@ use borrow.Author.Tests.{eqb-true, eq-eqb, leb-true, le-leb}
 use Rattle.table.specs.Table.{Table}
 use Rattle.table.specs.Judge.{Judgement, accepted, declined, judgeList}
 use Rattle.table.specs.Judge.Laws.{list-in, list-out}
+use Rattle.table.specs.Operations.{zeros}
 use Rattle.table.specs.Refusals.AtNumbers.{refused-in, refused-out}
 use Rattle.monitor_spec.specs.Regular.{Regular}
 use Rattle.monitor_spec.specs.Regular.Laws.{regular}
@@ -23,6 +25,9 @@ use Rattle.monitor_spec.specs.Valid.Laws.{and-split}
 use Rattle.monitor_spec.specs.State.{Monitor, areasMeasured, workMeasured, slotCount}
 use Rattle.monitor_spec.specs.State.Areas.{both-true}
 use Rattle.monitor_spec.specs.Consistent.{consistent}
+use Rattle.monitor_spec.specs.Entering.{shut, admits, entrance, entranceOn}
+use Rattle.monitor_spec.specs.Entering.Laws.{entrance-unmeasured, entrance-declined, entrance-accepted}
+use Rattle.monitor_spec.specs.Entering.Laws.{on-shut, on-inconsistent, on-consistent}
 use Rattle.monitor_spec.specs.Consistent.Reading.{consistent-laid}
 use Rattle.monitor_spec.specs.Consistent.Laws.{laid-still}
 use Rattle.monitor_spec.specs.Sensible.{Laid}
@@ -110,6 +115,28 @@ module _ (l : List ℕ) (m : Monitor) (w : List ℕ) where
       by : (c : Bool) → consistent t m ≡ c → consistent t m ≡ false
       by true c = absurd (h (held-out x ns t e c))
       by false c = c
+
+  -- ---- what an operation enters by
+
+  pub entrance-1 : (Lent → ⊥) → entranceOn l m w ≡ shut 1 0 w
+  entrance-1 x =
+      on-shut l m w 1 0 w (entrance-unmeasured _ l w (unmeasured-in (m .area0) (m .area1) w x))
+
+  pub entrance-table : Lent → (n p : ℕ) → judgeList l ≡ declined n p → entranceOn l m w ≡ shut n p (zeros (length w))
+  entrance-table x n p d =
+      on-shut l m w n p (zeros (length w)) (entrance-declined _ l w n p (measured-in (m .area0) (m .area1) w x) d)
+
+  accepts-in : Lent → (ns : List ℕ) (t : Table) → judgeList l ≡ accepted ns t
+      → entrance (lent (m .area0) (m .area1) w) l w ≡ admits t
+  accepts-in x ns t d = entrance-accepted _ l w ns t (measured-in (m .area0) (m .area1) w x) d
+
+  pub entrance-10 : Lent → (ns : List ℕ) (t : Table) → judgeList l ≡ accepted ns t → (Held t → ⊥)
+      → entranceOn l m w ≡ shut 10 0 (zeros (length w))
+  entrance-10 x ns t d h = on-inconsistent l m w t (accepts-in x ns t d) (unheld-in x ns t d h)
+
+  pub entrance-open : Lent → (ns : List ℕ) (t : Table) → judgeList l ≡ accepted ns t → Held t
+      → entranceOn l m w ≡ admits t
+  entrance-open x ns t d h = on-consistent l m w t (accepts-in x ns t d) (held-in ns t d h)
 
   pub data Gate : Type 0 where
     shut-1 : (Lent → ⊥) → Gate

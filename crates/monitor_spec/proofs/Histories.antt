@@ -13,15 +13,17 @@ use Rattle.meaning.specs.Figure1.{Term}
 use Rattle.meaning.specs.Figure2.{TraceSet, Model}
 use Rattle.meaning.specs.Models.{theorem3-model}
 use Rattle.monitor_spec.specs.Regular.{Regular}
-use Rattle.monitor_spec.specs.Residual.{residualsOf}
-use Rattle.monitor_spec.specs.Slots.{slotsOf}
+use Rattle.residuals.specs.Residual.{residualsOf}
+use Rattle.residuals.specs.Slots.{slotsOf}
 use Rattle.monitor_spec.specs.Fold.{Ended, through}
 use Rattle.monitor_spec.specs.Fold.Laws.{some-stopped}
 use Rattle.monitor_spec.specs.State.{Monitor, Outcome, workMeasured, slotCount, even, fill, laid}
 use Rattle.monitor_spec.specs.State.Areas.{choose-twice}
-use Rattle.monitor_spec.specs.Feed.{takeEvent, endingOf, refusing, feedOf}
+use Rattle.monitor_spec.specs.Entering.{refusing}
+use Rattle.monitor_spec.specs.Feed.{takeEvent, endingOf, feedOf}
 use Rattle.monitor_spec.specs.Joined.{Call, extend, joinCall, joined}
-use Rattle.monitor_spec.specs.Expected.{verdictOf, monitorAfter}
+use Rattle.monitor_spec.specs.Expected.{verdictOf, recordOf, monitorAfter}
+use Rattle.monitor_spec.specs.Expected.Records.{record-taken, record-count, record-verdict}
 use Rattle.monitor_spec.specs.Expected.Laid.{laid-count}
 use Rattle.monitor_spec.specs.Expected.Steps.{Fed, fed-sensible}
 use Rattle.monitor_spec.specs.History.{history, Fresh, start, HoldsJust, Leaves, Eventful, Along, AfterCalls}
@@ -38,20 +40,20 @@ module _ (l ns : List ℕ) (t : Table) (says : judgeList l ≡ accepted ns t) (r
     (model : Model t H) where
   verdict-after : (n : ℕ) (s : List ℕ) → monitorAfter t n s .state .verdict ≡ verdictOf t s
   unfolding monitorAfter laid
-  verdict-after n s = refl
+  verdict-after n s = record-verdict t s
 
   holds-after : (n : ℕ) (s : List ℕ) → HoldsJust n (residualsOf t s) (monitorAfter t n s)
   unfolding monitorAfter laid
   holds-after n s =
       record {
-        number = refl;
-        present = choose-twice (even (length s)) (fill n (slotsOf (residualsOf t s))) (fill n []);
-        other = choose-twice (even (length s)) (fill n []) (fill n (slotsOf (residualsOf t s)));
+        number = record-count t s;
+        present = choose-twice (even (recordOf t s .taken)) (fill n (slotsOf (residualsOf t s))) (fill n []);
+        other = choose-twice (even (recordOf t s .taken)) (fill n []) (fill n (slotsOf (residualsOf t s)));
       }
 
   taken-after : (n : ℕ) (s : List ℕ) → monitorAfter t n s .state .taken ≡ length s
   unfolding monitorAfter laid
-  taken-after n s = refl
+  taken-after n s = record-taken t s
 
   leaves-after : (n k : ℕ) (s : List ℕ) (o : Outcome)
       → o ≡ endingOf k (record { at = monitorAfter t n s; taken = length s; why = none })
@@ -127,7 +129,7 @@ module _ (l ns : List ℕ) (t : Table) (says : judgeList l ≡ accepted ns t) (r
 pub count-fresh : (t : Table) → Regular t → (n : ℕ) → Fed t n [] → slotCount (monitorAfter t n [] .area0) ≡ n
 unfolding monitorAfter
 count-fresh t regular n f =
-    laid-count t regular n 0 (verdictOf t []) (residualsOf t []) (fed-sensible t regular n [] f)
+    laid-count t regular n (recordOf t []) (residualsOf t []) (fed-sensible t regular n [] f)
 
 -- what every claim along a history starts from
 pub record Reached (l : List ℕ) (t : Table) (n : ℕ) (fresh : Monitor) (calls : List Call) : Type 0 where

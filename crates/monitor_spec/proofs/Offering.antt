@@ -8,16 +8,17 @@ use lib.ListN.{length}
 use Rattle.table.specs.Table.{Table}
 use Rattle.table.specs.Judge.{accepted, declined, judgeList}
 use Rattle.table.specs.Operations.{zeros}
-use Rattle.monitor_spec.specs.Residual.{afterAll}
+use Rattle.residuals.specs.Residual.{afterAll}
 use Rattle.monitor_spec.specs.Meaning.{Some}
-use Rattle.monitor_spec.specs.Slots.{slotsOf}
+use Rattle.residuals.specs.Slots.{slotsOf}
 use Rattle.monitor_spec.specs.State.{failedAt, Monitor, slotCount, laid}
-use Rattle.monitor_spec.specs.Offer.{Offered, offers, refused, OfferOutcome, offerBits, offering, offerJudged}
+use Rattle.monitor_spec.specs.Offer.{Offered, offers, refused, OfferOutcome, offerBits, offering}
 use Rattle.monitor_spec.specs.Offer.{offerOf}
-use Rattle.monitor_spec.specs.Offer.Laws.{bits-tell}
+use Rattle.monitor_spec.specs.Offer.Laws.{bits-tell, offer-shut, offer-admits}
 use Rattle.monitor_spec.specs.Refusals.{CallRefused, Offers, WorkLeft}
-use Rattle.monitor_spec.proofs.Gate.{measured-in, unmeasured-in, is-table-in, is-table-out, accepts, Lent, Held}
-use Rattle.monitor_spec.proofs.Gate.{held-in, unheld-in, Gate, shut-1, shut-table, shut-10, clear, gate}
+use Rattle.monitor_spec.proofs.Gate.{is-table-in, is-table-out, accepts, Lent, Held}
+use Rattle.monitor_spec.proofs.Gate.{entrance-1, entrance-table, entrance-10, entrance-open}
+use Rattle.monitor_spec.proofs.Gate.{Gate, shut-1, shut-table, shut-10, clear, gate}
 use Rattle.monitor_spec.proofs.Gate.{refused-exactly}
 use Rattle.monitor_spec.proofs.Offers.{bits-exact}
 
@@ -34,28 +35,19 @@ module _ (l : List ℕ) (m : Monitor) (w : List ℕ) where
   -- ---- the whole outcome
 
   on-1 : (Lent l m w → ⊥) → offerOf l m w ≡ offering (refused 1 0) m w
-  unfolding offerOf
-  on-1 x = rw (unmeasured-in (m .area0) (m .area1) w x, offerOf)
+  on-1 x = offer-shut l m w 1 0 w (entrance-1 l m w x)
 
   on-table : Lent l m w → (n p : ℕ) → judgeList l ≡ declined n p
       → offerOf l m w ≡ offering (refused n p) m (zeros (length w))
-  unfolding offerOf offerJudged
-  on-table x n p d = rw (measured-in (m .area0) (m .area1) w x, d, offerOf)
-
-  on-accepted : Lent l m w → (ns : List ℕ) (t : Table) → judgeList l ≡ accepted ns t
-      → offerOf l m w ≡ offerJudged (accepted ns t) m w
-  unfolding offerOf
-  on-accepted x ns t d = rw (measured-in (m .area0) (m .area1) w x, d, offerOf)
+  on-table x n p d = offer-shut l m w n p (zeros (length w)) (entrance-table l m w x n p d)
 
   on-10 : Lent l m w → (ns : List ℕ) (t : Table) → judgeList l ≡ accepted ns t → (Held l m w t → ⊥)
       → offerOf l m w ≡ offering (refused 10 0) m (zeros (length w))
-  unfolding offerJudged
-  on-10 x ns t d h = on-accepted x ns t d ∙ rw (unheld-in l m w x ns t d h, offerJudged)
+  on-10 x ns t d h = offer-shut l m w 10 0 (zeros (length w)) (entrance-10 l m w x ns t d h)
 
   on-open : Lent l m w → (ns : List ℕ) (t : Table) → judgeList l ≡ accepted ns t → Held l m w t
       → offerOf l m w ≡ offering (offers (offerBits t m (m .state .verdict))) m (zeros (length w))
-  unfolding offerJudged
-  on-open x ns t d h = on-accepted x ns t d ∙ rw (held-in l m w ns t d h, offerJudged)
+  on-open x ns t d h = offer-admits l m w t (entrance-open l m w x ns t d h)
 
   abbrev said : Offered
   said = offerOf l m w .answer
@@ -85,9 +77,9 @@ module _ (l : List ℕ) (m : Monitor) (w : List ℕ) where
   unfolding laid word
   word-exact ns t d h e =
       let n : ℕ = slotCount (m .area0) in
-      let q : word t ≡ offerBits t (laid n (h .taken) (h .verdict) (slotsOf (h .residuals))) (h .verdict) =
+      let q : word t ≡ offerBits t (laid n (m .state) (slotsOf (h .residuals))) (m .state .verdict) =
       ap (λ (z : Monitor). offerBits t z (z .state .verdict)) (h .same) in
-      rw q (bits-exact l ns t d (accepts l ns t d) n (h .taken) (h .verdict) (h .residuals) (h .sensible) e)
+      rw q (bits-exact l ns t d (accepts l ns t d) n (m .state) (h .residuals) (h .sensible) e)
 
   word-failed : (t : Table) (p : ℕ) → m .state .verdict ≡ failedAt p → word t ≡ 0
   unfolding offerBits word

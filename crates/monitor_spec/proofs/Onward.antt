@@ -28,27 +28,27 @@ module _ (l : List ℕ) (m : Monitor) (es w : List ℕ) where
     n = slotCount (m .area0)
 
     abbrev onward : List ℕ → Monitor
-    onward us = monitorOnward t n (h .taken) (h .verdict) (h .residuals) us
+    onward us = monitorOnward t n (m .state) (h .residuals) us
 
-    all-passed : Passes t n (h .taken) (h .residuals) es
+    all-passed : Passes t n (m .state .taken) (h .residuals) es
         → feedOf l m es w ≡ endingOf (length w) (record { at = onward es; taken = 0 + length es; why = none })
     all-passed p =
         on-open l m es w x ns t d h
         ∙ ap (λ (z : Monitor). endingOf (length w) (through (takeEvent t) z 0 es)) (h .same)
-        ∙ ap (endingOf (length w)) (passes-ends t (accepts l ns t d) n es (h .taken) (h .verdict) (h .residuals) 0
+        ∙ ap (endingOf (length w)) (passes-ends t (accepts l ns t d) n es (m .state) (h .residuals) 0
         (h .sensible) p)
 
-    one-halted : (number place : ℕ) (a : HaltsAt t n (h .taken) (h .residuals) es number place)
+    one-halted : (number place : ℕ) (a : HaltsAt t n (m .state .taken) (h .residuals) es number place)
         → feedOf l m es w ≡ endingOf (length w)
         (record { at = onward (a .before); taken = 0 + place; why = some number })
     one-halted number place a =
         on-open l m es w x ns t d h
         ∙ ap (λ (z : Monitor). endingOf (length w) (through (takeEvent t) z 0 es)) (h .same)
-        ∙ ap (endingOf (length w)) (halts-ends t (accepts l ns t d) n es (h .taken) (h .verdict) (h .residuals) 0 number
+        ∙ ap (endingOf (length w)) (halts-ends t (accepts l ns t d) n es (m .state) (h .residuals) 0 number
         place (h .sensible) a)
 
     -- what is left, from the outcome
-    passed-leaves : Passes t n (h .taken) (h .residuals) es → Leaves (feedOf l m es w) (onward es)
+    passed-leaves : Passes t n (m .state .taken) (h .residuals) es → Leaves (feedOf l m es w) (onward es)
     unfolding endingOf
     passed-leaves p =
         let e = all-passed p in
@@ -58,7 +58,7 @@ module _ (l : List ℕ) (m : Monitor) (es w : List ℕ) where
           area1-same = ap (λ (z : Outcome). z .area1) e;
         }
 
-    halted-leaves : (number place : ℕ) (a : HaltsAt t n (h .taken) (h .residuals) es number place)
+    halted-leaves : (number place : ℕ) (a : HaltsAt t n (m .state .taken) (h .residuals) es number place)
         → LeavesAt (feedOf l m es w) number place (onward (a .before))
     unfolding endingOf
     halted-leaves number place a =
@@ -79,7 +79,7 @@ module _ (l : List ℕ) (m : Monitor) (es w : List ℕ) where
         monitor-same left (onward us) (given-same (left .state) (onward us .state) e) (sym f ∙ f′) (sym g ∙ g′)
 
     stops-open : (number place : ℕ) (left : Monitor) → LeavesAt (feedOf l m es w) number place left
-        → Course t (accepts l ns t d) n (h .taken) (h .residuals) es → FeedStops l m es w number place left
+        → Course t (accepts l ns t d) n (m .state .taken) (h .residuals) es → FeedStops l m es w number place left
     stops-open number place left o (passed p) =
         given-stopped (onward es .state) number place (left .state) (passed-leaves p .record-same) (o .record-same)
     stops-open number place left o (halted k q a) =
@@ -105,7 +105,7 @@ module _ (l : List ℕ) (m : Monitor) (es w : List ℕ) where
         }
 
     gives-open : (left : Monitor) → Leaves (feedOf l m es w) left
-        → Course t (accepts l ns t d) n (h .taken) (h .residuals) es → FeedGives l m es w left
+        → Course t (accepts l ns t d) n (m .state .taken) (h .residuals) es → FeedGives l m es w left
     gives-open left o (passed p) =
         let y = passed-leaves p in
         record {
@@ -120,8 +120,8 @@ module _ (l : List ℕ) (m : Monitor) (es w : List ℕ) where
     gives-open left o (halted k q a) =
         given-stopped (left .state) k q (onward (a .before) .state) (o .record-same) (halted-leaves k q a .record-same)
 
-    opened : Course t (accepts l ns t d) n (h .taken) (h .residuals) es
-    opened = course t (accepts l ns t d) n es (h .taken) (h .residuals)
+    opened : Course t (accepts l ns t d) n (m .state .taken) (h .residuals) es
+    opened = course t (accepts l ns t d) n es (m .state .taken) (h .residuals)
 
   stops-to : (number place : ℕ) (left : Monitor) → LeavesAt (feedOf l m es w) number place left
       → FeedStops l m es w number place left

@@ -3,7 +3,7 @@ use Prim.Native.Nat.{ℕ, _-_, _*_, _/_, _≤_, _<_}
 use native.Mathlib.Omega.{arith}
 use mathlib.Core.Path.{_≡_, refl, ap, sym, _∙_}
 use mathlib.Core.Bool.{Bool, true, false}
-use mathlib.Core.List.{List, [], _∷_, flatten}
+use mathlib.Core.List.{List, [], flatten}
 use mathlib.Core.Logic.{_↔_}
 use lib.ListN.{length}
 use lib.Dec.{ltb}
@@ -14,15 +14,18 @@ use Rattle.table.specs.Operations.{zeros}
 use Rattle.table.specs.Refusals.{Refused, too-long, truncated-list, out-of-range, trailing-input, bad-reference}
 use Rattle.table.specs.Refusals.{too-wide, too-many-branches}
 use Rattle.table.specs.Refusals.AtNumbers.{refused-in, refused-out}
-use Rattle.monitor_spec.specs.Residual.{Residual, residualsOf}
-use Rattle.monitor_spec.specs.Slots.{slotsOf}
-use Rattle.monitor_spec.specs.State.{running, failedAt, State, Monitor, Answer, given, refused}
+use Rattle.residuals.specs.Residual.{residualsOf}
+use Rattle.residuals.specs.Slots.{slotsOf}
+use Rattle.monitor_spec.specs.State.{State, freshState, Monitor, Answer, given, refused}
+use Rattle.monitor_spec.specs.State.{holding}
 use Rattle.monitor_spec.specs.State.{Outcome, slotCount, fill}
-use Rattle.monitor_spec.specs.Feed.{nextVerdict}
-use Rattle.monitor_spec.specs.Start.{startAccepted, startJudged, startOf}
+use Rattle.monitor_spec.specs.State.Records.{state-path}
+use Rattle.monitor_spec.specs.Entering.{refusing}
+use Rattle.monitor_spec.specs.Entering.Laws.{entrance-unmeasured, entrance-declined}
+use Rattle.monitor_spec.specs.Start.{startAccepted, startOf}
+use Rattle.monitor_spec.specs.Start.Laws.{start-shut}
 use Rattle.monitor_spec.specs.Joined.{residualCount}
-use Rattle.monitor_spec.specs.Expected.{ifNone}
-use Rattle.monitor_spec.specs.Expected.Verdicts.{slots-none, slots-some, next-some, next-none}
+use Rattle.monitor_spec.specs.Expected.Verdicts.{verdict-by}
 use Rattle.monitor_spec.specs.History.{Fresh}
 use Rattle.monitor_spec.specs.History.Begun.{start-measured, begun, start-room}
 use Rattle.monitor_spec.specs.Refusals.{Measured, StartRefused, wrong-length, bad-table, exceeded, Starts}
@@ -30,12 +33,6 @@ use Rattle.monitor_spec.specs.Refusals.{WorkLeft}
 use Rattle.monitor_spec.proofs.Forms.{given-same, refused-same, refused-given}
 use Rattle.monitor_spec.proofs.Gate.{lent, measured-out, measured-in, unmeasured-in, unmeasured-out}
 use Rattle.monitor_spec.proofs.Gate.{is-table-in, is-table-out}
-
--- the verdict of a record at Start
-begun-verdict : (rs : List Residual) → nextVerdict running 0 (slotsOf rs) ≡ ifNone rs (failedAt 0) running
-unfolding ifNone
-begun-verdict [] = ap (nextVerdict running 0) slots-none ∙ next-none 0
-begun-verdict (r ∷ rs) = next-some 0 (slotsOf (r ∷ rs)) (slots-some r rs)
 
 -- the table layer's refusals are 2 to 9
 pub refused-low : (l : List ℕ) (n p : ℕ) → Refused l n p → n ≤ 9
@@ -54,13 +51,14 @@ module _ (l a b w : List ℕ) where
   outcome x y z v = record { answer = x; area0 = y; area1 = z; work = v }
 
   on-1 : (Measured a b w → ⊥) → startOf l a b w ≡ outcome (refused 1 0) a b w
-  unfolding startOf outcome
-  on-1 x = rw (unmeasured-in a b w x, startOf)
+  unfolding outcome refusing
+  on-1 x = start-shut l a b w 1 0 w (entrance-unmeasured _ l w (unmeasured-in a b w x))
 
   on-table : Measured a b w → (n p : ℕ) → judgeList l ≡ declined n p
       → startOf l a b w ≡ outcome (refused n p) a b (zeros (length w))
-  unfolding startOf startJudged outcome
-  on-table x n p d = rw (measured-in a b w x, d, startOf)
+  unfolding outcome refusing
+  on-table x n p d =
+      start-shut l a b w n p (zeros (length w)) (entrance-declined _ l w n p (measured-in a b w x) d)
 
   on-accepted : Measured a b w → (ns : List ℕ) (t : Table) → judgeList l ≡ accepted ns t
       → startOf l a b w ≡ startAccepted t a b w
@@ -113,12 +111,7 @@ module _ (l a b w : List ℕ) where
   says o e = ap (λ (z : Outcome). z .answer) e
 
   record0 : Table → State
-  record0 t =
-      record {
-        taken = 0;
-        count = length (slotsOf (residualsOf t []));
-        verdict = nextVerdict running 0 (slotsOf (residualsOf t []));
-      }
+  record0 t = freshState (length (slotsOf (residualsOf t [])))
 
   says-room : (t : Table) → startOf l a b w ≡ begun t (slotCount a) (length w) → said ≡ given (record0 t)
   unfolding begun record0
@@ -154,7 +147,7 @@ module _ (l a b w : List ℕ) where
   -- ---- what is given
 
   gives-to : (m : Monitor) → Fresh l a b w m → Case → Starts l a b w m
-  unfolding begun record0 residualCount
+  unfolding begun record0 residualCount freshState holding
   gives-to m f (case-1 x) = refused-given 1 0 (m .state) (says-refused 1 0 a b w (on-1 x)) (f .gave)
   gives-to m f (case-table x k q d) =
       refused-given k q (m .state) (says-refused k q _ _ _ (on-table x k q d)) (f .gave)
@@ -172,20 +165,17 @@ module _ (l a b w : List ℕ) where
         count = ap (λ (z : State). z .count) s;
         first = sym (f .gave0) ∙ ap (λ (z : Outcome). z .area0) e;
         second = sym (f .gave1) ∙ ap (λ (z : Outcome). z .area1) e;
-        verdict = ap (λ (z : State). z .verdict) s ∙ begun-verdict (residualsOf t []);
+        verdict = ap (λ (z : State). z .verdict) s ∙ verdict-by (residualsOf t []) 0;
       }
 
   gives-from : (m : Monitor) → Starts l a b w m → Fresh l a b w m
-  unfolding begun record0 residualCount
+  unfolding begun record0 residualCount freshState holding
   gives-from m s =
       let t : Table = s .table in
       let e = on-room (s .measured) l t (is-table-in l t (s .is-table)) (s .room) in
-      let v = begun-verdict (residualsOf t []) in
-      let q : record0 t ≡ m .state = λ i. record {
-        taken = sym (s .taken) i;
-        count = sym (s .count) i;
-        verdict = (v ∙ sym (s .verdict)) i;
-      } in
+      let q : record0 t ≡ m .state =
+      state-path (record0 t) (m .state) (sym (s .taken)) (sym (s .count))
+      (verdict-by (residualsOf t []) 0 ∙ sym (s .verdict)) in
       record {
         gave = says-room t e ∙ ap given q;
         gave0 = ap (λ (z : Outcome). z .area0) e ∙ sym (s .first);

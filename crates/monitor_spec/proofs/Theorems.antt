@@ -1,5 +1,5 @@
 -- A proof of each claim of `specs/Claims.antt`. Assumes nothing.
-use Prim.Native.Nat.{ℕ}
+use Prim.Native.Nat.{ℕ, _≤_}
 use native.Mathlib.Omega.{arith}
 use mathlib.Core.Path.{_≡_, ap, sym, subst, _∙_}
 use mathlib.Core.List.{List, []}
@@ -8,15 +8,19 @@ use mathlib.Core.Option.{some}
 use Rattle.table.specs.Table.{Table}
 use Rattle.table.specs.Judge.{accepted, judgeList}
 use Rattle.table.specs.Judge.Laws.{list-out}
-use Rattle.monitor_spec.specs.Part.Numbers.{number-at}
+use Rattle.table.specs.Part.Numbers.{number-at, around-number}
 use Rattle.monitor_spec.specs.Regular.{Regular}
 use Rattle.monitor_spec.specs.Regular.Laws.{regular}
 use Rattle.monitor_spec.specs.Residual.Traces.{traces-run, traces-definition}
-use Rattle.monitor_spec.specs.Residual.{Residual, residualsOf}
+use Rattle.numbers.specs.Every.{all-imp}
+use Rattle.table.specs.Width.{reach}
+use Rattle.residuals.specs.Residual.{Residual, resolve, residualsOf}
 use Rattle.monitor_spec.specs.Residual.Calls.{resolveDef-body}
 use Rattle.monitor_spec.specs.Residual.Counts.{resolve-length, residuals-few}
-use Rattle.monitor_spec.specs.Slots.Canonical.{slots-sorted, in-slots, slots-few}
-use Rattle.monitor_spec.specs.Valid.{slotResidual, validSlot}
+use Rattle.residuals.specs.Slots.Canonical.{slots-sorted, in-slots, slots-few}
+use Rattle.monitor_spec.specs.Valid.{reachSum, slotResidual, validSlot}
+use Rattle.monitor_spec.specs.Proper.{Kept}
+use Rattle.monitor_spec.specs.Proper.Laws.{resolve-kept}
 use Rattle.monitor_spec.specs.Valid.Laws.{valid-proper, proper-valid}
 use Rattle.monitor_spec.specs.Valid.Residuals.{read-back}
 use Rattle.monitor_spec.specs.State.{Monitor, areasMeasured, workMeasured, slotCount}
@@ -31,7 +35,8 @@ use Rattle.monitor_spec.specs.Expected.Steps.{Fed}
 use Rattle.monitor_spec.specs.History.Laws.{fed-joined}
 use Rattle.monitor_spec.specs.History.Begun.{start-never}
 use Rattle.monitor_spec.specs.Claims.{ResidualsAreTraces, DefinitionsAreTraces, LastIsTraces, ResolvesBranches}
-use Rattle.monitor_spec.specs.Claims.{CallsResolve, SlotsTell, SlotsOnce, ValidExactly, ConsistentExactly}
+use Rattle.monitor_spec.specs.Claims.{CallsResolve, ResolvesReach}
+use Rattle.monitor_spec.specs.Claims.{SlotsTell, SlotsOnce, ValidExactly, ConsistentExactly}
 use Rattle.monitor_spec.specs.Claims.{StartRefusedExactly, StartGives, StartAnswers, StartBuffers, StartExceeds}
 use Rattle.monitor_spec.specs.Claims.{FeedRefusedExactly, FeedStopsExactly, FeedGivesExactly, FeedBuffers}
 use Rattle.monitor_spec.specs.Claims.{StartFits, OfferRefusedExactly, OfferBits, OfferBuffers, ViewsPart}
@@ -103,6 +108,13 @@ consistent-exactly t rules m a =
 pub resolves-branches : ResolvesBranches
 unfolding ResolvesBranches
 resolves-branches t rules n m p e = resolve-length t rules m (number-at t n p e .stands)
+
+pub resolves-reach : ResolvesReach
+unfolding ResolvesReach
+resolves-reach t rules n m p e f =
+    let s = number-at t n p e .stands in
+    all-imp (Kept t (reach t p)) (λ r. reachSum t r ≤ reach t p) (λ r h. h .1) (resolve t n m)
+    (resolve-kept t (regular t rules) n m p s (rw (← around-number t s) f))
 
 pub start-fits : StartFits
 unfolding StartFits residualCount

@@ -11,7 +11,7 @@ use Rattle.table.specs.Table.{Table}
 use Rattle.meaning.specs.Figure1.{Term, bodyCount, last, WellFormed}
 use Rattle.meaning.specs.Figure2.{TraceSet, Model}
 use Rattle.monitor_spec.specs.Regular.{Regular}
-use Rattle.monitor_spec.specs.Residual.{Residual, resolveDef, afterAll, run, fromDefinition, residualsOf}
+use Rattle.residuals.specs.Residual.{Residual, resolveDef, afterAll, run, fromDefinition, residualsOf}
 use Rattle.monitor_spec.specs.Residual.Traces.{traces-last}
 use Rattle.monitor_spec.specs.Meaning.{Some}
 use Rattle.monitor_spec.specs.State.{Verdict, running, failedAt}

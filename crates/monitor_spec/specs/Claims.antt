@@ -4,6 +4,7 @@
 --     DefinitionsAreTraces    from every definition;  LastIsTraces: from the last
 --     CallsResolve            a call resolves to what the body does
 --     ResolvesBranches        resolving lists as many residuals as the term has branches;  StartFits: 256 at Start
+--     ResolvesReach           its leaves together have at most the reach of the term
 --     SlotsTell               a slot tells its residual;  SlotsOnce: slots ascend, each once
 --     ValidExactly            the valid slots are those of proper residuals
 --     ConsistentExactly       the consistent monitors are those laid out of proper residuals
@@ -28,8 +29,9 @@ use mathlib.Core.Logic.{_↔_}
 use lib.ListN.{length}
 use lib.Dec.{T}
 use Rattle.table.specs.Table
-use Rattle.table.specs.Table.{Table, termAt, bodyNumber}
+use Rattle.table.specs.Table.{Table, termAt, enclosing, bodyNumber}
 use Rattle.table.specs.Memory.{Memory, noMemory}
+use Rattle.table.specs.Width.{reach}
 use Rattle.table.specs.Branches.{branches}
 use Rattle.table.specs.Rules.{Rules}
 use Rattle.table.specs.Judge.{accepted, judgeList}
@@ -38,9 +40,9 @@ use Rattle.numbers.specs.Every.{All}
 use Rattle.meaning.specs.Some.{Any}
 use Rattle.meaning.specs.Figure1.{Term, call, bodyCount}
 use Rattle.meaning.specs.Figure2.{TraceSet, Model}
-use Rattle.monitor_spec.specs.Residual.{Residual, resolveDef, resolve, run, fromDefinition, residualsOf}
-use Rattle.monitor_spec.specs.Slots.{slotOf, slotsOf, Sorted}
-use Rattle.monitor_spec.specs.Valid.{validSlot}
+use Rattle.residuals.specs.Residual.{Residual, resolveDef, resolve, run, fromDefinition, residualsOf}
+use Rattle.residuals.specs.Slots.{slotOf, slotsOf, Sorted}
+use Rattle.monitor_spec.specs.Valid.{reachSum, validSlot}
 use Rattle.monitor_spec.specs.State.{State, Monitor, refused, stopped, areasMeasured, workMeasured, slotCount}
 use Rattle.monitor_spec.specs.Consistent.{consistent}
 use Rattle.monitor_spec.specs.Start.{startOf}
@@ -50,7 +52,7 @@ use Rattle.monitor_spec.specs.Offer.{offers, offerOf}
 use Rattle.monitor_spec.specs.View.{viewPart, viewOf}
 use Rattle.monitor_spec.specs.Joined.{Call, residualCount, joined}
 use Rattle.monitor_spec.specs.Meaning.{denote, Sound, Some}
-use Rattle.monitor_spec.specs.Proper.{Proper}
+use Rattle.monitor_spec.specs.Proper.{Remembers, Proper}
 use Rattle.monitor_spec.specs.Sensible.{Laid}
 use Rattle.monitor_spec.specs.Refusals.{StartRefused, Starts, CallRefused, Offers, WorkLeft}
 use Rattle.monitor_spec.specs.Progress.{LeavesAt, FeedStops, FeedGives}
@@ -91,6 +93,12 @@ unfoldable pub ResolvesBranches : Type 0
 ResolvesBranches =
     (t : Table) → Rules t → (n : ℕ) (m : Memory) (p : Table.Term) → termAt t n ≡ some p
     → length (resolve t n m) ≡ branches t p
+
+-- ours; 01, "Hands of a term": the leaves of a residual together have at most the reach of its term
+unfoldable pub ResolvesReach : Type 0
+ResolvesReach =
+    (t : Table) → Rules t → (n : ℕ) (m : Memory) (p : Table.Term) → termAt t n ≡ some p
+    → Remembers (t .alphabet) (enclosing t n) m → All (λ r. reachSum t r ≤ reach t p) (resolve t n m)
 
 -- 01, "Openings": "Each body .. has at most 256": with 256 slots Start is never refused with 13
 unfoldable pub StartFits : Type 0

@@ -17,8 +17,8 @@ use Rattle.table.specs.Table.{Table}
 use Rattle.meaning.specs.Figure1.{Term, call, last}
 use Rattle.meaning.specs.Figure2.{TraceSet}
 use Rattle.meaning.specs.Figure3.{Chain, Viable}
-use Rattle.monitor_spec.specs.Residual.{Residual, residualsOf}
-use Rattle.monitor_spec.specs.Slots.{slotsOf}
+use Rattle.residuals.specs.Residual.{Residual, residualsOf}
+use Rattle.residuals.specs.Slots.{slotsOf}
 use Rattle.monitor_spec.specs.State.{running, failedAt, State, Monitor, Answer, given, refused, stopped, Outcome}
 use Rattle.monitor_spec.specs.State.{workMeasured, slotCount, even, choose, fill}
 use Rattle.monitor_spec.specs.Start.{startOf}

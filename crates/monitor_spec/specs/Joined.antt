@@ -11,8 +11,8 @@ use mathlib.Core.List.{List, [], _∷_, _++_}
 use lib.ListN.{length}
 use lib.Dec.{eqb, leb, ltb}
 use Rattle.table.specs.Table.{Table}
-use Rattle.monitor_spec.specs.Residual.{residualsOf}
-use Rattle.monitor_spec.specs.Slots.{slotsOf}
+use Rattle.residuals.specs.Residual.{residualsOf}
+use Rattle.residuals.specs.Slots.{slotsOf}
 use Rattle.monitor_spec.specs.State.{workMeasured}
 
 -- "Events and work area are each call's own, of any content and length."

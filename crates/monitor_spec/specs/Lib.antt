@@ -1,10 +1,10 @@
 -- The monitor's specification, in reading order: residuals and their words, the state, the operations, lists of
 -- calls; the worked examples; what is claimed. Last, what only the laws and proofs use. Assumes nothing.
 pub mod Residual
-pub mod Slots
 pub mod Valid
 pub mod State
 pub mod Consistent
+pub mod Entering
 pub mod Fold
 pub mod Feed
 pub mod Start
@@ -25,5 +25,4 @@ pub mod Examples
 pub mod Cases
 pub mod Buffers
 pub mod Claims
-pub mod Part
 pub mod Regular

@@ -11,7 +11,7 @@ use Rattle.table.specs.Table.{Table, termAt}
 use Rattle.table.specs.Memory.{Memory}
 use Rattle.meaning.specs.Figure1.{Term, fail, par}
 use Rattle.meaning.specs.Closing.{closeRef, close}
-use Rattle.monitor_spec.specs.Residual.{Residual, leaf, pair}
+use Rattle.residuals.specs.Residual.{Residual, leaf, pair}
 
 -- a parallel's set, with two closed terms for its sides
 unfoldable pub joinAt : Table.Term → Memory → Term → Term → Term

@@ -3,16 +3,14 @@
 --     offerOf      answer, areas and work words of a call
 -- The laws are in `Offer/Laws.antt`. Assumes nothing.
 use Prim.Native.Nat.{ℕ, zero, suc, _+_, _^_}
-use mathlib.Core.Bool.{true, false, _&&_}
 use mathlib.Core.List.{List, [], _∷_}
 use lib.ListN.{length}
 use Rattle.table.specs.Table.{Table}
-use Rattle.table.specs.Judge.{Judgement, accepted, declined, judgeList}
 use Rattle.table.specs.Operations.{zeros}
-use Rattle.monitor_spec.specs.Residual.{Residual, afterAll}
+use Rattle.residuals.specs.Residual.{Residual, afterAll}
 use Rattle.monitor_spec.specs.Valid.{held}
-use Rattle.monitor_spec.specs.State.{Verdict, running, failedAt, Monitor, areasMeasured, workMeasured}
-use Rattle.monitor_spec.specs.Consistent.{consistent}
+use Rattle.monitor_spec.specs.State.{Verdict, running, failedAt, Monitor}
+use Rattle.monitor_spec.specs.Entering.{entranceOn, entering}
 use Rattle.monitor_spec.specs.Feed.{presentSlots}
 pub mod Laws
 
@@ -45,18 +43,9 @@ offerBits t m (failedAt p) = 0
 unfoldable pub offering : Offered → Monitor → List ℕ → OfferOutcome
 offering o m w = record { answer = o; area0 = m .area0; area1 = m .area1; work = w }
 
-unfoldable pub offerJudged : Judgement → Monitor → List ℕ → OfferOutcome
-offerJudged (declined n p) m work = offering (refused n p) m (zeros (length work))
-offerJudged (accepted ns t) m work =
-    elim (consistent t m) [
-      | true ↦ offering (offers (offerBits t m (m .state .verdict))) m (zeros (length work))
-      | false ↦ offering (refused 10 0) m (zeros (length work))
-    ]
-
 -- "Order: 1; 2; .. 9; 10"
 unfoldable pub offerOf : List ℕ → Monitor → List ℕ → OfferOutcome
 offerOf l m work =
-    elim (areasMeasured (m .area0) (m .area1) && workMeasured work) [
-      | true ↦ offerJudged (judgeList l) m work
-      | false ↦ offering (refused 1 0) m work
-    ]
+    entering (λ n p v. offering (refused n p) m v)
+    (λ t. offering (offers (offerBits t m (m .state .verdict))) m (zeros (length work)))
+    (entranceOn l m work)

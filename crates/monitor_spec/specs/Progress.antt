@@ -10,8 +10,8 @@ use mathlib.Core.Path.{_≡_}
 use mathlib.Core.List.{List, [], _∷_, _++_}
 use lib.ListN.{length}
 use Rattle.table.specs.Table.{Table}
-use Rattle.monitor_spec.specs.Residual.{Residual, afterAll, run}
-use Rattle.monitor_spec.specs.Slots.{slotsOf}
+use Rattle.residuals.specs.Residual.{Residual, afterAll, run}
+use Rattle.residuals.specs.Slots.{slotsOf}
 use Rattle.monitor_spec.specs.State.{Monitor, stopped, Outcome, slotCount}
 use Rattle.monitor_spec.specs.Feed.{counterMost}
 use Rattle.monitor_spec.specs.Expected.{monitorOnward}
@@ -59,9 +59,8 @@ pub record FeedStops (l : List ℕ) (m : Monitor) (es w : List ℕ) (number plac
   pub table : Table
   pub is-table : IsTable l table
   pub laid : Laid table (slotCount (m .area0)) m
-  pub halts : HaltsAt table (slotCount (m .area0)) (laid .taken) (laid .residuals) es number place
-  pub leaves : left ≡ monitorOnward table (slotCount (m .area0)) (laid .taken) (laid .verdict) (laid .residuals)
-      (halts .before)
+  pub halts : HaltsAt table (slotCount (m .area0)) (m .state .taken) (laid .residuals) es number place
+  pub leaves : left ≡ monitorOnward table (slotCount (m .area0)) (m .state) (laid .residuals) (halts .before)
 
 -- the call on m takes all events, and leaves the monitor that they call for
 pub record FeedGives (l : List ℕ) (m : Monitor) (es w : List ℕ) (left : Monitor) : Type 0 where
@@ -69,5 +68,5 @@ pub record FeedGives (l : List ℕ) (m : Monitor) (es w : List ℕ) (left : Moni
   pub table : Table
   pub is-table : IsTable l table
   pub laid : Laid table (slotCount (m .area0)) m
-  pub passes : Passes table (slotCount (m .area0)) (laid .taken) (laid .residuals) es
-  pub leaves : left ≡ monitorOnward table (slotCount (m .area0)) (laid .taken) (laid .verdict) (laid .residuals) es
+  pub passes : Passes table (slotCount (m .area0)) (m .state .taken) (laid .residuals) es
+  pub leaves : left ≡ monitorOnward table (slotCount (m .area0)) (m .state) (laid .residuals) es

@@ -7,7 +7,7 @@ use Prim.Native.Nat.{ℕ, _≤_, _<_}
 use mathlib.Core.Path.{_≡_}
 use Rattle.table.specs.Table.{Table, enclosing}
 use Rattle.table.specs.Memory.{Memory, digit}
-use Rattle.monitor_spec.specs.Residual.{Residual, leaf, pair}
+use Rattle.residuals.specs.Residual.{Residual, leaf, pair}
 use Rattle.monitor_spec.specs.Meaning.{Sound}
 use Rattle.monitor_spec.specs.Valid.{reachSum}
 pub mod Laws

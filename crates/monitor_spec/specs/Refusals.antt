@@ -18,8 +18,8 @@ use Rattle.table.specs.Writing.{numbersOf}
 use Rattle.table.specs.Rules.{Rules}
 use Rattle.table.specs.Refusals.{Refused}
 use Rattle.table.specs.Operations.{zeros}
-use Rattle.monitor_spec.specs.Residual.{afterAll, residualsOf}
-use Rattle.monitor_spec.specs.Slots.{slotsOf}
+use Rattle.residuals.specs.Residual.{afterAll, residualsOf}
+use Rattle.residuals.specs.Slots.{slotsOf}
 use Rattle.monitor_spec.specs.Meaning.{Some}
 use Rattle.monitor_spec.specs.State.{running, failedAt, Monitor, slotCount, fill}
 use Rattle.monitor_spec.specs.Joined.{residualCount}

@@ -1,16 +1,19 @@
 -- The state record, the lent areas and what an operation answers (01, "Operations", "When the monitor declines").
 --     Verdict, State, Monitor          running or failed at a place; the record; the record with both areas
+--     counted, holding                 one event more is taken; so many residuals are held
+--     freshState, stateAfter           the record before any event; the record after one event more
 --     Answer, Outcome                  a result, a refusal, a refusal with a record; the answer with all lent words
 --     areasMeasured, workMeasured      lent lengths;  slotCount: how many slots an area has
 --     even, choose                     which area is present
 --     chunks, fill, laid               an area's slots; slots and then zeros; a record with its slots laid out
--- The laws are in `State/Areas.antt`. Assumes nothing.
+-- The laws are in `State/`: `Records`, `Areas`. Assumes nothing.
 use Prim.Native.Nat.{ℕ, zero, suc, _-_, _*_, _/_, _%_}
 use mathlib.Core.Bool.{Bool, true, false, _&&_}
 use mathlib.Core.List.{List, [], _∷_, _++_, flatten}
 use lib.ListN.{length, take, drop}
 use lib.Dec.{eqb, leb}
 use Rattle.table.specs.Operations.{zeros}
+pub mod Records
 pub mod Areas
 
 -- "running or failed at a place"
@@ -23,6 +26,29 @@ pub record State : Type 0 where
   pub taken : ℕ
   pub count : ℕ
   pub verdict : Verdict
+
+-- "An empty set means failed, at taken with that event counted (0 at Start)."; "Later events are taken; the place
+-- stays.": of k events taken and n residuals after them
+unfoldable pub nextVerdict : Verdict → ℕ → ℕ → Verdict
+nextVerdict (failedAt p) k n = failedAt p
+nextVerdict running k zero = failedAt k
+nextVerdict running k (suc n) = running
+
+-- one event more is taken
+unfoldable pub counted : State → State
+counted s = record { taken = suc (s .taken); count = s .count; verdict = s .verdict }
+
+-- n residuals are held
+unfoldable pub holding : State → ℕ → State
+holding s n = record { taken = s .taken; count = n; verdict = nextVerdict (s .verdict) (s .taken) n }
+
+-- "taken 0": with n residuals
+unfoldable pub freshState : ℕ → State
+freshState n = holding (record { taken = 0; count = 0; verdict = running }) n
+
+-- one event more is taken, and leaves n residuals
+unfoldable pub stateAfter : State → ℕ → State
+stateAfter s n = holding (counted s) n
 
 pub record Monitor : Type 0 where
   pub state : State
@@ -71,11 +97,11 @@ chunks (suc n) a = take 16 a ∷ chunks n (drop 16 a)
 unfoldable pub fill : ℕ → List (List ℕ) → List ℕ
 fill n ss = flatten ss ++ zeros ((n - length ss) * 16)
 
--- "the present area has their slots and then zeros, the other area zeros": with areas of n slots, after k events
-unfoldable pub laid : ℕ → ℕ → Verdict → List (List ℕ) → Monitor
-laid n k v ss =
+-- "the present area has their slots and then zeros, the other area zeros": a record with areas of n slots
+unfoldable pub laid : ℕ → State → List (List ℕ) → Monitor
+laid n s ss =
     record {
-      state = record { taken = k; count = length ss; verdict = v };
-      area0 = choose (even k) (fill n ss) (fill n []);
-      area1 = choose (even k) (fill n []) (fill n ss);
+      state = s;
+      area0 = choose (even (s .taken)) (fill n ss) (fill n []);
+      area1 = choose (even (s .taken)) (fill n []) (fill n ss);
     }

@@ -3,7 +3,7 @@
 --     held                    the residuals of slots
 --     memoriesFit, reachSum   of a residual: its memories are as the terms allow; the leaves' reach
 --     validSlot               all of it
--- The laws are in `Valid/`: `Laws`, `Residuals`. Assumes nothing.
+-- The laws are in `Valid/`: `Packing`, `Laws`, `Residuals`. Assumes nothing.
 use Prim.Native.Nat.{ℕ, _+_}
 use mathlib.Core.Bool.{Bool, true, false, _&&_, _||_}
 use mathlib.Core.List.{List, [], _∷_}
@@ -13,8 +13,10 @@ use lib.Dec.{eqb, ltb, leb}
 use Rattle.table.specs.Table.{Table, Term, stop, fail, prefix, choice, par, call, termAt, enclosing}
 use Rattle.table.specs.Memory.{Memory}
 use Rattle.table.specs.Width.{reach}
-use Rattle.monitor_spec.specs.Residual.{Residual, leaf, pair}
-use Rattle.monitor_spec.specs.Slots.{Order, below, same, above, termOfWord, memoryOf, slotOf, compareWords}
+use Rattle.residuals.specs.Residual.{Residual, leaf, pair}
+use Rattle.node_word.specs.Word.{termOfWord, memoryOf}
+use Rattle.residuals.specs.Slots.{Order, below, same, above, slotOf, compareWords}
+pub mod Packing
 pub mod Laws
 pub mod Residuals
 

@@ -1,6 +1,6 @@
 -- What the proofs of Offer share, on plain values, one law for each way out.
 --     BitTurn, BitsTurn     of `bit` and `bits`
---     Cases                 of `offer_accepted`
+--     Cases                 of `offered`
 --     Outcomes              of `offer`
 -- Assumes nothing.
 pub mod BitTurn

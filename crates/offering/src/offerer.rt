@@ -4,22 +4,20 @@
 ghost use mathlib.Core.Path.{_≡_};
 ghost use mathlib.Core.Bool.{true};
 ghost use Prim.Native.Nat.{_<_};
-ghost use Rattle.table.specs.Judge.{accepted};
-ghost use Rattle.table.specs.Index.{tableIn, Indexed};
-ghost use Rattle.monitor_spec.specs.Residual.{afterAll};
+ghost use Rattle.table_index.specs.Index.{tableIn, Indexed};
+ghost use Rattle.residuals.specs.Residual.{afterAll};
 ghost use Rattle.monitor_spec.specs.State.{areasMeasured};
-ghost use Rattle.monitor_spec.specs.Offer.{bitOf, bitsBelow, offerJudged, offerOf};
-ghost use Rattle.state.specs.Record.{monitorOf};
-ghost use Rattle.state.specs.Answers.{offeredOf, offerOutcome};
-ghost use Rattle.stepping.specs.Holds.{AreaHolds, heldIn};
+ghost use Rattle.monitor_spec.specs.Consistent.{consistent};
+ghost use Rattle.monitor_spec.specs.Offer.{bitOf, bitsBelow, offerBits, offerOf};
+ghost use Rattle.state.specs.Record.{verdictOf, monitorOf};
+ghost use Rattle.state.specs.Answers.{offerOutcome};
+ghost use Rattle.step_laws.specs.Holds.{AreaHolds, heldIn};
+use entering::enter_on;
 use state::Offered;
 use state::State;
 use state::Verdict;
 use state::clear_all;
-use state::consistent;
-use state::lengths_fit;
 use table::Judged;
-use table::Refusal;
 
 // 1 where some of the residuals held may take event e, else 0.
 fn bit(list: &[u16], work: &[u64], area: &[u64], count: usize, e: u64) -> u64
@@ -32,7 +30,7 @@ fn bit(list: &[u16], work: &[u64], area: &[u64], count: usize, e: u64) -> u64
 {
     let mut i = 0;
     while i < count {
-        let tree = step::takes_at(list, work, area, i * 16 + 1, e);
+        let tree = set_step::takes_at(list, work, area, i * 16 + 1, e);
         if tree.moves {
             return 1;
         }
@@ -59,30 +57,26 @@ fn bits(list: &[u16], work: &[u64], area: &[u64], count: usize) -> u64
     bits
 }
 
-// Offer on an accepted table, whose index stands in the work area.
-fn offer_accepted(list: &[u16], state: State, area0: &[u64], area1: &[u64], work: &[u64]) -> Offered
+// The bits of the residuals held, which are in the area that the parity of the events taken says; 0
+// after failure.
+fn offered(list: &[u16], work: &[u64], state: State, area0: &[u64], area1: &[u64]) -> u64
     requires { ⌜ Indexed (now list) (now work) ⌝ }
     requires { ⌜ areasMeasured (now area0) (now area1) ≡ true ⌝ }
+    requires { ⌜ consistent (tableIn (now list))
+        (monitorOf state (now area0) (now area1)) ≡ true ⌝ }
     ensures { λ r.
-        ⌜ offeredOf r
-        ≡ (offerJudged (accepted (now (list .entry)) (tableIn (now (list .entry))))
-        (monitorOf state (now (area0 .entry)) (now (area1 .entry))) (now (work .entry))) .answer ⌝ }
+        ⌜ r ≡ offerBits (tableIn (now (list .entry)))
+        (monitorOf state (now (area0 .entry)) (now (area1 .entry))) (verdictOf (state .verdict)) ⌝ }
 {
-    if !consistent(list, work, state, area0, area1) {
-        return Offered::Refused(Refusal {
-            number: 10,
-            place: 0,
-        });
-    }
     let verdict = state.verdict;
     if let Verdict::Failed(_) = verdict {
-        return Offered::Offers(0);
+        return 0;
     }
     let count = state.count as usize;
     if state.taken % 2 == 0 {
-        return Offered::Offers(bits(list, work, area0, count));
+        return bits(list, work, area0, count);
     }
-    Offered::Offers(bits(list, work, area1, count))
+    bits(list, work, area1, count)
 }
 
 // The events that may come next, a bit for each; 0 after failure. The areas are kept; the work area
@@ -93,18 +87,12 @@ pub fn offer(list: &[u16], state: State, area0: &[u64], area1: &[u64], work: &mu
         ≡ offerOf (now (list .entry)) (monitorOf state (now (area0 .entry)) (now (area1 .entry)))
         (now (work .entry)) ⌝ }
 {
-    if !lengths_fit(area0.len(), area1.len(), work.len()) {
-        return Offered::Refused(Refusal {
-            number: 1,
-            place: 0,
-        });
-    }
-    match judge::check(list, work) {
+    match enter_on(list, state, area0, area1, work) {
         Judged::Accepted => {
-            let answer = offer_accepted(list, state, area0, area1, work);
+            let bits = offered(list, work, state, area0, area1);
             clear_all(work);
-            answer
+            Offered::Offers(bits)
         }
-        Judged::Declined(r) => Offered::Refused(r),
+        Judged::Declined(refusal) => Offered::Refused(refusal),
     }
 }

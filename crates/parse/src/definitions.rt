@@ -4,12 +4,12 @@ use crate::terms::read_term;
 use table::Refusal;
 use table::Spot;
 use table::TermEnd;
-use table::layout;
+use table_index::layout;
 ghost use Prim.Native.Nat.{_<_, _≤_};
 ghost use lib.ListN.{length};
-ghost use Rattle.table.specs.Index.{setsIn};
-ghost use Rattle.table.specs.Parse.{SetsReady, DefinitionsRead};
-ghost use Rattle.table.specs.Parse.Terms.{DefinitionRead};
+ghost use Rattle.table_index.specs.Index.{setsIn};
+ghost use Rattle.table_index.specs.Parse.{SetsReady, DefinitionsRead};
+ghost use Rattle.table_index.specs.Parse.Terms.{DefinitionRead};
 
 // The definition at a place: its level and its body, whose number is n.
 fn read_definition(

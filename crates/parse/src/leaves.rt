@@ -1,15 +1,15 @@
-// Storing a term as a word, whose digits `table::layout` has; reading a term without terms in it.
+// Storing a term as a word, whose digits `table_index::layout` has; reading a term without terms in it.
 use table::Head;
 use table::Refusal;
 use table::Spot;
 use table::TermEnd;
-use table::layout;
+use table_index::layout;
 ghost use mathlib.Core.Path.{_≡_};
 ghost use Prim.Native.Nat.{_+_, _<_, _≤_};
 ghost use lib.ListN.{length};
-ghost use Rattle.table.specs.Index.{setsIn};
-ghost use Rattle.table.specs.Parse.{SpotFits, HeadFits, WordStored};
-ghost use Rattle.table.specs.Parse.Terms.{LeafRead, TermReadBy, callRest};
+ghost use Rattle.table_index.specs.Index.{setsIn};
+ghost use Rattle.table_index.specs.Parse.{SpotFits, HeadFits, WordStored};
+ghost use Rattle.table_index.specs.Parse.Terms.{LeafRead, TermReadBy, callRest};
 
 // Stores term n, whose right side, if it has one, has the number `right`.
 pub fn store_term(work: &mut [u64], n: usize, h: Head, right: usize)

@@ -5,12 +5,12 @@ use table::Judged;
 use table::Place;
 use table::Refusal;
 use table::TermEnd;
-use table::layout;
+use table_index::layout;
 ghost use mathlib.Core.Path.{_≡_};
 ghost use lib.ListN.{length};
-ghost use Rattle.table.specs.Parse.{ParseDone};
-ghost use Rattle.table.specs.Parse.Header.{Header};
-ghost use Rattle.table.specs.Parse.Structure.{counted};
+ghost use Rattle.table_index.specs.Parse.{ParseDone};
+ghost use Rattle.table_index.specs.Parse.Header.{Header};
+ghost use Rattle.table_index.specs.Parse.Structure.{counted};
 ghost use Prim.Native.Nat.{_≤_};
 
 // Stores the alphabet size, the number of definitions and of terms, the place where the definitions

@@ -1,11 +1,11 @@
 // Reading a set reference: a set number and, for a kind 1 set, a parameter.
 use table::Reference;
 use table::Refusal;
-use table::layout;
+use table_index::layout;
 ghost use Prim.Native.Nat.{_≤_};
 ghost use lib.ListN.{length};
-ghost use Rattle.table.specs.Index.{setsIn};
-ghost use Rattle.table.specs.Parse.{SetsReady, ReferenceRead};
+ghost use Rattle.table_index.specs.Index.{setsIn};
+ghost use Rattle.table_index.specs.Parse.{SetsReady, ReferenceRead};
 
 // The set reference at a place.
 pub fn read_reference(list: &[u16], work: &[u64], sets: usize, at: usize) -> Reference

@@ -15,12 +15,12 @@ use table::Spot;
 use table::TermEnd;
 ghost use Prim.Native.Nat.{ℕ, _+_, _<_, _≤_};
 ghost use lib.ListN.{length};
-ghost use Rattle.table.specs.Index.{setsIn};
+ghost use Rattle.table_index.specs.Index.{setsIn};
 ghost use Rattle.table.specs.Node.{followerSpot};
 ghost use Rattle.table.specs.Table.{SetRef};
-ghost use Rattle.table.specs.Parse.{SetsReady, SpotFits, HeadFits, TermRead};
-ghost use Rattle.table.specs.Parse.Terms.{TermReadBy, Joint, before, TwoSided, HeadOf};
-ghost use Rattle.table.specs.Parse.Terms.{followerOf, sidesOf};
+ghost use Rattle.table_index.specs.Parse.{SetsReady, SpotFits, HeadFits, TermRead};
+ghost use Rattle.table_index.specs.Parse.Terms.{TermReadBy, Joint, before, TwoSided, HeadOf};
+ghost use Rattle.table_index.specs.Parse.Terms.{followerOf, sidesOf};
 
 // The term at a place, number n, with room for so many levels of terms.
 pub fn read_term(

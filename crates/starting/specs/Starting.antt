@@ -1,6 +1,5 @@
--- What Start's functions promise (01, "Operations": "Start settles the last definition into area 0, zeroes area 1,
+-- What Start's parts promise (01, "Operations": "Start settles the last definition into area 0, zeroes area 1,
 -- taken 0").
---     StartRecord      the record with so many residuals held and no event taken
 --     Started          the answer and both areas, of an accepted table
 -- The laws are in `Starting/Laws.antt`. Assumes nothing.
 use Prim.Native.Nat.{ℕ}
@@ -9,17 +8,10 @@ use mathlib.Core.List.{List}
 use lib.ListN.{length}
 use Rattle.table.specs.Table.{Table}
 use Rattle.table.specs.Operations.{zeros}
-use Rattle.monitor_spec.specs.State.{State, running}
-use Rattle.monitor_spec.specs.Feed.{nextVerdict}
 use Rattle.monitor_spec.specs.Start.{startAccepted}
 use Rattle.state.specs.declared.answer.Answer.{Answer}
 use Rattle.state.specs.Answers.{outcome}
 pub mod Laws
-
--- "An empty set means failed, at .. (0 at Start)"
-pub record StartRecord (n : ℕ) (s : State) : Type 0 where
-  pub same : (ss : List (List ℕ)) → length ss ≡ n
-      → s ≡ record { taken = 0; count = length ss; verdict = nextVerdict running 0 ss }
 
 -- whatever the work area was, it is cleared later
 pub record Started (t : Table) (a b : List ℕ) (r : Answer) (a' b' : List ℕ) : Type 0 where

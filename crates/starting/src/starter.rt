@@ -2,35 +2,19 @@
 // definitions are in `specs/Starting.antt`; the whole outcome is `startOf` of crate monitor_spec.
 ghost use mathlib.Core.Path.{_≡_};
 ghost use mathlib.Core.Bool.{true};
-ghost use Rattle.table.specs.Index.{tableIn, Indexed};
+ghost use Rattle.table_index.specs.Index.{tableIn, Indexed};
 ghost use Rattle.monitor_spec.specs.State.{areasMeasured};
 ghost use Rattle.monitor_spec.specs.Start.{startOf};
-ghost use Rattle.state.specs.Record.{stateOf};
 ghost use Rattle.state.specs.Answers.{outcome};
-ghost use Rattle.starting.specs.Starting.{StartRecord, Started};
+ghost use Rattle.starting.specs.Starting.{Started};
+use entering::enter;
+use set_step::Held;
 use state::Answer;
 use state::State;
-use state::Verdict;
 use state::clear_all;
 use state::lengths_fit;
-use step::Held;
 use table::Judged;
 use table::Refusal;
-
-// The record with no event taken and so many residuals held.
-fn start_record(count: u64) -> State
-    ensures { λ r. ⌜ StartRecord count (stateOf r) ⌝ }
-{
-    let state = State {
-        taken: 0,
-        count,
-        verdict: Verdict::Running,
-    };
-    if count == 0 {
-        return state.fail();
-    }
-    state
-}
 
 // Start of an accepted table.
 fn start_accepted(list: &[u16], work: &[u64], area0: &mut [u64], area1: &mut [u64]) -> Answer
@@ -43,8 +27,8 @@ fn start_accepted(list: &[u16], work: &[u64], area0: &mut [u64], area1: &mut [u6
     clear_all(area0);
     clear_all(area1);
     let last = index::definition_count(list, work) - 1;
-    match step::resolve_set(list, work, last, area0) {
-        Held::Count(count) => Answer::Given(start_record(count as u64)),
+    match set_step::resolve_set(list, work, last, area0) {
+        Held::Count(count) => Answer::Given(State::fresh(count as u64)),
         Held::Exceeded => {
             clear_all(area0);
             Answer::Refused(Refusal {
@@ -62,13 +46,7 @@ pub fn start(list: &[u16], area0: &mut [u64], area1: &mut [u64], work: &mut [u64
         ≡ startOf (now (list .entry)) (now (area0 .entry)) (now (area1 .entry))
         (now (work .entry)) ⌝ }
 {
-    if !lengths_fit(area0.len(), area1.len(), work.len()) {
-        return Answer::Refused(Refusal {
-            number: 1,
-            place: 0,
-        });
-    }
-    match judge::check(list, work) {
+    match enter(list, lengths_fit(area0.len(), area1.len()), work) {
         Judged::Accepted => {
             let answer = start_accepted(list, work, area0, area1);
             clear_all(work);

@@ -16,7 +16,7 @@ use Rattle.table.specs.Node.{termOf as nodeTerm}
 use Rattle.table.specs.Width.{reach}
 use Rattle.state.specs.declared.valid.Forest.{Forest}
 use Rattle.state.specs.declared.valid.Forest.the-variants.{Broken, Trees}
-use Rattle.monitor_spec.specs.Slots.{termOfWord, memoryOf}
+use Rattle.node_word.specs.Word.{termOfWord, memoryOf}
 use Rattle.monitor_spec.specs.Valid.{memoryFits}
 pub mod Laws
 pub mod Words

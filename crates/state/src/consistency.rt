@@ -4,7 +4,7 @@ ghost use mathlib.Core.Path.{_≡_};
 ghost use Prim.Native.Nat.{_*_, _≤_};
 ghost use mathlib.Core.Bool.{_&&_};
 ghost use lib.ListN.{length};
-ghost use Rattle.table.specs.Index.{tableIn, Indexed};
+ghost use Rattle.table_index.specs.Index.{tableIn, Indexed};
 ghost use Rattle.monitor_spec.specs.State.{chunks};
 ghost use Rattle.monitor_spec.specs.Valid.{validSlot};
 ghost use Rattle.monitor_spec.specs.Consistent.{every, ascends, allZero, recordFits, areaFits};

@@ -1,10 +1,10 @@
-// Whether lent lengths are as they must be (document 01, "Operations"; refusal 1).
+// Whether the lengths of lent areas are as they must be (document 01, "Operations"; refusal 1).
 ghost use mathlib.Core.Path.{_≡_};
 ghost use Rattle.state.specs.Record.{lengthsFit};
 
-// Of the lengths of area 0, area 1 and the work area.
-pub fn lengths_fit(a: usize, b: usize, w: usize) -> bool
-    ensures { λ r. ⌜ r ≡ lengthsFit a b w ⌝ }
+// Of the lengths of area 0 and area 1.
+pub fn lengths_fit(a: usize, b: usize) -> bool
+    ensures { λ r. ⌜ r ≡ lengthsFit a b ⌝ }
 {
     if a != b {
         return false;
@@ -15,8 +15,5 @@ pub fn lengths_fit(a: usize, b: usize, w: usize) -> bool
     if a < 16 {
         return false;
     }
-    if 4096 < a {
-        return false;
-    }
-    w == 8192
+    a <= 4096
 }

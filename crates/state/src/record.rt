@@ -2,7 +2,8 @@
 // and hands back its successor"). What it stands for is `stateOf` of `specs/Record.antt`.
 ghost use mathlib.Core.Path.{_≡_};
 ghost use Prim.Native.Nat.{_<_};
-ghost use Rattle.state.specs.Record.{stateOf, counted, failing, holding, Successor};
+ghost use Rattle.monitor_spec.specs.State.{counted, holding, freshState};
+ghost use Rattle.state.specs.Record.{stateOf, succeeding};
 
 // Running, or failed at a place.
 pub enum Verdict {
@@ -33,7 +34,7 @@ impl State {
 
     // No residual is left: failed at the events taken, unless it failed before.
     pub fn fail(self) -> Self
-        ensures { λ r. ⌜ stateOf r ≡ failing (stateOf self) ⌝ }
+        ensures { λ r. ⌜ stateOf r ≡ holding (stateOf self) 0 ⌝ }
     {
         let verdict = self.verdict;
         match verdict {
@@ -50,24 +51,36 @@ impl State {
         }
     }
 
-    // So many residuals are held.
+    // So many residuals are held; with none it fails.
     pub(crate) fn hold(mut self, count: u64) -> Self
         ensures { λ r. ⌜ stateOf r ≡ holding (stateOf self) count ⌝ }
     {
+        if count == 0 {
+            return self.fail();
+        }
         self.count = count;
         self
+    }
+
+    // The record with no event taken and so many residuals held.
+    pub fn fresh(count: u64) -> Self
+        ensures { λ r. ⌜ stateOf r ≡ freshState count ⌝ }
+    {
+        let state = State {
+            taken: 0,
+            count: 0,
+            verdict: Verdict::Running,
+        };
+        state.hold(count)
     }
 
     // The record after one event that left so many residuals. A counter that is full stays, and the
     // record with it: Feed refuses there (12).
     pub fn after(self, count: u64) -> Self
-        ensures { λ r. ⌜ Successor (stateOf self) count (stateOf r) ⌝ }
+        ensures { λ r. ⌜ stateOf r ≡ succeeding (stateOf self) count ⌝ }
     {
         if self.taken == 18446744073709551615 {
             return self;
-        }
-        if count == 0 {
-            return self.take().fail();
         }
         self.take().hold(count)
     }

@@ -6,14 +6,15 @@
 ghost use mathlib.Core.Path.{_≡_};
 ghost use Prim.Native.Nat.{_≤_};
 ghost use lib.ListN.{length, take, drop};
-ghost use Rattle.table.specs.Index.{tableIn, Indexed};
-ghost use Rattle.monitor_spec.specs.Slots.{memoryOf, compareWords};
+ghost use Rattle.table_index.specs.Index.{tableIn, Indexed};
+ghost use Rattle.node_word.specs.Word.{memoryOf};
+ghost use Rattle.residuals.specs.Slots.{compareWords};
 ghost use Rattle.monitor_spec.specs.Valid.{digitFits, memoryFits, isBelow, validSlot};
 ghost use Rattle.monitor_spec.specs.Consistent.{allZero};
 ghost use Rattle.state.specs.Walk.{Few, withLeaf, paired, isWhole};
 ghost use Rattle.state.specs.Walk.{wordFits, planted, walked};
-use crate::words::digit;
-use crate::words::term_of;
+use node_word::digit;
+use node_word::term_of;
 
 // Whether the words from one on are zero.
 pub fn all_zero(area: &[u64], from: usize) -> bool

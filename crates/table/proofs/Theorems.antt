@@ -10,7 +10,7 @@ use Rattle.table.specs.Grammar.Whole.{table-ok-sound, table-ok-complete}
 use Rattle.table.specs.Fields.Laws.{fields-in, fields-out}
 use Rattle.table.specs.Branches.Capped.{capped-few, capped-term}
 use Rattle.table.specs.Branches.{branches}
-use Rattle.table.specs.Resolve.Laws as residuals
+use Rattle.table.specs.Width.Reach as width
 use Rattle.table.specs.Judge.Laws.{AcceptedList, list-out, list-in, AcceptedBytes, bytes-out, bytes-in}
 use Rattle.table.specs.Marks.Written.{table-numbers}
 use Rattle.table.specs.Refusals.AtNumbers.{refused-out, refused-in}
@@ -19,7 +19,7 @@ use Rattle.table.specs.Refusals.Lowest.{many-in}
 use Rattle.table.specs.Marks.Exact.{marks-out, marks-in}
 use Rattle.table.specs.BytesRefused.Exact.{refused-bytes-out}
 use Rattle.table.specs.BytesRefused.Given.{refused-bytes-in}
-use Rattle.table.specs.Equations.{branches-call, resolve-call, width-level, resolve-count}
+use Rattle.table.specs.Equations.{branches-call, width-level}
 use Rattle.table.specs.Examples.Laws.{numbers-hold, tables-hold, counts-hold, longs-hold}
 use Rattle.table.specs.Examples.Laws.{reads-hold, writes-hold}
 use Rattle.table.specs.Bounds.Laws.{bounds-hold}
@@ -29,8 +29,8 @@ use Rattle.table.specs.Claims.{ReadLeaves, WriteLeaves}
 use Rattle.table.specs.Claims.{NumberReadsBack, NumberCanonical, TableReadsBack, TableCanonical}
 use Rattle.table.specs.Claims.{AcceptedExactly, AcceptedBytesExactly, AcceptedWritesBack, WrittenReadsBack}
 use Rattle.table.specs.Claims.{RefusedExactly, RefusedBytesExactly, ManyAtTerm, FieldsAreMarks}
-use Rattle.table.specs.Claims.{BranchesOfCall, ResolvedCall, WidthOfLevel, ResolvedCount, ReadFills, Examples}
-use Rattle.table.specs.Claims.{ResolvedReach, ReachMost, CappedBranches, Bounds}
+use Rattle.table.specs.Claims.{BranchesOfCall, WidthOfLevel, ReadFills, Examples}
+use Rattle.table.specs.Claims.{ReachMost, CappedBranches, Bounds}
 
 pub number-reads-back : NumberReadsBack
 unfolding NumberReadsBack
@@ -89,13 +89,9 @@ pub written-reads-back : WrittenReadsBack
 unfolding WrittenReadsBack
 written-reads-back = operations.reads-back
 
-pub resolved-reach : ResolvedReach
-unfolding ResolvedReach
-resolved-reach t r m p = residuals.resolve-reach t r m p
-
 pub reach-most : ReachMost
 unfolding ReachMost
-reach-most t r d b = residuals.reach-most t r d b
+reach-most t r d b = width.reach-most t r d b
 
 pub capped-branches : CappedBranches
 unfolding CappedBranches
@@ -105,17 +101,9 @@ pub branches-of-call : BranchesOfCall
 unfolding BranchesOfCall
 branches-of-call = branches-call
 
-pub resolved-call : ResolvedCall
-unfolding ResolvedCall
-resolved-call = resolve-call
-
 pub width-of-level : WidthOfLevel
 unfolding WidthOfLevel
 width-of-level = width-level
-
-pub resolved-count : ResolvedCount
-unfolding ResolvedCount
-resolved-count = resolve-count
 
 pub read-leaves : ReadLeaves
 unfolding ReadLeaves

@@ -22,7 +22,6 @@ pub mod Stream
 pub mod Laws
 pub mod Given
 pub mod Exact
-pub mod Judged
 
 unfoldable pub bytePlace : List ℕ → ℕ → ℕ
 bytePlace ns i = length (listBytes (take i ns))

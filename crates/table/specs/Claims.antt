@@ -10,9 +10,9 @@
 --     FieldsAreMarks                      the field rules hold where each number keeps its own bound
 --     AcceptedWritesBack                  what Read accepts, Write writes back byte for byte
 --     WrittenReadsBack                    what Write writes, Read reads back number for number
---     ResolvedReach, ReachMost            a residual's leaves together have at most its term's reach, at most 8
+--     ReachMost                           the reach of a term is at most 8
 --     CappedBranches                      branches counted to 257 only
---     BranchesOfCall, ResolvedCall, WidthOfLevel, ResolvedCount    01's sentences on calls, as equations
+--     BranchesOfCall, WidthOfLevel        01's sentences on calls, as equations
 --     ReadLeaves, WriteLeaves             what Read and Write give, by the lent lengths and the judgement
 --     ReadFills                           Read's output keeps its length
 --     Examples, Bounds                    worked inputs; both sides of each bound, and which of two refusals is given
@@ -39,7 +39,6 @@ use Rattle.table.specs.References.{firstWrong}
 use Rattle.table.specs.Width.{widthWith, widest, levelWidth, reach}
 use Rattle.table.specs.Branches.{branchesAt, allBranches, branches, bodyIn}
 use Rattle.table.specs.Branches.Capped.{capped, cappedWith, allCapped}
-use Rattle.table.specs.Resolve.{Memory, noMemory, resolve, reachSum}
 use Rattle.table.specs.Equations.{callCount}
 use Rattle.table.specs.Examples.{every, numberRows, tableRows, countRows, longRows, readRows, writeRows}
 use Rattle.table.specs.Bounds.{alphabetRows, setRows, definitionRows, parameterRows, callRows, widthRows}
@@ -109,9 +108,6 @@ WrittenReadsBack = (l out work : List ℕ) (n : ℕ) → writeOf l out work .ans
     → readOf (take n (writeOf l out work .output)) out' work'
     ≡ record { answer = done (length l); output = l ++ zeros (16384 - length l); work = zeros 8192 }
 
-unfoldable pub ResolvedReach : Type 0
-ResolvedReach = (t : Table) → Rules t → (m : Memory) (p : Term) → All (λ r. reachSum t r ≤ reach t p) (resolve t m p)
-
 unfoldable pub ReachMost : Type 0
 ReachMost =
     (t : Table) → Rules t → (d : ℕ) → d < length (t .definitions)
@@ -129,21 +125,12 @@ BranchesOfCall =
     (t : Table) → firstWrong t ≡ none → (d : ℕ) → d < length (t .definitions)
     → branches t (call d) ≡ branches t (bodyIn (t .definitions) d)
 
--- "those of the definition called": a call resolves as the body, with no memory
-unfoldable pub ResolvedCall : Type 0
-ResolvedCall = (t : Table) → firstWrong t ≡ none → (m : Memory) (d : ℕ) → d < length (t .definitions)
-    → resolve t m (call d) ≡ resolve t noMemory (bodyIn (t .definitions) d)
-
 -- "call to its own level 1, to a lower level that level's hands. A level's hands are the largest among its bodies":
 -- where 7 is not met, whatever 8 and 9
 unfoldable pub WidthOfLevel : Type 0
 WidthOfLevel =
     (t : Table) → firstWrong t ≡ none → (l : ℕ) → l ≤ 7
     → levelWidth t l ≡ widest (widthWith (callCount t l)) l (t .definitions)
-
--- ours: branches are how many ways a term resolves
-unfoldable pub ResolvedCount : Type 0
-ResolvedCount = (t : Table) (m : Memory) (p : Term) → length (resolve t m p) ≡ branches t p
 
 -- 00, demand 1: "a refusal only on its listed condition"; 01: every lent word after Read and Write
 unfoldable pub ReadLeaves : Type 0

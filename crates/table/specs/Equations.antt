@@ -1,11 +1,9 @@
--- The sentences that define width, branches and residuals through calls, as equations: the lists that the definitions
--- grow are their solution where the rules on references hold, whatever the widths and branches are
--- (01, "Hands of a term", "Openings", "Residuals").
+-- The sentences that define width and branches through calls, as equations: the lists that the definitions grow are
+-- their solution where the rules on references hold, whatever the widths and branches are (01, "Hands of a term",
+-- "Openings").
 --     branches-call     "the openings of a call are those of the definition called"
 --     branches-guarded  the same, from the one rule that it rests on
---     resolve-call      a call resolves as its body does
 --     width-level       "call to its own level 1, to a lower level that level's hands"; "the largest among its bodies"
---     resolve-count     a term has as many residuals as branches
 -- Assumes nothing.
 use Prim.Native.Nat.{ℕ, zero, suc, _+_, _*_, _≤_, _<_, max}
 use native.Mathlib.Omega.{arith}
@@ -28,8 +26,6 @@ use Rattle.table.specs.References.{levelIn, firstWrong}
 use Rattle.table.specs.Width.{widthWith, widest, callWidth, nextWidth, allWidths, levelWidth}
 use Rattle.table.specs.Branches.{branchesWith, branchesAt, bodyIn, nextBranches, allBranches, branches}
 use Rattle.table.specs.Rules.Laws.{levels-out, guarded-out}
-use Rattle.table.specs.Resolve.{Memory, noMemory, Residual, leaf, pair, pairs, resolveWith, resolved}
-use Rattle.table.specs.Resolve.{nextResolved, allResolved, resolve}
 
 -- a call with no prefix around it names a number below n
 abbrev Below : ℕ → Context → Term → Type 0
@@ -74,32 +70,6 @@ branches-guarded t g d b =
 pub branches-call : (t : Table) → firstWrong t ≡ none → (d : ℕ) → d < length (t .definitions)
     → branches t (call d) ≡ branches t (bodyIn (t .definitions) d)
 branches-call t r d b = branches-guarded t (guarded-out t r) d b
-
--- ---- resolve
-module _ (f g : ℕ → List Residual) (n : ℕ) (same : (e : ℕ) → e < n → f e ≡ g e) where
-  resolve-agree : (m : Memory) (c : Context) (p : Term) → c .prefixes ≡ 0 → Throughout (Below n) c p
-      → resolveWith f m p ≡ resolveWith g m p
-  unfolding resolveWith
-  resolve-agree m c stop z h = refl
-  resolve-agree m c fail z h = refl
-  resolve-agree m c (prefix r p) z h = refl
-  resolve-agree m c (choice p q) z h = ap₂ _++_ (resolve-agree m c p z (h .1)) (resolve-agree m c q z (h .2))
-  resolve-agree m c (par r p q) z h =
-      ap₂ (pairs m r) (resolve-agree m (underParallel c) p z (h .1)) (resolve-agree m (underParallel c) q z (h .2))
-  resolve-agree m c (call e) z h = same e (h z)
-
-pub resolve-call : (t : Table) → firstWrong t ≡ none → (m : Memory) (d : ℕ) → d < length (t .definitions)
-    → resolve t m (call d) ≡ resolve t noMemory (bodyIn (t .definitions) d)
-unfolding resolve resolveWith resolved allResolved
-resolve-call t r m d b =
-    let ds = t .definitions in
-    let f = nextResolved ds in
-    getD-grow f [] (length ds) d b
-    ∙ unfold nextResolved in
-    ap (λ (k : ℕ). resolveWith (resolved (grow f d)) noMemory (bodyIn ds k)) (length-grow f d)
-    ∙ resolve-agree (resolved (grow f d)) (resolved (grow f (length ds))) d
-    (λ e h. unfold resolved in grow-stable f [] d (length ds) e h (omega arith))
-    noMemory outermost (bodyIn ds d) refl (below-body t (guarded-out t r) d b)
 
 -- ---- width
 
@@ -165,64 +135,3 @@ width-level t r l b =
     getD-grow f 0 8 l (omega arith)
     ∙ ap (λ (n : ℕ). widest (widthWith (callWidth ds (grow f l))) n ds) (length-grow f l)
     ∙ widest-agree ds (callWidth ds (grow f l)) (callCount t l) l (call-agree t l b) 0 ds (levels-out t r)
-
--- ---- how many residuals
-length-pairs : (m : Memory) (r : SetRef) (ps qs : List Residual) → length (pairs m r ps qs) ≡ length ps * length qs
-unfolding pairs flatMap
-length-pairs m r [] qs = sym (zero-mul (length qs))
-length-pairs m r (a ∷ ps) qs =
-    length-append (map (pair m r a) qs) _
-    ∙ ap₂ _+_ (length-map qs (pair m r a)) (length-pairs m r ps qs)
-    ∙ let e = native.Mathlib.Nat.suc-mul (length ps) (length qs) in omega arith
-
-resolveWith-count : (calls : ℕ → List Residual) (m : Memory) (p : Term)
-    → length (resolveWith calls m p) ≡ branchesWith (λ d. length (calls d)) p
-unfolding resolveWith branchesWith
-resolveWith-count calls m stop = refl
-resolveWith-count calls m fail = refl
-resolveWith-count calls m (prefix r p) = refl
-resolveWith-count calls m (choice p q) =
-    length-append (resolveWith calls m p) (resolveWith calls m q)
-    ∙ ap₂ _+_ (resolveWith-count calls m p) (resolveWith-count calls m q)
-resolveWith-count calls m (par r p q) =
-    length-pairs m r (resolveWith calls m p) (resolveWith calls m q)
-    ∙ ap₂ _*_ (resolveWith-count calls m p) (resolveWith-count calls m q)
-resolveWith-count calls m (call d) = refl
-
-branches-same : (f g : ℕ → ℕ) → ((d : ℕ) → f d ≡ g d) → (p : Term) → branchesWith f p ≡ branchesWith g p
-unfolding branchesWith
-branches-same f g s stop = refl
-branches-same f g s fail = refl
-branches-same f g s (prefix r p) = refl
-branches-same f g s (choice p q) = ap₂ _+_ (branches-same f g s p) (branches-same f g s q)
-branches-same f g s (par r p q) = ap₂ _*_ (branches-same f g s p) (branches-same f g s q)
-branches-same f g s (call d) = s d
-
-abbrev countOf : List Residual → ℕ
-countOf l = length l
-
-count-at : (l : List (List Residual)) (d : ℕ) → length (resolved l d) ≡ branchesAt (map countOf l) d
-unfolding resolved branchesAt
-count-at [] d = refl
-count-at (x ∷ l) zero = refl
-count-at (x ∷ l) (suc d) = unfold resolved branchesAt in count-at l d
-
-count-grow : (ds : List Definition) (n : ℕ) → map countOf (grow (nextResolved ds) n) ≡ grow (nextBranches ds) n
-unfolding grow nextResolved nextBranches
-count-grow ds zero = refl
-count-grow ds (suc n) =
-    let g = grow (nextResolved ds) n in
-    map-append countOf g _
-    ∙ ap (λ (x : ℕ). map countOf g ++ (x ∷ []))
-    (resolveWith-count (resolved g) noMemory (bodyIn ds (length g))
-    ∙ branches-same (λ d. length (resolved g d)) (branchesAt (map countOf g)) (count-at g) (bodyIn ds (length g))
-    ∙ ap (λ (k : ℕ). branchesWith (branchesAt (map countOf g)) (bodyIn ds k)) (sym (length-map g countOf)))
-    ∙ ap (λ (l : List ℕ). l ++ (branchesWith (branchesAt l) (bodyIn ds (length l)) ∷ [])) (count-grow ds n)
-
-pub resolve-count : (t : Table) (m : Memory) (p : Term) → length (resolve t m p) ≡ branches t p
-unfolding resolve branches allResolved allBranches
-resolve-count t m p =
-    let g = allResolved (t .definitions) in
-    resolveWith-count (resolved g) m p
-    ∙ branches-same (λ d. length (resolved g d)) (branchesAt (map countOf g)) (count-at g) p
-    ∙ ap (λ (l : List ℕ). branchesWith (branchesAt l) p) (count-grow (t .definitions) (length (t .definitions)))

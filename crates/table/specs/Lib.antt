@@ -2,6 +2,7 @@
 -- then the contracts of the code; then the examples and what is proved. The laws of each file stand below it.
 -- Assumes nothing.
 pub mod Table
+pub mod Part
 pub mod Tokens
 pub mod Parser
 pub mod Grammar
@@ -14,7 +15,6 @@ pub mod References
 pub mod Width
 pub mod Branches
 pub mod Memory
-pub mod Resolve
 pub mod Rules
 pub mod Equations
 pub mod Judge
@@ -25,11 +25,6 @@ pub mod Operations
 pub mod Answers
 pub mod Node
 pub mod Member
-pub mod Layout
-pub mod Index
-pub mod Parse
-pub mod Judging
-pub mod Filling
 pub mod Examples
 pub mod Bounds
 pub mod Claims

@@ -3,7 +3,6 @@
 // parse, judge and codec. `specs/Lib.antt` lists the definitions in reading order,
 // `specs/Claims.antt` what is proved of them.
 mod answer;
-pub mod layout;
 mod rows;
 mod terms;
 

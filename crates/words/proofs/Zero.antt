@@ -14,14 +14,19 @@ use Rattle.table.specs.Judge.{Judgement, accepted, declined, judgeList, judgeBy
 use Rattle.table.specs.Operations.{done, refusal, Outcome, zeros, measured, readJudged, readOf, writeJudged, writeOf}
 use Rattle.monitor_spec.specs.State as state
 use Rattle.monitor_spec.specs.State.{Monitor, areasMeasured, workMeasured, slotCount}
-use Rattle.monitor_spec.specs.Residual.{residualsOf}
-use Rattle.monitor_spec.specs.Slots.{slotsOf}
+use Rattle.residuals.specs.Residual.{Residual, residualsOf}
+use Rattle.residuals.specs.Slots.{slotsOf}
 use Rattle.monitor_spec.specs.Fold.{Step, went, stops, Ended, through}
-use Rattle.monitor_spec.specs.Start.{startAccepted, startJudged, startOf}
-use Rattle.monitor_spec.specs.Feed.{counterMost, nextSlots, taking, takeEvent, endingOf, refusing}
-use Rattle.monitor_spec.specs.Feed.{feedAccepted, feedJudged, feedOf}
-use Rattle.monitor_spec.specs.Consistent.{consistent}
-use Rattle.monitor_spec.specs.Offer.{OfferOutcome, offering, offerJudged, offerOf}
+use Rattle.monitor_spec.specs.Start.{startAccepted, startOf}
+use Rattle.monitor_spec.specs.Start.Laws.{start-shut, start-admits}
+use Rattle.monitor_spec.specs.Feed.{takeEvent, endingOf, feedOf}
+use Rattle.monitor_spec.specs.Feed.Laws.{EventCase, meets, passes, event-case, metBy, take-refused}
+use Rattle.monitor_spec.specs.Feed.Laws.{take-passes, feed-shut, feed-admits}
+use Rattle.monitor_spec.specs.Entering.{Entrance, shut, admits, entrance, entranceOn, refusing}
+use Rattle.monitor_spec.specs.Entering.Laws.{shut-all, on-all}
+use Rattle.monitor_spec.specs.Offer.{OfferOutcome, offering, offerOf}
+use Rattle.monitor_spec.specs.Offer.Laws.{offer-shut, offer-admits}
+use Rattle.monitor_spec.specs.Progress.{Meets, unknown, full, exceeded}
 use Rattle.words.specs.Words.{recordMeasured}
 use Rattle.words.specs.Tables as tables
 use Rattle.words.specs.Tables.{isDone, tableCall, readCall, writeCall}
@@ -86,18 +91,15 @@ start-accepted t a b w = go (ltb (slotCount a) (length (slotsOf (residualsOf t [
     go true e = rw (e, startAccepted)
     go false e = rw (e, startAccepted)
 
-start-judged : (l a b w : List ℕ) (j : Judgement) → judgeList l ≡ j → Said (startJudged j a b w)
-unfolding startJudged numberOf isGiven
-start-judged l a b w (accepted ns t) e = start-accepted t a b w
-start-judged l a b w (declined n at) e = ne-eqb n 0 (list-some l n at e)
-
 start-said : (l a b w : List ℕ) → Said (startOf l a b w)
-unfolding startOf numberOf isGiven
-start-said l a b w = go (areasMeasured a b && workMeasured w) refl
+unfolding refusing numberOf isGiven
+start-said l a b w = go (entrance (areasMeasured a b && workMeasured w) l w) refl
   where
-    go : (x : Bool) → (areasMeasured a b && workMeasured w) ≡ x → Said (startOf l a b w)
-    go true e = rw (e, startOf) (start-judged l a b w (judgeList l) refl)
-    go false e = rw (e, startOf)
+    go : (x : Entrance) → entrance (areasMeasured a b && workMeasured w) l w ≡ x → Said (startOf l a b w)
+    go (shut n p v) e =
+        rw (start-shut l a b w n p v e)
+        (ne-eqb n 0 (shut-all _ l w (λ n p v. n ≡ 0 → ⊥) (λ h. omega arith) (list-some l) n p v e))
+    go (admits t) e = rw (start-admits l a b w t e) (start-accepted t a b w)
 
 pub start-zero : (l r a b w : List ℕ)
     → eqb (startCall l r a b w .number) 0 ≡ (recordMeasured r && isGiven (startOf l a b w .answer))
@@ -119,21 +121,21 @@ abbrev Stop : Step Monitor → Type 0
 Stop (went m) = T true
 Stop (stops n) = n ≡ 0 → ⊥
 
-event-tests : (x y z : Bool) (m : Monitor)
-    → Stop (elim x [
-      | true ↦ stops 11
-      | false ↦ elim y [ true ↦ stops 12 | false ↦ elim z [ true ↦ stops 13 | false ↦ went m ] ]
-    ])
-event-tests true y z m = λ h. omega arith
-event-tests false true z m = λ h. omega arith
-event-tests false false true m = λ h. omega arith
-event-tests false false false m = tt
+meets-why : {t : Table} {cap k : ℕ} {rs : List Residual} {e n : ℕ} → Meets t cap k rs e n → n ≡ 0 → ⊥
+meets-why (unknown a) h = omega arith
+meets-why (full a b) h = omega arith
+meets-why (exceeded a b c) h = omega arith
+
+case-why : {t : Table} {cap k : ℕ} {rs : List Residual} {e : ℕ} {o : Option ℕ} → EventCase t cap k rs e o → Why o
+case-why (meets n x) = meets-why x
+case-why (passes a b c) = tt
 
 event-stop : (t : Table) (m : Monitor) (e : ℕ) → Stop (takeEvent t m e)
-unfolding takeEvent
-event-stop t m e =
-    event-tests (leb (t .alphabet) e) (eqb (m .state .taken) counterMost)
-    (ltb (slotCount (m .area0)) (length (nextSlots t m e))) (taking m (nextSlots t m e))
+event-stop t m e = go (metBy t m e) refl
+  where
+    go : (o : Option ℕ) → metBy t m e ≡ o → Stop (takeEvent t m e)
+    go none h = rw (take-passes t m e h) tt
+    go (some n) h = rw (take-refused t m e n h) (subst Why h (case-why (event-case t _ _ _ e)))
 
 through-why : (t : Table) (es : List ℕ) (m : Monitor) (k : ℕ) → Why (through (takeEvent t) m k es .why)
 unfolding through
@@ -154,26 +156,19 @@ ending-said n x h = go (x .why) refl
     go none e = rw (e, endingOf)
     go (some k) e = rw (e, endingOf) (ne-eqb k 0 (subst Why e h))
 
-feed-accepted : (t : Table) (m : Monitor) (es w : List ℕ) → Said (feedAccepted t m es w)
-unfolding feedAccepted refusing numberOf isGiven
-feed-accepted t m es w = go (consistent t m) refl
-  where
-    go : (x : Bool) → consistent t m ≡ x → Said (feedAccepted t m es w)
-    go true e = rw (e, feedAccepted) (ending-said (length w) _ (through-why t es m 0))
-    go false e = rw (e, feedAccepted)
-
-feed-judged : (l : List ℕ) (m : Monitor) (es w : List ℕ) (j : Judgement) → judgeList l ≡ j → Said (feedJudged j m es w)
-unfolding feedJudged refusing numberOf isGiven
-feed-judged l m es w (accepted ns t) e = feed-accepted t m es w
-feed-judged l m es w (declined n at) e = ne-eqb n 0 (list-some l n at e)
+-- no refusal before the events has the number 0
+on-some : (l : List ℕ) (m : Monitor) (w : List ℕ) (n p : ℕ) (v : List ℕ) → entranceOn l m w ≡ shut n p v
+    → eqb n 0 ≡ false
+on-some l m w n p v e =
+    ne-eqb n 0 (on-all l m w (λ n p v. n ≡ 0 → ⊥) (λ h. omega arith) (list-some l) (λ h. omega arith) n p v e)
 
 feed-said : (l : List ℕ) (m : Monitor) (es w : List ℕ) → Said (feedOf l m es w)
-unfolding feedOf refusing numberOf isGiven
-feed-said l m es w = go (areasMeasured (m .area0) (m .area1) && workMeasured w) refl
+unfolding refusing numberOf isGiven
+feed-said l m es w = go (entranceOn l m w) refl
   where
-    go : (x : Bool) → (areasMeasured (m .area0) (m .area1) && workMeasured w) ≡ x → Said (feedOf l m es w)
-    go true e = rw (e, feedOf) (feed-judged l m es w (judgeList l) refl)
-    go false e = rw (e, feedOf)
+    go : (x : Entrance) → entranceOn l m w ≡ x → Said (feedOf l m es w)
+    go (shut n p v) e = rw (feed-shut l m es w n p v e) (on-some l m w n p v e)
+    go (admits t) e = rw (feed-admits l m es w t e) (ending-said (length w) _ (through-why t es m 0))
 
 pub feed-zero : (l r a b es w : List ℕ)
     → eqb (feedCall l r a b es w .number) 0
@@ -192,23 +187,13 @@ feed-zero l r a b es w = go (recordMeasured r) refl
 abbrev Offering : OfferOutcome → Type 0
 Offering o = eqb (offerNumber (o .answer)) 0 ≡ isOffered (o .answer)
 
-offer-judged : (l : List ℕ) (m : Monitor) (w : List ℕ) (j : Judgement) → judgeList l ≡ j
-    → Offering (offerJudged j m w)
-unfolding offerJudged offering offerNumber isOffered
-offer-judged l m w (accepted ns t) e = go (consistent t m) refl
-  where
-    go : (x : Bool) → consistent t m ≡ x → Offering (offerJudged (accepted ns t) m w)
-    go true h = rw (h, offerJudged)
-    go false h = rw (h, offerJudged)
-offer-judged l m w (declined n at) e = ne-eqb n 0 (list-some l n at e)
-
 offer-said : (l : List ℕ) (m : Monitor) (w : List ℕ) → Offering (offerOf l m w)
-unfolding offerOf offering offerNumber isOffered
-offer-said l m w = go (areasMeasured (m .area0) (m .area1) && workMeasured w) refl
+unfolding offering offerNumber isOffered
+offer-said l m w = go (entranceOn l m w) refl
   where
-    go : (x : Bool) → (areasMeasured (m .area0) (m .area1) && workMeasured w) ≡ x → Offering (offerOf l m w)
-    go true e = rw (e, offerOf) (offer-judged l m w (judgeList l) refl)
-    go false e = rw (e, offerOf)
+    go : (x : Entrance) → entranceOn l m w ≡ x → Offering (offerOf l m w)
+    go (shut n p v) e = rw (offer-shut l m w n p v e) (on-some l m w n p v e)
+    go (admits t) e = rw (offer-admits l m w t e)
 
 pub offer-zero : (l r a b w : List ℕ)
     → eqb (offerCall l r a b w .number) 0

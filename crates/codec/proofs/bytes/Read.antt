@@ -18,7 +18,7 @@ use Rattle.numbers.specs.Number.Unread.{read-truncated, read-malformed}
 use Rattle.numbers.specs.Position.{readAt}
 use Rattle.numbers.specs.Position.Laws.{value-read, truncated-read, malformed-read}
 use Rattle.numbers.specs.declared.Reading.the-variants.{Value, Truncated, Malformed}
-use Rattle.table.specs.Judging.{Decoding}
+use Rattle.table_index.specs.Judging.{Decoding}
 use Rattle.table.specs.BytesRefused.Listed.{bytes-last}
 
 -- a slice of bytes has bytes only

@@ -20,13 +20,13 @@ use Rattle.table.specs.declared.answer.Answer.the-variants.{Count, Refused}
 use Rattle.table.specs.Table.{Table}
 use Rattle.table.specs.Tokens.{listTokens}
 use Rattle.table.specs.Judge.{Judgement, accepted, declined, judge, judgeBytes}
-use Rattle.table.specs.BytesRefused.Judged.{onBytes, JudgedAs, Within}
-use Rattle.table.specs.BytesRefused.Judged.{on-accepted, on-after, judged-bytes, place-within}
+use Rattle.table_index.specs.BytesJudged.{onBytes, JudgedAs, Within}
+use Rattle.table_index.specs.BytesJudged.{on-accepted, on-after, judged-bytes, place-within}
 use Rattle.table.specs.Operations.{zeros, measured, readJudged, readOf}
 use Rattle.table.specs.Answers.{answerOf, outcome, Said}
 use Rattle.table.specs.Answers.Laws.{said-outcome}
-use Rattle.table.specs.Index.{tableIn}
-use Rattle.table.specs.Judging.{Decoding, JudgeDone}
+use Rattle.table_index.specs.Index.{tableIn}
+use Rattle.table_index.specs.Judging.{Decoding, JudgeDone}
 
 -- ---- judge
 module _ (l w' : List ℕ) (r : Judged) (d : JudgeDone l w' r) where

@@ -22,8 +22,8 @@ use Rattle.table.specs.BytesRefused.{bytePlace}
 use Rattle.table.specs.Operations.{zeros, measured, writeJudged, writeOf, Outcome}
 use Rattle.table.specs.Answers.{outcome, Said}
 use Rattle.table.specs.Answers.Laws.{said-outcome}
-use Rattle.table.specs.Index.{tableIn}
-use Rattle.table.specs.Judging.{CheckDone}
+use Rattle.table_index.specs.Index.{tableIn}
+use Rattle.table_index.specs.Judging.{CheckDone}
 use Rattle.table.specs.BytesRefused.Listed.{place-all}
 
 -- ---- answer and output

@@ -21,9 +21,9 @@ use Rattle.table.specs.Parser.Steps.{number-got, number-off, number-short, then
 use Rattle.table.specs.Parser.Steps.{Reads, none, reads-snoc, Repeats, all-done, all-stop}
 use Rattle.table.specs.Grammar as grammar
 use Rattle.table.specs.Grammar.{row}
-use Rattle.table.specs.Index.{maskOf}
-use Rattle.table.specs.Index.Sets.{mask-snoc, mask-under}
-use Rattle.table.specs.Parse.{RowFound}
+use Rattle.table_index.specs.Index.{maskOf}
+use Rattle.table_index.specs.Index.Sets.{mask-snoc, mask-under}
+use Rattle.table_index.specs.Parse.{RowFound}
 
 -- one event of an alphabet of size A, none below low
 abbrev eventFrom : ℕ → ℕ → Parser ℕ

@@ -15,9 +15,9 @@ use Rattle.table.specs.Tokens.{tokensAt}
 use Rattle.table.specs.Parser.{refused, got, times}
 use Rattle.table.specs.Parser.Steps.{ReadsPlain, none, reads-snoc, times-done, times-stop}
 use Rattle.table.specs.Grammar.{row}
-use Rattle.table.specs.Index.{maskOf}
-use Rattle.table.specs.Parse.{Overlaid, RowFound, RowRead, RowsFound}
-use Rattle.table.specs.Parse.Overlay.{overlaid-none, overlaid-snoc}
+use Rattle.table_index.specs.Index.{maskOf}
+use Rattle.table_index.specs.Parse.{Overlaid, RowFound, RowRead, RowsFound}
+use Rattle.table_index.specs.Parse.Overlay.{overlaid-none, overlaid-snoc}
 
 module _ (l : List ℕ) (A count at row₀ : ℕ) (w : List ℕ) where
   pub record Head (w' : List ℕ) (j p : ℕ) : Type 0 where

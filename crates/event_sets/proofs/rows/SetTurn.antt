@@ -18,8 +18,8 @@ use Rattle.table.specs.Tokens.{Tokens, tokensAt}
 use Rattle.table.specs.Parser.{Parser, Result, got, refused, pure, next, andThen, number, times}
 use Rattle.table.specs.Parser.Steps.{number-got, number-off, number-short, then-got, then-stop}
 use Rattle.table.specs.Grammar.{row, setOfKind, eventSet}
-use Rattle.table.specs.Index.{maskOf, setMasks, kindOfSet}
-use Rattle.table.specs.Parse.{rowCount, Overlaid, RowsFound, RowsRead, SetFound}
+use Rattle.table_index.specs.Index.{maskOf, setMasks, kindOfSet}
+use Rattle.table_index.specs.Parse.{rowCount, Overlaid, RowsFound, RowsRead, SetFound}
 
 pub count-one : (k A : ℕ) → k ≡ 0 → 1 ≡ rowCount k A
 unfolding rowCount

@@ -16,10 +16,10 @@ use Rattle.table.specs.Tokens.{tokensAt}
 use Rattle.table.specs.Parser.{refused, got, times}
 use Rattle.table.specs.Parser.Steps.{ReadsPlain, none, reads-snoc, times-done, times-stop}
 use Rattle.table.specs.Grammar as grammar
-use Rattle.table.specs.Layout.{setsAt}
-use Rattle.table.specs.Index.{setMasks, kindOfSet, SetsIndexed}
-use Rattle.table.specs.Index.Sets.{masks-snoc, indexed-none, indexed-snoc}
-use Rattle.table.specs.Parse.{SetFound, SetRead, SetsFound}
+use Rattle.table_index.specs.Layout.{setsAt}
+use Rattle.table_index.specs.Index.{setMasks, kindOfSet, SetsIndexed}
+use Rattle.table_index.specs.Index.Sets.{masks-snoc, indexed-none, indexed-snoc}
+use Rattle.table_index.specs.Parse.{SetFound, SetRead, SetsFound}
 
 kind-few : (v : SetDef) → kindOfSet v ≤ 1
 unfolding kindOfSet

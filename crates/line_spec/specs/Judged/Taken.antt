@@ -5,50 +5,47 @@
 use Prim.Native.Nat.{ℕ, suc}
 use native.Mathlib.Omega.{arith}
 use mathlib.Core.Path.{_≡_, refl, ap, sym, subst, _∙_}
-use mathlib.Core.Bool.{Bool, true, false, _&&_}
 use mathlib.Core.List.{List, [], _∷_}
 use mathlib.Core.Option.{Option, none, some}
 use lib.ListN.{length}
-use lib.Dec.{eqb, leb, ltb}
-use borrow.Author.Tests.{eqb-false}
 use Rattle.table.specs.Table.{Table}
-use Rattle.table.specs.Judge.{Judgement, accepted, declined, judgeList}
+use Rattle.residuals.specs.Residual.{Residual}
 use Rattle.monitor_spec.specs.Fold.{Step, went, stops, Ended, through}
 use Rattle.monitor_spec.specs.Fold.Laws.{through-went, through-stops}
-use Rattle.monitor_spec.specs.State.{State, Monitor, Answer, given, stopped, areasMeasured, workMeasured, slotCount}
+use Rattle.monitor_spec.specs.State.{State, stateAfter, Monitor, Answer, given, stopped, Outcome}
+use Rattle.monitor_spec.specs.State.{counted, holding}
 use Rattle.monitor_spec.specs.State as state
-use Rattle.monitor_spec.specs.Consistent.{consistent}
-use Rattle.monitor_spec.specs.Feed.{counterMost, nextSlots, taking, takeEvent, endingOf, refusing, feedAccepted}
-use Rattle.monitor_spec.specs.Feed.{feedJudged, feedOf}
+use Rattle.monitor_spec.specs.Entering.{Entrance, shut, admits, entranceOn, refusing}
+use Rattle.monitor_spec.specs.Feed.{counterMost, nextSlots, taking, takeEvent, endingOf, feedOf}
+use Rattle.monitor_spec.specs.Feed.Laws.{EventCase, meets, passes, event-case, metBy, take-refused, take-passes}
+use Rattle.monitor_spec.specs.Feed.Laws.{feed-shut, feed-admits}
 use Rattle.line_spec.specs.Line.{monitorLeft}
 use Rattle.line_spec.specs.Pieces.{going, fed, fedBy}
 use Rattle.line_spec.specs.Judged.{Took}
 
 -- ---- one event
 
-event-by : (m d : Monitor) (ss : List (List ℕ)) (x y z : Bool) → eqb (m .state .taken) counterMost ≡ y
-    → elim x as (λ b. Step Monitor) [
-      | true ↦ stops 11
-      | false ↦ elim y as (λ b. Step Monitor) [
-        | true ↦ stops 12
-        | false ↦ elim z as (λ b. Step Monitor) [ true ↦ stops 13 | false ↦ went (taking m ss) ]
-      ]
-    ] ≡ went d
-    → Took (m .state) 1 (d .state)
-unfolding taking
-event-by m d ss false false false e h =
-    let g : taking m ss ≡ d = cc in
-    let k : d .state .taken ≡ suc (m .state .taken) = sym (ap (λ (y : Monitor). y .state .taken) g) in
-    record { all = omega arith; fits = λ i. omega (arith, eqb-false (m .state .taken) counterMost e) }
-event-by m d ss true y z e h = absurd (let no : _≡_ {A = ℕ} 0 1 = cc in omega arith)
-event-by m d ss false true z e h = absurd (let no : _≡_ {A = ℕ} 0 1 = cc in omega arith)
-event-by m d ss false false true e h = absurd (let z : _≡_ {A = ℕ} 0 1 = cc in omega arith)
+passes-counts : {t : Table} {cap k : ℕ} {rs : List Residual} {e : ℕ} {o : Option ℕ} → EventCase t cap k rs e o
+    → o ≡ none → k ≡ counterMost → ⊥
+passes-counts (meets n x) h = absurd (let z : _≡_ {A = ℕ} 0 1 = cc in omega arith)
+passes-counts (passes a b c) h = b
 
 event-took : (t : Table) (m d : Monitor) (e : ℕ) → takeEvent t m e ≡ went d → Took (m .state) 1 (d .state)
-unfolding takeEvent
-event-took t m d e h =
-    event-by m d (nextSlots t m e) (leb (t .alphabet) e) (eqb (m .state .taken) counterMost)
-    (ltb (slotCount (m .area0)) (length (nextSlots t m e))) refl h
+unfolding taking stateAfter counted holding
+event-took t m d e h = by (metBy t m e) refl
+  where
+    same : (x y : Monitor) → went x ≡ went y → x ≡ y
+    same x y p = cc
+
+    by : (o : Option ℕ) → metBy t m e ≡ o → Took (m .state) 1 (d .state)
+    by none q =
+        let g : taking m (nextSlots t m e) ≡ d = same (taking m (nextSlots t m e)) d (sym (take-passes t m e q) ∙ h) in
+        let k : d .state .taken ≡ suc (m .state .taken) = sym (ap (λ (y : Monitor). y .state .taken) g) in
+        let c = passes-counts (event-case t _ _ _ e) q in
+        record { all = omega arith; fits = λ i. omega (arith, c) }
+    by (some n) q =
+        let g : stops n ≡ went d = sym (take-refused t m e n q) ∙ h in
+        absurd (let z : _≡_ {A = ℕ} 0 1 = cc in omega arith)
 
 -- ---- all events of a call
 
@@ -101,22 +98,14 @@ module _ (m : Monitor) (es w : List ℕ) (s : State) where
           let f : endingOf k x .answer ≡ stopped n (x .taken) (x .at .state) = rw (e, endingOf) in
           absurd (let z : _≡_ {A = ℕ} 0 1 = cc in omega arith)
 
-  judged-took : (j : Judgement) → feedJudged j m es w .answer ≡ given s → Took (m .state) (length es) s
-  unfolding feedJudged feedAccepted refusing
-  judged-took (declined n p) h = never n p h
-  judged-took (accepted ns t) h = by (consistent t m) refl
-    where
-      by : (x : Bool) → consistent t m ≡ x → Took (m .state) (length es) s
-      by true e = ending-took t (length w) (rw (e, feedAccepted) at h)
-      by false e = never 10 0 (rw (e, feedAccepted) at h)
-
   pub given-took : (l : List ℕ) → feedOf l m es w .answer ≡ given s → Took (m .state) (length es) s
-  unfolding feedOf refusing
-  given-took l h = by (areasMeasured (m .area0) (m .area1) && workMeasured w) refl
+  unfolding refusing
+  given-took l h = by (entranceOn l m w) refl
     where
-      by : (x : Bool) → (areasMeasured (m .area0) (m .area1) && workMeasured w) ≡ x → Took (m .state) (length es) s
-      by true e = judged-took (judgeList l) (rw (e, feedOf) at h)
-      by false e = never 1 0 (rw (e, feedOf) at h)
+      by : (x : Entrance) → entranceOn l m w ≡ x → Took (m .state) (length es) s
+      by (shut n p v) e = never n p (sym (ap (λ (o : Outcome). o .answer) (feed-shut l m es w n p v e)) ∙ h)
+      by (admits t) e =
+          ending-took t (length w) (sym (ap (λ (o : Outcome). o .answer) (feed-admits l m es w t e)) ∙ h)
 
 -- ---- a piece
 

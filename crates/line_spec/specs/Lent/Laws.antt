@@ -5,16 +5,18 @@
 -- Assumes nothing.
 use Prim.Native.Nat.{ℕ, _≤_}
 use mathlib.Core.Path.{_≡_, refl, ap, sym, subst, _∙_}
-use mathlib.Core.Bool.{Bool, true, false, cond, _&&_}
+use mathlib.Core.Bool.{Bool, true, false, cond}
 use mathlib.Core.List.{List, [], _∷_, _++_, append-nil, flatten}
 use mathlib.Core.Logic.{_⊎_, inr}
 use lib.ListN.{length, drop}
-use Rattle.table.specs.Judge.{Judgement, accepted, declined, judgeList}
+use Rattle.table.specs.Judge.{judgeList}
 use Rattle.table.specs.Operations.{zeros}
-use Rattle.monitor_spec.specs.Consistent.{consistent}
 use Rattle.monitor_spec.specs.Fold.{through}
 use Rattle.monitor_spec.specs.State.{State, Monitor, Outcome, areasMeasured, workMeasured}
-use Rattle.monitor_spec.specs.Feed.{takeEvent, endingOf, refusing, feedAccepted, feedJudged, feedOf}
+use Rattle.monitor_spec.specs.Entering.{Entrance, shut, admits, judging, agreeing, entranceOn, entering, refusing}
+use Rattle.monitor_spec.specs.Entering.Laws.{entrance-unmeasured, on-shut, on-length, on-measured}
+use Rattle.monitor_spec.specs.Feed.{takeEvent, endingOf, feedOf}
+use Rattle.monitor_spec.specs.Feed.Laws.{feed-shut, feed-admits}
 use Rattle.line_spec.specs.Line.{Line, refused, lineOf}
 use Rattle.line_spec.specs.Pieces.{Course, going, over, fed, fedBy, pieceOf, Front, frontOf, feedFront}
 use Rattle.line_spec.specs.Pieces.{concludeOf}
@@ -29,31 +31,32 @@ use Rattle.line_spec.specs.Lent.{lentLine, resumeFirst, frontEvents, nex
 
 -- ---- a piece
 
-judged-same : (t : Judgement) (m : Monitor) (es v w : List ℕ) → length v ≡ length w
-    → feedJudged t m es v ≡ feedJudged t m es w
-unfolding feedJudged feedAccepted
-judged-same (declined n p) m es v w e = ap (λ (k : ℕ). refusing n p m (zeros k)) e
-judged-same (accepted ns t) m es v w e =
-    ap
-    (λ (k : ℕ). elim (consistent t m) [
-      | true ↦ endingOf k (through (takeEvent t) m 0 es)
-      | false ↦ refusing 10 0 m (zeros k)
-    ]) e
+-- with lent lengths that are right, only the number of work words counts
+feedWith : List ℕ → Monitor → List ℕ → ℕ → Outcome
+feedWith l m es k =
+    entering (refusing (m .area0) (m .area1)) (λ t. endingOf k (through (takeEvent t) m 0 es))
+    (agreeing m k (judging (judgeList l) k))
+
+feed-with : (l : List ℕ) (m : Monitor) (es w : List ℕ) → areasMeasured (m .area0) (m .area1) ≡ true
+    → workMeasured w ≡ true → feedOf l m es w ≡ feedWith l m es (length w)
+unfolding feedOf feedWith
+feed-with l m es w a h =
+    ap (entering (refusing (m .area0) (m .area1)) (λ t. endingOf (length w) (through (takeEvent t) m 0 es)))
+    (on-measured l m w (rw (a, h)))
 
 feed-same : (l : List ℕ) (m : Monitor) (es v w : List ℕ) → workMeasured v ≡ true → workMeasured w ≡ true
     → length v ≡ length w → fed l (feedOf l m es v) ≡ fed l (feedOf l m es w)
-unfolding feedOf fed fedBy refusing
+unfolding fed fedBy refusing
 feed-same l m es v w h k e = by (areasMeasured (m .area0) (m .area1)) refl
   where
+    refuses : (x : List ℕ) → areasMeasured (m .area0) (m .area1) ≡ false
+        → feedOf l m es x ≡ refusing (m .area0) (m .area1) 1 0 x
+    refuses x a = feed-shut l m es x 1 0 x (on-shut l m x 1 0 x (entrance-unmeasured _ l x (rw a)))
+
     by : (x : Bool) → areasMeasured (m .area0) (m .area1) ≡ x → fed l (feedOf l m es v) ≡ fed l (feedOf l m es w)
     by true a =
-        let p : feedOf l m es v ≡ feedJudged (judgeList l) m es v = rw (a, h, feedOf) in
-        let q : feedOf l m es w ≡ feedJudged (judgeList l) m es w = rw (a, k, feedOf) in
-        ap (fed l) (p ∙ judged-same (judgeList l) m es v w e ∙ sym q)
-    by false a =
-        let p : feedOf l m es v ≡ refusing 1 0 m v = rw (a, feedOf) in
-        let q : feedOf l m es w ≡ refusing 1 0 m w = rw (a, feedOf) in
-        ap (fed l) p ∙ sym (ap (fed l) q)
+        ap (fed l) (feed-with l m es v a h ∙ ap (feedWith l m es) e ∙ sym (feed-with l m es w a k))
+    by false a = ap (fed l) (refuses v a) ∙ sym (ap (fed l) (refuses w a))
 
 pub fed-work : (l : List ℕ) (m : Monitor) (es w : List ℕ) → length w ≡ 8192
     → fed l (feedOf l m es w) ≡ pieceOf (going l m) es
@@ -63,23 +66,15 @@ fed-work l m es w e =
     feed-same l m es w (zeros 8192) (work-measured w e) (work-measured (zeros 8192) z) (e ∙ sym z)
 
 -- the work area keeps its length
-judged-length : (j : Judgement) (m : Monitor) (es w : List ℕ) → length (feedJudged j m es w .work) ≡ length w
-unfolding feedJudged feedAccepted refusing endingOf
-judged-length (declined n p) m es w = zeros-length (length w)
-judged-length (accepted ns t) m es w = by (consistent t m) refl
-  where
-    by : (x : Bool) → consistent t m ≡ x → length (feedAccepted t m es w .work) ≡ length w
-    by true e = rw (e, feedAccepted) (zeros-length (length w))
-    by false e = rw (e, feedAccepted) (zeros-length (length w))
-
 left-length : (l : List ℕ) (m : Monitor) (es w : List ℕ) → length (feedOf l m es w .work) ≡ length w
-unfolding feedOf refusing
-left-length l m es w = by (areasMeasured (m .area0) (m .area1) && workMeasured w) refl
+unfolding refusing endingOf
+left-length l m es w = by (entranceOn l m w) refl
   where
-    by : (x : Bool) → (areasMeasured (m .area0) (m .area1) && workMeasured w) ≡ x
-        → length (feedOf l m es w .work) ≡ length w
-    by true e = rw (e, feedOf) (judged-length (judgeList l) m es w)
-    by false e = rw (e, feedOf)
+    by : (x : Entrance) → entranceOn l m w ≡ x → length (feedOf l m es w .work) ≡ length w
+    by (shut n p v) e =
+        ap (λ (o : Outcome). length (o .work)) (feed-shut l m es w n p v e) ∙ on-length l m w n p v e
+    by (admits t) e =
+        ap (λ (o : Outcome). length (o .work)) (feed-admits l m es w t e) ∙ zeros-length (length w)
 
 resume-work : (l : List ℕ) (m : Monitor) (es w : List ℕ) → resumeOf l m es w .work ≡ feedOf l m es w .work
 unfolding resumeOf resumedBy

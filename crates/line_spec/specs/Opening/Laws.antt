@@ -10,18 +10,21 @@ use mathlib.Core.Bool.{Bool, true, false, _&&_}
 use mathlib.Core.List.{List, [], _++_}
 use lib.ListN.{length, length-replicate}
 use lib.Seq.{take-append-seam}
-use lib.Dec.{ltb, eqb, leb}
+use lib.Dec.{ltb}
 use borrow.Author.Tests.{eq-eqb}
 use Rattle.table.specs.Table.{Table}
 use Rattle.table.specs.Judge.{Judgement, accepted, declined, judgeList, judgeBytes}
 use Rattle.table.specs.Operations.{zeros, measured, readJudged, readOf}
 use Rattle.table.specs.Operations as read
-use Rattle.monitor_spec.specs.Residual.{residualsOf}
-use Rattle.monitor_spec.specs.Slots.{slotsOf}
-use Rattle.monitor_spec.specs.State.{given, Outcome, running, areasMeasured, workMeasured, slotCount, fill}
+use Rattle.residuals.specs.Residual.{residualsOf}
+use Rattle.residuals.specs.Slots.{slotsOf}
+use Rattle.monitor_spec.specs.State.{freshState, given, Outcome, areasMeasured, workMeasured, slotCount, fill}
 use Rattle.monitor_spec.specs.State as state
-use Rattle.monitor_spec.specs.Feed.{nextVerdict}
-use Rattle.monitor_spec.specs.Start.{startAccepted, startJudged, startOf}
+use Rattle.monitor_spec.specs.Entering.{refusing}
+use Rattle.monitor_spec.specs.Entering.Laws.{entrance-declined}
+use Rattle.monitor_spec.specs.Start.{startAccepted, startOf}
+use Rattle.monitor_spec.specs.Start.Laws.{start-shut}
+use Rattle.monitor_spec.specs.History.Begun.{start-measured}
 use Rattle.line_spec.specs.Line.{fresh}
 use Rattle.line_spec.specs.Pieces.{fed, fedBy}
 use Rattle.line_spec.specs.Opening.{openRefused, startedOn, readThen, openTable}
@@ -36,7 +39,7 @@ begunWith t n k =
       | true ↦ record { answer = state.refused 13 0; area0 = fill n []; area1 = fill n []; work = zeros k }
       | false ↦
           record {
-            answer = given (record { taken = 0; count = length ss; verdict = nextVerdict running 0 ss });
+            answer = given (freshState (length ss));
             area0 = fill n ss;
             area1 = fill n [];
             work = zeros k;
@@ -71,20 +74,17 @@ pub all-measured : (a b w : List ℕ) → length a ≡ 4096 → length b ≡ 409
 all-measured a b w e f g = both-true _ _ (areas-measured a b e f) (work-measured w g)
 
 module _ (l a b w : List ℕ) (e : length a ≡ 4096) (f : length b ≡ 4096) (g : length w ≡ 8192) where
-  start-judged : startOf l a b w ≡ startJudged (judgeList l) a b w
-  unfolding startOf
-  start-judged = rw (all-measured a b w e f g, startOf)
-
   start-accepted : (ns : List ℕ) (t : Table) → judgeList l ≡ accepted ns t → startOf l a b w ≡ begunWith t 256 8192
-  unfolding startJudged slotCount
+  unfolding slotCount
   start-accepted ns t j =
       let n : slotCount a ≡ 256 = omega arith in
-      start-judged ∙ ap (λ (x : Judgement). startJudged x a b w) j ∙ begun-with t a b w ∙ ap₂ (begunWith t) n g
+      start-measured l ns t j a b w (all-measured a b w e f g) ∙ begun-with t a b w ∙ ap₂ (begunWith t) n g
 
   start-declined : (n p : ℕ) → judgeList l ≡ declined n p → startOf l a b w
       ≡ record { answer = state.refused n p; area0 = a; area1 = b; work = zeros (length w) }
-  unfolding startJudged
-  start-declined n p j = start-judged ∙ ap (λ (x : Judgement). startJudged x a b w) j
+  unfolding refusing
+  start-declined n p j =
+      start-shut l a b w n p (zeros (length w)) (entrance-declined _ l w n p (all-measured a b w e f g) j)
 
   -- "all zero after each call"
   pub start-work : startOf l a b w .work ≡ zeros 8192

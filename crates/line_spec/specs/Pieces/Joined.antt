@@ -24,9 +24,10 @@ use Rattle.monitor_spec.specs.State.{State, Monitor, Answer, given, stopped, Ou
 use Rattle.monitor_spec.specs.State.{areasMeasured, workMeasured}
 use Rattle.monitor_spec.specs.State as state
 use Rattle.monitor_spec.specs.Feed.{takeEvent, endingOf, feedOf}
-use Rattle.monitor_spec.specs.Start.{startOf, startJudged}
+use Rattle.monitor_spec.specs.Start.{startOf}
 use Rattle.monitor_spec.specs.Joined.{extend}
 use Rattle.monitor_spec.specs.Expected.{monitorAfter}
+use Rattle.monitor_spec.specs.Expected.Records.{record-taken}
 use Rattle.monitor_spec.specs.History.{Fresh}
 use Rattle.monitor_spec.specs.History.Laws.{extends}
 use Rattle.monitor_spec.specs.History.Begun.{Began, fresh-began, start-declined, start-unmeasured, start-never}
@@ -73,10 +74,11 @@ stopped-taken l m g z es n h =
     let i = some-stopped S es m 0 n h in
     let a : (through S m 0 es) .at .state .taken ≡ length (extend t 256 (g .events) es) =
     ap (λ (y : Monitor). (through S y 0 es) .at .state .taken) (g .same)
-    ∙ ap (λ (y : Monitor). y .state .taken) (x .ends 0) in
+    ∙ ap (λ (y : Monitor). y .state .taken) (x .ends 0) ∙ record-taken t (extend t 256 (g .events) es) in
     let b : length (extend t 256 (g .events) es) ≡ length (g .events ++ took S m es) =
     ap length (x .takes) ∙ ap (λ (y : Monitor). length (g .events ++ took S y es)) (sym (g .same)) in
-    let c : length (g .events) ≡ 0 = sym (ap (λ (y : Monitor). y .state .taken) (g .same)) ∙ z in
+    let c : length (g .events) ≡ 0 =
+    sym (record-taken t (g .events)) ∙ sym (ap (λ (y : Monitor). y .state .taken) (g .same)) ∙ z in
     let d = length-append (g .events) (took S m es) in
     a ∙ b ∙ omega arith ∙ sym (i .place)
 
@@ -144,7 +146,7 @@ good-fresh l s e = by (judgeList l) refl
             fed = b .fed;
             same = b .same;
           },
-          ap (λ (x : Monitor). x .state .taken) (b .same),
+          ap (λ (x : Monitor). x .state .taken) (b .same) ∙ record-taken t [],
         )
 
 -- what Start leaves, and the line of its first piece

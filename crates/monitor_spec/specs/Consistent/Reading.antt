@@ -11,22 +11,21 @@ use borrow.Author.Tests.{eqb-true, ltb-true, ltb-false, not-true}
 use Rattle.table.specs.Table.{Table}
 use Rattle.numbers.specs.Every.{All, all-imp}
 use Rattle.monitor_spec.specs.Regular.{Regular}
-use Rattle.monitor_spec.specs.Residual.{Residual}
-use Rattle.monitor_spec.specs.Slots.{Order, below, same, above, slotOf, compareWords, canon, slotsOf}
-use Rattle.monitor_spec.specs.Slots.Comparison.{Less, less-trans}
-use Rattle.monitor_spec.specs.Slots.Canonical.{in-canon, Ascending, canon-ascending, ascending-unique}
+use Rattle.residuals.specs.Residual.{Residual}
+use Rattle.residuals.specs.Slots.{Order, below, same, above, slotOf, compareWords, canon, slotsOf}
+use Rattle.residuals.specs.Slots.Comparison.{Less, less-trans}
+use Rattle.residuals.specs.Slots.Canonical.{in-canon, Ascending, canon-ascending, ascending-unique}
 use Rattle.monitor_spec.specs.Valid.{held, isBelow, validSlot}
 use Rattle.monitor_spec.specs.Proper.{Proper}
 use Rattle.monitor_spec.specs.Valid.Residuals.{held-some}
 use Rattle.monitor_spec.specs.Valid.Laws.{and-split, SlotOf, valid-proper}
-use Rattle.monitor_spec.specs.State.{Verdict, running, failedAt, Monitor, areasMeasured, slotCount, even, choose}
-use Rattle.monitor_spec.specs.State.{chunks, fill, laid}
+use Rattle.monitor_spec.specs.State.{Verdict, running, failedAt, State, Monitor, areasMeasured, slotCount, even}
+use Rattle.monitor_spec.specs.State.{choose, chunks, fill, laid}
 use Rattle.table.specs.Operations.{zeros}
 use Rattle.monitor_spec.specs.Consistent.{every, allZero, ascendsFrom, ascends, verdictFits, recordFits, areaFits}
 use Rattle.monitor_spec.specs.Consistent.{consistent}
-use Rattle.monitor_spec.specs.Expected.Verdicts.{slots-none}
+use Rattle.monitor_spec.specs.Expected.Verdicts.{none-length, some-length}
 use Rattle.monitor_spec.specs.Sensible.{Agrees, Laid}
-use Rattle.monitor_spec.specs.Expected.Laid.{some-length}
 
 -- ---- the tests, read
 
@@ -119,7 +118,7 @@ area-empty n a l z = let d : length a ≡ (n - 0) * 16 = omega arith in zero-spl
 not-split : (b : Bool) → not b ≡ true → b ≡ false
 not-split b h = not-true b h
 
-pub verdict-room : (v : Verdict) (k c n : ℕ) → verdictFits v k c n ≡ true → c ≤ n
+verdict-room : (v : Verdict) (k c n : ℕ) → verdictFits v k c n ≡ true → c ≤ n
 unfolding verdictFits
 verdict-room running k c n h =
     let (x, y) = and-split (ltb 0 c) (not (ltb n c)) h in
@@ -129,21 +128,31 @@ verdict-room (failedAt p) k c n h =
     let z = eqb-true c 0 y in
     omega arith
 
-verdict-agrees : (t : Table) (v : Verdict) (k c n : ℕ) (rs : List Residual) → c ≡ length (slotsOf rs)
+verdict-agrees : (v : Verdict) (k c n : ℕ) (rs : List Residual) → c ≡ length (slotsOf rs)
     → verdictFits v k c n ≡ true → Agrees k rs v
 unfolding verdictFits
-verdict-agrees t running k c n [] e h =
+verdict-agrees running k c n [] e h =
     let (x, y) = and-split (ltb 0 c) (not (ltb n c)) h in
     let z = ltb-true 0 c x in
-    absurd (omega (arith, ap length slots-none))
-verdict-agrees t running k c n (r ∷ rs) e h = tt
-verdict-agrees t (failedAt p) k c n [] e h =
+    absurd (omega (arith, none-length [] refl))
+verdict-agrees running k c n (r ∷ rs) e h = tt
+verdict-agrees (failedAt p) k c n [] e h =
     let (x, y) = and-split (not (ltb k p)) (eqb c 0) h in
     (refl, ltb-false k p (not-split (ltb k p) x))
-verdict-agrees t (failedAt p) k c n (r ∷ rs) e h =
+verdict-agrees (failedAt p) k c n (r ∷ rs) e h =
     let (x, y) = and-split (not (ltb k p)) (eqb c 0) h in
     let z = eqb-true c 0 y in
-    absurd (omega (arith, some-length t (r ∷ rs) tt))
+    absurd (omega (arith, some-length (r ∷ rs) tt))
+
+-- the record alone: "running with none or more than fit"
+pub record-room : (s : State) (n : ℕ) → recordFits s n ≡ true → s .count ≤ n
+unfolding recordFits
+record-room s n h = verdict-room (s .verdict) (s .taken) (s .count) n h
+
+record-agrees : (s : State) (n : ℕ) (rs : List Residual) → s .count ≡ length (slotsOf rs) → recordFits s n ≡ true
+    → Agrees (s .taken) rs (s .verdict)
+unfolding recordFits
+record-agrees s n rs e h = verdict-agrees (s .verdict) (s .taken) (s .count) n rs e h
 
 choose-both : {A : Type 0} (b : Bool) (x y p o : A) → choose b x y ≡ p → choose b y x ≡ o
     → (x ≡ choose b p o) × (y ≡ choose b o p)
@@ -170,7 +179,7 @@ module _ (t : Table) (regular : Regular t) where
   -- the slots laid out are the monitor that was lent
   pub consistent-laid : (m : Monitor) → areasMeasured (m .area0) (m .area1) ≡ true → consistent t m ≡ true
       → Laid t (slotCount (m .area0)) m
-  unfolding consistent recordFits areaFits laid
+  unfolding consistent areaFits laid
   consistent-laid m a h =
       let n : ℕ = slotCount (m .area0) in
       let k : ℕ = m .state .taken in
@@ -179,30 +188,29 @@ module _ (t : Table) (regular : Regular t) where
       let O : List ℕ = choose (even k) (m .area1) (m .area0) in
       let ss : List (List ℕ) = chunks c P in
       let (l, l′) = areas-length (m .area0) (m .area1) a in
-      let (x, y) = and-split (verdictFits (m .state .verdict) k c n) _ h in
+      let (x, y) = and-split (recordFits (m .state) n) _ h in
       let (y₁, z) = and-split (areaFits t c P) (allZero O) y in
       let (e, y₂) = and-split (every (validSlot t) ss) _ y₁ in
       let (s, d) = and-split (ascends ss) (allZero (drop (c * 16) P)) y₂ in
       let v : All (SlotOf t) ss = every-split t ss e in
       let rs : List Residual = held t ss in
       let q : slotsOf rs ≡ ss = slots-held t ss v (ascends-split ss s) in
-      let r : c ≤ n = verdict-room (m .state .verdict) k c n x in
+      let r : c ≤ n = record-room (m .state) n x in
       let j : c ≡ length (slotsOf rs) = sym (length-chunks c P) ∙ ap length (sym q) in
       let p : P ≡ fill n (slotsOf rs) =
       area-fill n c P (choose-length (even k) (m .area0) (m .area1) (n * 16) l l′) r d ∙ ap (fill n) (sym q) in
       let o : O ≡ fill n [] = area-empty n O (choose-length (even k) (m .area1) (m .area0) (n * 16) l′ l) z in
       let (g₀, g₁) = choose-both (even k) (m .area0) (m .area1) (fill n (slotsOf rs)) (fill n []) p o in
       record {
-        taken = k;
-        verdict = m .state .verdict;
         residuals = rs;
         sensible = record {
           proper = held-proper t ss v;
           room = subst (λ (i : ℕ). i ≤ n) j r;
-          agrees = verdict-agrees t (m .state .verdict) k c n rs j x;
+          counted = j;
+          agrees = record-agrees (m .state) n rs j x;
         };
         same = λ i. record {
-          state = record { taken = k; count = j i; verdict = m .state .verdict };
+          state = m .state;
           area0 = g₀ i;
           area1 = g₁ i;
         };

@@ -6,22 +6,25 @@ use native.Mathlib.Decide.{ℕ-discrete}
 use mathlib.Core.Path.{_≡_, refl, ap, ap₂, sym, _∙_}
 use mathlib.Core.Bool.{Bool, true, false, _||_}
 use mathlib.Core.List.{List, [], _∷_, _++_}
-use lib.ListN.{length, length-append}
+use mathlib.Core.Option.{Option, none, some}
+use lib.ListN.{length}
 use lib.Dec.{eqb, ltb, leb}
 use borrow.Author.Tests.{eq-eqb, ne-eqb, leb-false, ltb-false}
 use Rattle.table.specs.Table.{Table}
 use Rattle.numbers.specs.Every.{All, all-append}
 use Rattle.monitor_spec.specs.Regular.{Regular}
 use Rattle.meaning.specs.Figure1.{bodyCount}
-use Rattle.monitor_spec.specs.Residual.{Residual, resolveDef, afterAll, fromDefinition, residualsOf}
-use Rattle.monitor_spec.specs.Slots.{slotsOf}
+use Rattle.residuals.specs.Residual.{Residual, resolveDef, afterAll, fromDefinition, residualsOf}
+use Rattle.residuals.specs.Slots.{slotsOf}
 use Rattle.monitor_spec.specs.Proper.Laws.{residualsOf-proper}
 use Rattle.monitor_spec.specs.Fold.{Step, went, stops}
-use Rattle.monitor_spec.specs.State.{Verdict, running, failedAt, Monitor, slotCount, laid}
-use Rattle.monitor_spec.specs.Feed.{nextSlots, nextVerdict, taking, takeEvent}
+use Rattle.monitor_spec.specs.State.{Verdict, running, failedAt, State, stateAfter, Monitor, slotCount, laid}
+use Rattle.monitor_spec.specs.Feed.{nextSlots, taking, eventRefused, takeEvent}
 use Rattle.monitor_spec.specs.Joined.{residualCount, halts}
-use Rattle.monitor_spec.specs.Expected.{verdictOf, monitorAfter}
-use Rattle.monitor_spec.specs.Expected.Verdicts.{residuals-snoc, verdictOf-snoc, Says, verdictOf-says}
+use Rattle.monitor_spec.specs.Expected.{verdictOf, recordOf, monitorAfter}
+use Rattle.monitor_spec.specs.Expected.Verdicts.{residuals-snoc, Says, verdictOf-says}
+use Rattle.monitor_spec.specs.Expected.Records.{length-snoc, record-taken, record-count, record-verdict}
+use Rattle.monitor_spec.specs.Expected.Records.{record-next}
 use Rattle.monitor_spec.specs.Sensible.{Agrees, Sensible}
 use Rattle.monitor_spec.specs.Expected.Laid.{laid-count, laid-next, laid-taking}
 
@@ -29,9 +32,6 @@ use Rattle.monitor_spec.specs.Expected.Laid.{laid-count, laid-next, laid
 pub record Fed (t : Table) (n : ℕ) (s : List ℕ) : Type 0 where
   pub known : All (λ e. e < t .alphabet) s
   pub room : length (slotsOf (residualsOf t s)) ≤ n
-
-pub length-snoc : (s : List ℕ) (e : ℕ) → length (s ++ e ∷ []) ≡ suc (length s)
-length-snoc s e = omega (arith, length-append s (e ∷ []))
 
 -- the three tests of an event
 unfoldable pub sift : Bool → Bool → Bool → Monitor → Step Monitor
@@ -67,32 +67,47 @@ full-counter k = by (ℕ-discrete k 18446744073709551615)
     by (yes h) = eq-eqb k 18446744073709551615 h ∙ sym (eq-eqb (suc k) 18446744073709551616 (omega arith))
     by (no h) = ne-eqb k 18446744073709551615 h ∙ sym (ne-eqb (suc k) 18446744073709551616 (λ j. h (omega arith)))
 
+tests-sift : (a b c : Bool) (m : Monitor)
+    → elim (elim a as (λ x. Option ℕ) [
+      | true ↦ some 11
+      | false ↦ elim b as (λ x. Option ℕ) [
+        | true ↦ some 12
+        | false ↦ elim c as (λ x. Option ℕ) [ true ↦ some 13 | false ↦ none ]
+      ]
+    ]) as (λ x. Step Monitor) [ some k ↦ stops k | none ↦ went m ] ≡ sift a b c m
+unfolding sift
+tests-sift true b c m = refl
+tests-sift false true c m = refl
+tests-sift false false true m = refl
+tests-sift false false false m = refl
+
 take-sift : (t : Table) (m : Monitor) (e : ℕ)
     → takeEvent t m e ≡ sift (leb (t .alphabet) e) (eqb (m .state .taken) 18446744073709551615)
     (ltb (slotCount (m .area0)) (length (nextSlots t m e))) (taking m (nextSlots t m e))
-unfolding takeEvent sift
-take-sift t m e = refl
+unfolding takeEvent eventRefused nextSlots
+take-sift t m e = tests-sift (leb (t .alphabet) e) (eqb (m .state .taken) 18446744073709551615)
+    (ltb (slotCount (m .area0)) (length (nextSlots t m e))) (taking m (nextSlots t m e))
 
-laid-taken : (n k : ℕ) (v : Verdict) (ss : List (List ℕ)) → laid n k v ss .state .taken ≡ k
+laid-state : (n : ℕ) (s : State) (ss : List (List ℕ)) → laid n s ss .state ≡ s
 unfolding laid
-laid-taken n k v ss = refl
+laid-state n s ss = refl
 
 -- the tests of an event on a monitor laid out of proper residuals
-pub laid-sift : (t : Table) → Regular t → (n k : ℕ) (v : Verdict) (rs : List Residual) → Sensible t n k v rs → (e : ℕ)
-    → takeEvent t (laid n k v (slotsOf rs)) e ≡ sift (leb (t .alphabet) e) (eqb k 18446744073709551615)
+pub laid-sift : (t : Table) → Regular t → (n : ℕ) (s : State) (rs : List Residual) → Sensible t n s rs → (e : ℕ)
+    → takeEvent t (laid n s (slotsOf rs)) e ≡ sift (leb (t .alphabet) e) (eqb (s .taken) 18446744073709551615)
     (ltb n (length (slotsOf (afterAll t e rs))))
-    (laid n (suc k) (nextVerdict v (suc k) (slotsOf (afterAll t e rs))) (slotsOf (afterAll t e rs)))
-laid-sift t regular n k v rs ok e =
-    let m : Monitor = laid n k v (slotsOf rs) in
+    (laid n (stateAfter s (length (slotsOf (afterAll t e rs)))) (slotsOf (afterAll t e rs)))
+laid-sift t regular n s rs ok e =
+    let m : Monitor = laid n s (slotsOf rs) in
     let a : Bool = leb (t .alphabet) e in
-    let x = laid-next t regular n k v rs ok e in
-    let b : eqb (m .state .taken) 18446744073709551615 ≡ eqb k 18446744073709551615 =
-    ap (λ (i : ℕ). eqb i 18446744073709551615) (laid-taken n k v (slotsOf rs)) in
+    let x = laid-next t regular n s rs ok e in
+    let b : eqb (m .state .taken) 18446744073709551615 ≡ eqb (s .taken) 18446744073709551615 =
+    ap (λ (z : State). eqb (z .taken) 18446744073709551615) (laid-state n s (slotsOf rs)) in
     let c : ltb (slotCount (m .area0)) (length (nextSlots t m e)) ≡ ltb n (length (slotsOf (afterAll t e rs))) =
-    ap₂ (λ (i j : ℕ). ltb i j) (laid-count t regular n k v rs ok) (ap length x) in
-    let d : taking m (nextSlots t m e) ≡ laid n (suc k) (nextVerdict v (suc k) (slotsOf (afterAll t e rs)))
+    ap₂ (λ (i j : ℕ). ltb i j) (laid-count t regular n s rs ok) (ap length x) in
+    let d : taking m (nextSlots t m e) ≡ laid n (stateAfter s (length (slotsOf (afterAll t e rs))))
     (slotsOf (afterAll t e rs)) =
-    ap (taking m) x ∙ laid-taking t regular n k v rs ok (slotsOf (afterAll t e rs)) in
+    ap (taking m) x ∙ laid-taking t regular n s rs ok (slotsOf (afterAll t e rs)) in
     take-sift t m e ∙ (λ i. sift a (b i) (c i) (d i))
 
 -- a list's monitor is laid out of its residuals, sensibly
@@ -103,20 +118,21 @@ says-agrees t s running h = h
 says-agrees t s (failedAt p) (n, q, f) = let w = f .within in (f .at-end, omega arith)
 
 pub fed-sensible : (t : Table) → Regular t → (n : ℕ) (s : List ℕ) → Fed t n s
-    → Sensible t n (length s) (verdictOf t s) (residualsOf t s)
+    → Sensible t n (recordOf t s) (residualsOf t s)
 fed-sensible t regular n s fed =
     record {
       proper = residualsOf-proper t regular s (fed .known);
       room = fed .room;
-      agrees = says-agrees t s (verdictOf t s) (verdictOf-says t s);
+      counted = record-count t s;
+      agrees = rw (record-taken t s, record-verdict t s) (says-agrees t s (verdictOf t s) (verdictOf-says t s));
     }
 
 next-monitor : (t : Table) (n : ℕ) (s : List ℕ) (e : ℕ)
-    → laid n (suc (length s)) (nextVerdict (verdictOf t s) (suc (length s)) (slotsOf (residualsOf t (s ++ e ∷ []))))
+    → laid n (stateAfter (recordOf t s) (length (slotsOf (residualsOf t (s ++ e ∷ [])))))
     (slotsOf (residualsOf t (s ++ e ∷ []))) ≡ monitorAfter t n (s ++ e ∷ [])
 unfolding monitorAfter
-next-monitor t n s e = ap₂ (λ (k : ℕ) (v : Verdict). laid n k v (slotsOf (residualsOf t (s ++ e ∷ []))))
-    (sym (length-snoc s e)) (sym (verdictOf-snoc t s e))
+next-monitor t n s e =
+    ap (λ (x : State). laid n x (slotsOf (residualsOf t (s ++ e ∷ [])))) (sym (record-next t s e))
 
 module _ (t : Table) (regular : Regular t) (n : ℕ) (s : List ℕ) (fed : Fed t n s) where
   -- the tests are those of the joined list, and what is taken is the next monitor
@@ -128,11 +144,12 @@ module _ (t : Table) (regular : Regular t) (n : ℕ) (s : List ℕ) (fed : Fed t
   take-sifts e =
       let r : slotsOf (afterAll t e (residualsOf t s)) ≡ slotsOf (residualsOf t (s ++ e ∷ [])) =
       ap slotsOf (sym (residuals-snoc t s e)) in
-      let b : eqb (length s) 18446744073709551615 ≡ eqb (length (s ++ e ∷ [])) 18446744073709551616 =
-      full-counter (length s) ∙ ap (λ (k : ℕ). eqb k 18446744073709551616) (sym (length-snoc s e)) in
-      laid-sift t regular n (length s) (verdictOf t s) (residualsOf t s) (fed-sensible t regular n s fed) e
+      let b : eqb (recordOf t s .taken) 18446744073709551615 ≡ eqb (length (s ++ e ∷ [])) 18446744073709551616 =
+      ap (λ (k : ℕ). eqb k 18446744073709551615) (record-taken t s) ∙ full-counter (length s)
+      ∙ ap (λ (k : ℕ). eqb k 18446744073709551616) (sym (length-snoc s e)) in
+      laid-sift t regular n (recordOf t s) (residualsOf t s) (fed-sensible t regular n s fed) e
       ∙ ap₂ (λ (x : Bool) (ss : List (List ℕ)). sift (leb (t .alphabet) e) x (ltb n (length ss))
-      (laid n (suc (length s)) (nextVerdict (verdictOf t s) (suc (length s)) ss) ss)) b r
+      (laid n (stateAfter (recordOf t s) (length ss)) ss)) b r
       ∙ ap (sift (leb (t .alphabet) e) (eqb (length (s ++ e ∷ [])) 18446744073709551616)
       (ltb n (length (slotsOf (residualsOf t (s ++ e ∷ [])))))) (next-monitor t n s e)
 

@@ -7,12 +7,12 @@ use mathlib.Core.List.{List, [], _∷_, _++_, map, flatMap}
 use lib.ListN.{length, take}
 use Rattle.table.specs.Table.{Table}
 use Rattle.meaning.specs.Figure1.{bodyCount}
-use Rattle.monitor_spec.specs.Residual.{Residual, resolveDef, afterAll, run, fromDefinition, residualsOf}
+use Rattle.residuals.specs.Residual.{Residual, resolveDef, afterAll, run, fromDefinition, residualsOf}
 use Rattle.monitor_spec.specs.Meaning.{Some}
-use Rattle.monitor_spec.specs.Slots.{Order, below, same, above, compareWords, slotOf, insertSorted, canon}
-use Rattle.monitor_spec.specs.Slots.{slotsOf}
-use Rattle.monitor_spec.specs.State.{Verdict, running, failedAt}
-use Rattle.monitor_spec.specs.Feed.{nextVerdict}
+use Rattle.residuals.specs.Slots.{Order, below, same, above, compareWords, slotOf, insertSorted, canon}
+use Rattle.residuals.specs.Slots.{slotsOf}
+use Rattle.monitor_spec.specs.State.{Verdict, running, failedAt, nextVerdict}
+use Rattle.monitor_spec.specs.State.Records.{next-some, next-none, next-failed}
 use Rattle.monitor_spec.specs.Expected.{ifNone, verdictFrom, verdictOf}
 
 -- ---- an empty list and its slots
@@ -36,18 +36,23 @@ pub slots-some : (r : Residual) (rs : List Residual) → Some (slotsOf (r ∷ rs
 unfolding slotsOf canon
 slots-some r rs = insert-some (slotOf r) (canon (map slotOf rs))
 
-pub next-some : (k : ℕ) (ss : List (List ℕ)) → Some ss → nextVerdict running k ss ≡ running
-unfolding nextVerdict
-next-some k [] h = absurd h
-next-some k (s ∷ ss) h = refl
+pub some-length : (rs : List Residual) → Some rs → 0 < length (slotsOf rs)
+some-length [] h = absurd h
+some-length (r ∷ rs) h = by (slotsOf (r ∷ rs)) (slots-some r rs)
+  where
+    by : (l : List (List ℕ)) → Some l → 0 < length l
+    by [] k = absurd k
+    by (x ∷ l) k = omega arith
 
-pub next-none : (k : ℕ) → nextVerdict running k [] ≡ failedAt k
-unfolding nextVerdict
-next-none k = refl
+pub none-length : (rs : List Residual) → rs ≡ [] → length (slotsOf rs) ≡ 0
+none-length rs e = ap (λ (z : List Residual). length (slotsOf z)) e ∙ ap length slots-none
 
-pub next-failed : (p k : ℕ) (ss : List (List ℕ)) → nextVerdict (failedAt p) k ss ≡ failedAt p
-unfolding nextVerdict
-next-failed p k ss = refl
+-- the verdict of residuals after k events, none of them empty before
+pub verdict-by : (rs : List Residual) (k : ℕ) → nextVerdict running k (length (slotsOf rs))
+    ≡ ifNone rs (failedAt k) running
+unfolding ifNone
+verdict-by [] k = ap (nextVerdict running k) (none-length [] refl) ∙ next-none k
+verdict-by (r ∷ rs) k = next-some k (length (slotsOf (r ∷ rs))) (some-length (r ∷ rs) tt)
 
 -- ---- run
 
@@ -69,36 +74,36 @@ run-none t (e ∷ s) = run-none t s
 -- ---- one event more
 
 module _ (t : Table) where
-  pub verdict-now : (rs : List Residual) (k : ℕ) → verdictFrom t rs k [] ≡ nextVerdict running k (slotsOf rs)
-  unfolding verdictFrom ifNone
-  verdict-now [] k = sym (ap (nextVerdict running k) slots-none ∙ next-none k)
-  verdict-now (r ∷ rs) k = sym (next-some k (slotsOf (r ∷ rs)) (slots-some r rs))
+  verdict-now : (rs : List Residual) (k : ℕ) → verdictFrom t rs k [] ≡ nextVerdict running k (length (slotsOf rs))
+  unfolding verdictFrom
+  verdict-now rs k = sym (verdict-by rs k)
 
   verdict-snoc : (s : List ℕ) (e : ℕ) (rs : List Residual) (k : ℕ)
       → verdictFrom t rs k (s ++ e ∷ []) ≡ nextVerdict (verdictFrom t rs k s) (suc (k + length s))
-      (slotsOf (run t rs (s ++ e ∷ [])))
+      (length (slotsOf (run t rs (s ++ e ∷ []))))
   unfolding verdictFrom ifNone run
-  verdict-snoc [] e [] k = sym (next-failed k (suc (k + 0)) (slotsOf (afterAll t e [])))
+  verdict-snoc [] e [] k = sym (next-failed k (suc (k + 0)) (length (slotsOf (afterAll t e []))))
   verdict-snoc [] e (r ∷ rs) k =
       let n : suc k ≡ suc (k + 0) = omega arith in
       verdict-now (afterAll t e (r ∷ rs)) (suc k)
-      ∙ ap (λ (i : ℕ). nextVerdict running i (slotsOf (afterAll t e (r ∷ rs)))) n
+      ∙ ap (λ (i : ℕ). nextVerdict running i (length (slotsOf (afterAll t e (r ∷ rs))))) n
   verdict-snoc (d ∷ s) e [] k =
-      sym (next-failed k (suc (k + suc (length s))) (slotsOf (run t (afterAll t d []) (s ++ e ∷ []))))
+      sym (next-failed k (suc (k + suc (length s))) (length (slotsOf (run t (afterAll t d []) (s ++ e ∷ [])))))
   verdict-snoc (d ∷ s) e (r ∷ rs) k =
       let n : suc (suc k + length s) ≡ suc (k + suc (length s)) = omega arith in
       verdict-snoc s e (afterAll t d (r ∷ rs)) (suc k)
       ∙ ap (λ (i : ℕ). nextVerdict (verdictFrom t (afterAll t d (r ∷ rs)) (suc k) s) i
-      (slotsOf (run t (afterAll t d (r ∷ rs)) (s ++ e ∷ [])))) n
+      (length (slotsOf (run t (afterAll t d (r ∷ rs)) (s ++ e ∷ []))))) n
 
   pub verdictOf-snoc : (s : List ℕ) (e : ℕ)
       → verdictOf t (s ++ e ∷ []) ≡ nextVerdict (verdictOf t s) (suc (length s))
-      (slotsOf (residualsOf t (s ++ e ∷ [])))
+      (length (slotsOf (residualsOf t (s ++ e ∷ []))))
   unfolding verdictOf residualsOf fromDefinition
   verdictOf-snoc s e =
       let n : suc (0 + length s) ≡ suc (length s) = omega arith in
       let d : List Residual = resolveDef t (bodyCount t) (bodyCount t - 1) in
-      verdict-snoc s e d 0 ∙ ap (λ (i : ℕ). nextVerdict (verdictFrom t d 0 s) i (slotsOf (run t d (s ++ e ∷ [])))) n
+      verdict-snoc s e d 0
+      ∙ ap (λ (i : ℕ). nextVerdict (verdictFrom t d 0 s) i (length (slotsOf (run t d (s ++ e ∷ []))))) n
 
   -- ---- what a verdict says
 

@@ -13,43 +13,43 @@ use borrow.Author.Tests.{leb-true, ltb-false}
 use Rattle.table.specs.Table.{Table}
 use Rattle.table.specs.Judge.{Judgement, accepted, declined, judgeList}
 use Rattle.table.specs.Operations.{zeros}
-use Rattle.meaning.specs.Figure1.{bodyCount, last}
-use Rattle.monitor_spec.specs.Residual.{resolveDef, run, fromDefinition, residualsOf}
-use Rattle.monitor_spec.specs.Slots.{slotsOf}
+use Rattle.residuals.specs.Residual.{residualsOf}
+use Rattle.residuals.specs.Slots.{slotsOf}
 use Rattle.monitor_spec.specs.Valid.Laws.{and-split}
-use Rattle.monitor_spec.specs.State.{running, State, Monitor, Answer, given, refused, stopped, Outcome}
+use Rattle.monitor_spec.specs.State.{State, freshState, Monitor, Answer, given, refused, stopped, Outcome}
+use Rattle.monitor_spec.specs.State.{holding}
 use Rattle.monitor_spec.specs.State.{areasMeasured, workMeasured, slotCount, even, choose, fill, laid}
-use Rattle.monitor_spec.specs.Feed.{nextVerdict}
-use Rattle.monitor_spec.specs.Start.{startAccepted, startJudged, startOf}
-use Rattle.monitor_spec.specs.Expected.{verdictOf, monitorAfter}
-use Rattle.monitor_spec.specs.Expected.Verdicts.{verdict-now}
+use Rattle.monitor_spec.specs.Entering.{refusing}
+use Rattle.monitor_spec.specs.Entering.Laws.{entrance-unmeasured, entrance-declined, entrance-accepted}
+use Rattle.monitor_spec.specs.Start.{startAccepted, startOf}
+use Rattle.monitor_spec.specs.Start.Laws.{start-shut, start-admits}
+use Rattle.monitor_spec.specs.Expected.{monitorAfter}
+use Rattle.monitor_spec.specs.Expected.Records.{record-first}
 use Rattle.monitor_spec.specs.Expected.Steps.{Fed}
 use Rattle.monitor_spec.specs.History.{Fresh}
 
 pub start-measured : (l ns : List ℕ) (t : Table) → judgeList l ≡ accepted ns t → (a b work : List ℕ)
     → (areasMeasured a b && workMeasured work) ≡ true → startOf l a b work ≡ startAccepted t a b work
-unfolding startOf startJudged
-start-measured l ns t says a b work e = rw (e, says, startOf)
+start-measured l ns t says a b work e = start-admits l a b work t (entrance-accepted _ l work ns t e says)
 
 pub start-unmeasured : (l a b work : List ℕ) → (areasMeasured a b && workMeasured work) ≡ false
     → startOf l a b work .answer ≡ refused 1 0
-unfolding startOf
-start-unmeasured l a b work e = rw (e, startOf)
+unfolding refusing
+start-unmeasured l a b work e =
+    ap (λ (o : Outcome). o .answer) (start-shut l a b work 1 0 work (entrance-unmeasured _ l work e))
 
 pub start-declined : (l a b work : List ℕ) (n p : ℕ) → judgeList l ≡ declined n p
     → (areasMeasured a b && workMeasured work) ≡ true → startOf l a b work .answer ≡ refused n p
-unfolding startOf startJudged
-start-declined l a b work n p says e = rw (e, says, startOf)
+unfolding refusing
+start-declined l a b work n p says e =
+    ap (λ (o : Outcome). o .answer)
+    (start-shut l a b work n p (zeros (length work)) (entrance-declined _ l work n p e says))
 
 -- what Start gives where the slots suffice
 unfoldable pub begun : Table → ℕ → ℕ → Outcome
 begun t n k =
     record {
-      answer = given (record {
-        taken = 0;
-        count = length (slotsOf (residualsOf t []));
-        verdict = nextVerdict running 0 (slotsOf (residualsOf t []));
-      });
+      answer = given (freshState (length (slotsOf (residualsOf t []))));
       area0 = fill n (slotsOf (residualsOf t []));
       area1 = fill n [];
       work = zeros k;
@@ -93,26 +93,15 @@ start-never l a b work n p s h = by (areasMeasured a b && workMeasured work) ref
 given-same : (x y : State) → given x ≡ given y → x ≡ y
 given-same x y e = cc
 
-now-verdict : (t : Table) → nextVerdict running 0 (slotsOf (residualsOf t [])) ≡ verdictOf t []
-unfolding verdictOf residualsOf fromDefinition run
-now-verdict t = sym (verdict-now t (resolveDef t (bodyCount t) (last t)) 0)
-
+-- at Start area 0 is present
 begun-after : (t : Table) (n : ℕ)
     → record {
-      state = record {
-        taken = 0;
-        count = length (slotsOf (residualsOf t []));
-        verdict = nextVerdict running 0 (slotsOf (residualsOf t []));
-      };
+      state = freshState (length (slotsOf (residualsOf t [])));
       area0 = fill n (slotsOf (residualsOf t []));
       area1 = fill n [];
     } ≡ monitorAfter t n []
-unfolding monitorAfter laid even choose
-begun-after t n i = record {
-  state = record { taken = 0; count = length (slotsOf (residualsOf t [])); verdict = now-verdict t i };
-  area0 = fill n (slotsOf (residualsOf t []));
-  area1 = fill n [];
-}
+unfolding monitorAfter laid freshState holding even choose
+begun-after t n = ap (λ (s : State). laid n s (slotsOf (residualsOf t []))) (sym (record-first t))
 
 pub record Began (t : Table) (n : ℕ) (fresh : Monitor) : Type 0 where
   pub low : 1 ≤ n
@@ -134,11 +123,7 @@ began-same : (l : List ℕ) (t : Table) (a b work : List ℕ) (fresh : Monitor) 
     → startOf l a b work ≡ begun t (slotCount a) (length work) → fresh ≡ monitorAfter t (slotCount a) []
 unfolding begun
 began-same l t a b work fresh f o =
-    let s0 : State = record {
-      taken = 0;
-      count = length (slotsOf (residualsOf t []));
-      verdict = nextVerdict running 0 (slotsOf (residualsOf t []));
-    } in
+    let s0 : State = freshState (length (slotsOf (residualsOf t []))) in
     let s : fresh .state ≡ s0 = given-same (fresh .state) s0 (sym (f .gave) ∙ ap (λ (z : Outcome). z .answer) o) in
     let x : fresh .area0 ≡ fill (slotCount a) (slotsOf (residualsOf t [])) =
     sym (f .gave0) ∙ ap (λ (z : Outcome). z .area0) o in

@@ -10,16 +10,19 @@ use lib.ListN.{length}
 use borrow.Author.Tests.{eq-eqb, le-leb}
 use Rattle.table.specs.Table.{Table}
 use Rattle.monitor_spec.specs.Regular.{Regular}
-use Rattle.monitor_spec.specs.Residual.{residualsOf}
+use Rattle.residuals.specs.Residual.{residualsOf}
 use Rattle.monitor_spec.specs.Fold.{Ended, through, took, restarts, joins}
 use Rattle.monitor_spec.specs.Fold.Laws.{through-went, through-stops, took-went, took-stops, restarts-join}
 use Rattle.table.specs.Judge.{accepted, judgeList}
 use Rattle.monitor_spec.specs.State.{Monitor, Answer, given, stopped, Outcome, areasMeasured, workMeasured}
 use Rattle.monitor_spec.specs.Consistent.{consistent}
-use Rattle.monitor_spec.specs.Feed.{takeEvent, endingOf, refusing, feedAccepted, feedJudged, feedOf}
+use Rattle.monitor_spec.specs.Entering.{refusing}
+use Rattle.monitor_spec.specs.Entering.Laws.{entrance-unmeasured, entrance-accepted, on-shut, on-consistent}
+use Rattle.monitor_spec.specs.Feed.{takeEvent, endingOf, feedOf}
+use Rattle.monitor_spec.specs.Feed.Laws.{feed-shut, feed-admits}
 use Rattle.monitor_spec.specs.Joined.{Call, halts, extend, joinCall, joinFrom, joined}
 use Rattle.monitor_spec.specs.State.Areas.{both-true}
-use Rattle.monitor_spec.specs.Expected.{verdictOf, monitorAfter}
+use Rattle.monitor_spec.specs.Expected.{recordOf, monitorAfter}
 use Rattle.monitor_spec.specs.Expected.Laid.{laid-lengths, laid-consistent}
 use Rattle.monitor_spec.specs.Expected.Steps.{Fed, fed-sensible, take-went, take-stops, fed-next}
 use Rattle.monitor_spec.specs.History.{standing, callOn, history}
@@ -56,7 +59,7 @@ after-ending m k x = by (x .why)
     by none = refl
     by (some j) = refl
 
-pub after-refusing : (m : Monitor) (w : List ℕ) → afterwards m (refusing 1 0 m w) ≡ m
+pub after-refusing : (m : Monitor) (w : List ℕ) → afterwards m (refusing (m .area0) (m .area1) 1 0 w) ≡ m
 unfolding afterwards refusing standing
 after-refusing m w = refl
 
@@ -151,13 +154,11 @@ module _ (t : Table) (regular : Regular t) (n : ℕ) where
     length-areas : (s : List ℕ) → Fed t n s
         → (length (monitorAfter t n s .area0) ≡ n * 16) × (length (monitorAfter t n s .area1) ≡ n * 16)
     unfolding monitorAfter
-    length-areas s f = laid-lengths t regular n (length s) (verdictOf t s) (residualsOf t s)
-        (fed-sensible t regular n s f)
+    length-areas s f = laid-lengths t regular n (recordOf t s) (residualsOf t s) (fed-sensible t regular n s f)
 
     pub after-consistent : (s : List ℕ) → Fed t n s → consistent t (monitorAfter t n s) ≡ true
     unfolding monitorAfter
-    after-consistent s f = laid-consistent t regular n (length s) (verdictOf t s) (residualsOf t s)
-        (fed-sensible t regular n s f)
+    after-consistent s f = laid-consistent t regular n (recordOf t s) (residualsOf t s) (fed-sensible t regular n s f)
 
     pub measured : (s : List ℕ) → Fed t n s
         → areasMeasured (monitorAfter t n s .area0) (monitorAfter t n s .area1) ≡ true
@@ -169,28 +170,19 @@ module _ (t : Table) (regular : Regular t) (n : ℕ) where
         (both-true (eq-eqb (k % 16) 0 (omega arith))
         (both-true (le-leb 16 k (omega arith)) (le-leb k 4096 (omega arith))))
 
-    feed-measured : (m : Monitor) (es work : List ℕ) → areasMeasured (m .area0) (m .area1) ≡ true
-        → workMeasured work ≡ true → feedOf l m es work ≡ feedAccepted t m es work
-    unfolding feedOf feedJudged
-    feed-measured m es work x y = rw (x, y, says, feedOf)
-
     pub feed-refused : (m : Monitor) (es work : List ℕ) → areasMeasured (m .area0) (m .area1) ≡ true
-        → workMeasured work ≡ false → feedOf l m es work ≡ refusing 1 0 m work
-    unfolding feedOf
-    feed-refused m es work x y = rw (x, y, feedOf)
-
-    feed-consistent : (m : Monitor) (es work : List ℕ) → consistent t m ≡ true
-        → feedAccepted t m es work ≡ endingOf (length work) (through (takeEvent t) m 0 es)
-    unfolding feedAccepted
-    feed-consistent m es work x = rw (x, feedAccepted)
+        → workMeasured work ≡ false → feedOf l m es work ≡ refusing (m .area0) (m .area1) 1 0 work
+    feed-refused m es work x y =
+        feed-shut l m es work 1 0 work (on-shut l m work 1 0 work (entrance-unmeasured _ l work (rw (x, y))))
 
     -- Refusals 2 to 10 do not occur: with a work area of the right length the call goes through its events.
     pub feed-goes : (s es work : List ℕ) → Fed t n s → workMeasured work ≡ true
         → feedOf l (monitorAfter t n s) es work ≡ endingOf (length work)
         (through (takeEvent t) (monitorAfter t n s) 0 es)
     feed-goes s es work f w =
-        feed-measured (monitorAfter t n s) es work (measured s f) w
-        ∙ feed-consistent (monitorAfter t n s) es work (after-consistent s f)
+        feed-admits l (monitorAfter t n s) es work t
+        (on-consistent l (monitorAfter t n s) work t
+        (entrance-accepted _ l work ns t (both-true (measured s f) w) says) (after-consistent s f))
 
     pub call-join : (s : List ℕ) (c : Call) → Fed t n s
         → callOn l (monitorAfter t n s) c ≡ monitorAfter t n (joinCall t n s c)

@@ -1,4 +1,5 @@
--- Offer's bit e is set exactly when the residuals after e are not empty (01, "Operations"). Assumes nothing.
+-- Offer's bit e is set exactly when the residuals after e are not empty (01, "Operations"); Offer by what stands before
+-- it. Assumes nothing.
 use Prim.Native.Nat.{ℕ, zero, suc, _+_, _-_, _*_, _/_, _%_, _^_, _≤_, _<_}
 use native.Mathlib.Omega.{arith}
 use native.Mathlib.Decide.{decLt, ℕ-discrete}
@@ -7,11 +8,15 @@ use native.Mathlib.Nat.{div-div-eq-div-mul, pow-succ', div-one}
 use mathlib.Core.Path.{_≡_, refl, ap, ap₂, sym, subst, _∙_}
 use mathlib.Core.List.{List, [], _∷_}
 use mathlib.Core.Logic.{_↔_}
+use lib.ListN.{length}
 use lib.Pow.{pow-pos, pow-mono, pow-add}
 use Rattle.table.specs.Table.{Table}
-use Rattle.monitor_spec.specs.Residual.{Residual, afterAll}
+use Rattle.residuals.specs.Residual.{Residual, afterAll}
 use Rattle.monitor_spec.specs.Meaning.{Some}
-use Rattle.monitor_spec.specs.Offer.{bitOf, bitsBelow}
+use Rattle.table.specs.Operations.{zeros}
+use Rattle.monitor_spec.specs.State.{Monitor}
+use Rattle.monitor_spec.specs.Entering.{shut, admits, entranceOn, entering}
+use Rattle.monitor_spec.specs.Offer.{refused, offers, bitOf, bitsBelow, offerBits, offering, offerOf}
 
 -- a multiple of a higher power does not change a bit
 lower-bit : (x c k e : ℕ) → e < k → (x + c * 2 ^ k) / 2 ^ e % 2 ≡ x / 2 ^ e % 2
@@ -132,3 +137,19 @@ bits-tell-to (suc k) x y i j f =
 
 pub bits-tell : (x y : ℕ) → ((e : ℕ) → (x / 2 ^ e % 2 ≡ 1) ↔ (y / 2 ^ e % 2 ≡ 1)) → x ≡ y
 bits-tell x y f = bits-tell-to (x + y) x y (omega arith) (omega arith) f
+
+-- ---- what stands before it
+
+module _ (l : List ℕ) (m : Monitor) (w : List ℕ) where
+  pub offer-shut : (n p : ℕ) (v : List ℕ) → entranceOn l m w ≡ shut n p v → offerOf l m w ≡ offering (refused n p) m v
+  unfolding offerOf entering
+  offer-shut n p v e =
+      ap (entering (λ n p v. offering (refused n p) m v)
+      (λ t. offering (offers (offerBits t m (m .state .verdict))) m (zeros (length w)))) e
+
+  pub offer-admits : (t : Table) → entranceOn l m w ≡ admits t
+      → offerOf l m w ≡ offering (offers (offerBits t m (m .state .verdict))) m (zeros (length w))
+  unfolding offerOf entering
+  offer-admits t e =
+      ap (entering (λ n p v. offering (refused n p) m v)
+      (λ t. offering (offers (offerBits t m (m .state .verdict))) m (zeros (length w)))) e

@@ -12,17 +12,18 @@ use Rattle.meaning.specs.Figure1.{bodyCount, last}
 use Rattle.table.specs.Member.{member}
 use Rattle.numbers.specs.Every.{All, all-imp, all-append, all-and}
 use Rattle.meaning.specs.Some.{all-map, all-flat}
-use Rattle.monitor_spec.specs.Part.{Stands}
-use Rattle.monitor_spec.specs.Part.Numbers.{follower-stands, choice-left-stands, choice-right-stands}
-use Rattle.monitor_spec.specs.Part.Numbers.{par-left-stands, par-right-stands, at-number, number-at}
-use Rattle.monitor_spec.specs.Part.Numbers.{around-number, body-number, body-beyond}
+use Rattle.table.specs.Part.{Stands}
+use Rattle.table.specs.Part.Numbers.{follower-stands, choice-left-stands, choice-right-stands}
+use Rattle.table.specs.Part.Numbers.{par-left-stands, par-right-stands, at-number, number-at}
+use Rattle.table.specs.Part.Numbers.{around-number, body-number, body-beyond}
 use Rattle.table.specs.Memory.{Memory, noMemory, digit, remember}
 use Rattle.table.specs.Memory.Laws.{digit-first, digit-remember}
 use Rattle.table.specs.References.{levelIn}
 use Rattle.table.specs.Width.{widthWith, levelWidth, reach}
 use Rattle.monitor_spec.specs.Regular.{Regular}
-use Rattle.monitor_spec.specs.Residual.{Residual, leaf, pair, pairs, resolveIn, resolveDef, resolve, afterLeaf}
-use Rattle.monitor_spec.specs.Residual.{afterPair, after, afterAll, run, fromDefinition, residualsOf}
+use Rattle.residuals.specs.Keep.{keep}
+use Rattle.residuals.specs.Residual.{Residual, leaf, pair, pairs, resolveIn, resolveDef, resolve, afterLeaf}
+use Rattle.residuals.specs.Residual.{afterPair, after, afterAll, run, fromDefinition, residualsOf}
 use Rattle.monitor_spec.specs.Meaning.{Sound}
 use Rattle.monitor_spec.specs.Residual.Resolve.{resolve-at, resolveDef-sound}
 use Rattle.monitor_spec.specs.Residual.After.{after-leaf-at, after-pair-at, after-sound}
@@ -78,7 +79,7 @@ module _ (t : Table) where
       → ((d : ℕ) → All (Kept t (levelWidth t (levelIn (t .definitions) d))) (f d))
       → (p : Term) (m : Memory) {h c n : ℕ} → Stands (t .definitions) h c n p → Remembers (t .alphabet) c m
       → All (Kept t (reach t p)) (resolveIn f p n m)
-  unfolding resolveIn reach widthWith
+  unfolding resolveIn reach widthWith keep
   resolveIn-kept f k stop m s g = (leaf-kept m s g, tt)
   resolveIn-kept f k fail m s g = tt
   resolveIn-kept f k (prefix r p) m s g = (leaf-kept m s g, tt)
@@ -109,7 +110,7 @@ module _ (t : Table) where
     body-kept : (f : ℕ → List Residual) → ((d : ℕ) → All (Kept t (levelWidth t (levelIn (t .definitions) d))) (f d))
         → (d : ℕ) → All (Kept t (levelWidth t (levelIn (t .definitions) d)))
         (resolveIn f (bodyOf t d) (bodyNumber t d) noMemory)
-    unfolding bodyCount resolveIn
+    unfolding bodyCount resolveIn keep
     body-kept f k d = by (decLt d (bodyCount t))
       where
         by : Dec (d < bodyCount t) → All (Kept t (levelWidth t (levelIn (t .definitions) d)))
@@ -126,7 +127,7 @@ module _ (t : Table) where
     resolveDef-kept zero d = tt
     resolveDef-kept (suc b) d = body-kept (resolveDef t b) (resolveDef-kept b) d
 
-    resolve-kept : (n : ℕ) (m : Memory) (p : Term) {h c : ℕ} → Stands (t .definitions) h c n p
+    pub resolve-kept : (n : ℕ) (m : Memory) (p : Term) {h c : ℕ} → Stands (t .definitions) h c n p
         → Remembers (t .alphabet) c m → All (Kept t (reach t p)) (resolve t n m)
     resolve-kept n m p s g =
         rw (resolve-at t n m p (at-number t s))

@@ -1,4 +1,4 @@
--- A proper residual has at most 15 nodes, each a word of its own. Assumes nothing.
+-- A proper residual has at most 15 nodes. Assumes nothing.
 use Prim.Native.Nat.{ℕ, suc, _*_, _≤_, _<_}
 use native.Mathlib.Omega.{arith}
 use mathlib.Core.Path.{_≡_}
@@ -8,14 +8,15 @@ use Rattle.table.specs.Table.{Table, Term, stop, fail, prefix, choice, par, cal
 use Rattle.table.specs.Table.{enclosing}
 use Rattle.meaning.specs.Figure1.{bodyCount, plain, Guarded}
 use Rattle.numbers.specs.Every.{All, all-append}
-use Rattle.monitor_spec.specs.Part.Numbers.{number-at, number-below}
+use Rattle.table.specs.Part.Numbers.{number-at, number-below}
 use Rattle.table.specs.Memory.{Memory, digit}
 use Rattle.table.specs.Width.{widthWith, reach}
 use Rattle.monitor_spec.specs.Regular.{Regular}
-use Rattle.monitor_spec.specs.Residual.{Residual, leaf, pair}
+use Rattle.residuals.specs.Residual.{Residual, leaf, pair}
 use Rattle.monitor_spec.specs.Meaning.{Sound}
 use Rattle.monitor_spec.specs.Residual.Resolve.{number-guarded}
-use Rattle.monitor_spec.specs.Slots.{pack, nodes}
+use Rattle.node_word.specs.Word.{pack}
+use Rattle.residuals.specs.Slots.{nodes}
 use Rattle.monitor_spec.specs.Valid.{reachSum}
 use Rattle.monitor_spec.specs.Proper.{Remembers, Fits, Proper}
 use Rattle.monitor_spec.specs.Proper.Laws.{reachAt-at}
@@ -44,27 +45,3 @@ module _ (t : Table) (regular : Regular t) where
 
   pub nodes-most : (r : Residual) → Proper t r → length (nodes r) ≤ 15
   nodes-most r (s, (f, k)) = let a = nodes-reach r s in omega arith
-
-  -- ---- a node word has its 64 bits
-  pack-small : (n c : ℕ) (m : Memory) (x : Term) → termAt t n ≡ some x → Remembers (t .alphabet) c m
-      → pack n m < 17179869184
-  unfolding pack digit
-  pack-small n c m x e f =
-      let a = regular .alphabet-most in
-      let b = regular .terms-most in
-      let d = number-below t (number-at t n x e .stands) in
-      let i = f 0 (omega arith) .0 in
-      let j = f 1 (omega arith) .0 in
-      let k = f 2 (omega arith) .0 in
-      let l = f 3 (omega arith) .0 in
-      omega arith
-
-  -- 2^34, which 64 bits hold
-  pub nodes-small : (r : Residual) → Sound t r → Fits t r → All (λ w. w < 17179869184) (nodes r)
-  unfolding nodes
-  nodes-small (leaf n m) (x, e, i) f = (pack-small n (enclosing t n) m x e f, tt)
-  nodes-small (pair n m l r) (x, e, i, a, b) (f, g, h) = (
-    pack-small n (enclosing t n) m x e f,
-    all-append (λ w. w < 17179869184) (nodes l) (nodes r)
-        (nodes-small l a g) (nodes-small r b h),
-  )

@@ -12,13 +12,13 @@ use Rattle.table.specs.Member.{member}
 use Rattle.numbers.specs.Every.{All, all-imp, all-append}
 use Rattle.meaning.specs.Some.{all-flat}
 use Rattle.meaning.specs.ClosedResiduals as C
-use Rattle.monitor_spec.specs.Part.{Stands}
-use Rattle.monitor_spec.specs.Part.Numbers.{follower-stands, at-number, number-at}
+use Rattle.table.specs.Part.{Stands}
+use Rattle.table.specs.Part.Numbers.{follower-stands, at-number, number-at}
 use Rattle.table.specs.Memory.{Memory, remember}
 use Rattle.meaning.specs.Closing.{closeRef, close}
 use Rattle.meaning.specs.Closing.Laws.{close-sub, member-close}
-use Rattle.monitor_spec.specs.Residual.{Residual, leaf, pair, pairs, resolveDef, resolve, afterLeaf, afterPair}
-use Rattle.monitor_spec.specs.Residual.{after, afterAll, run}
+use Rattle.residuals.specs.Residual.{Residual, leaf, pair, pairs, resolveDef, resolve, afterLeaf, afterPair}
+use Rattle.residuals.specs.Residual.{after, afterAll, run}
 use Rattle.monitor_spec.specs.Regular.{Regular}
 use Rattle.monitor_spec.specs.Meaning.{joinAt, denote, IsLeaf, IsPar, Sound}
 use Rattle.monitor_spec.specs.Residual.Resolve.{map-flat, denote-leaf, denote-pair, denote-join}

@@ -7,15 +7,16 @@ use mathlib.Core.List.{List, _++_}
 use Rattle.table.specs.Table.{Table, Term, stop, fail, prefix, choice, par, call, size, bodyOf, bodyNumber}
 use Rattle.table.specs.Memory.{Memory, noMemory}
 use Rattle.meaning.specs.Figure1.{bodyCount, body, plain, Guarded}
-use Rattle.monitor_spec.specs.Part.Numbers.{at-number, body-number}
-use Rattle.monitor_spec.specs.Residual.{Residual, pairs, resolveIn, resolveDef, resolve}
+use Rattle.table.specs.Part.Numbers.{at-number, body-number}
+use Rattle.residuals.specs.Keep.{keep}
+use Rattle.residuals.specs.Residual.{Residual, pairs, resolveIn, resolveDef, resolve}
 use Rattle.monitor_spec.specs.Residual.Resolve.{resolve-at}
 use Rattle.monitor_spec.specs.Regular.{Regular}
 
 -- where the calls with no prefix around them are below k, and resolve alike
 resolveIn-agree : (f g : ℕ → List Residual) (n k : ℕ) → ((d : ℕ) → d < k → f d ≡ g d)
     → (p : Term) → Guarded n k (plain p) → (i : ℕ) (m : Memory) → resolveIn f p i m ≡ resolveIn g p i m
-unfolding resolveIn plain
+unfolding resolveIn plain keep
 resolveIn-agree f g n k h stop b i m = refl
 resolveIn-agree f g n k h fail b i m = refl
 resolveIn-agree f g n k h (prefix r p) b i m = refl

@@ -16,10 +16,11 @@ use Rattle.table.specs.Rules.Laws.{no-wrong}
 use Rattle.table.specs.Equations.{branches-call}
 use Rattle.table.specs.Rules.{Rules}
 use Rattle.meaning.specs.Figure1.{bodyCount, last, body, plain, Guarded}
-use Rattle.monitor_spec.specs.Part.{Stands}
-use Rattle.monitor_spec.specs.Part.Numbers.{at-number}
-use Rattle.monitor_spec.specs.Residual.{Residual, pair, pairs, resolveIn, resolveDef, resolve, run}
-use Rattle.monitor_spec.specs.Residual.{fromDefinition, residualsOf}
+use Rattle.table.specs.Part.{Stands}
+use Rattle.table.specs.Part.Numbers.{at-number}
+use Rattle.residuals.specs.Keep.{keep}
+use Rattle.residuals.specs.Residual.{Residual, pair, pairs, resolveIn, resolveDef, resolve, run}
+use Rattle.residuals.specs.Residual.{fromDefinition, residualsOf}
 use Rattle.monitor_spec.specs.Residual.Resolve.{resolve-at, number-guarded}
 use Rattle.monitor_spec.specs.Regular.Laws.{regular}
 
@@ -35,7 +36,7 @@ length-pairs n m (l ∷ ls) rs =
 -- where the calls with no prefix around them, which are below k, list as many as g says
 resolveIn-length : (f : ℕ → List Residual) (g : ℕ → ℕ) (n k : ℕ) → ((d : ℕ) → d < k → length (f d) ≡ g d)
     → (p : Term) → Guarded n k (plain p) → (i : ℕ) (m : Memory) → length (resolveIn f p i m) ≡ branchesWith g p
-unfolding resolveIn branchesWith plain
+unfolding resolveIn branchesWith plain keep
 resolveIn-length f g n k h stop b i m = refl
 resolveIn-length f g n k h fail b i m = refl
 resolveIn-length f g n k h (prefix r p) b i m = refl

@@ -14,13 +14,14 @@ use Rattle.meaning.specs.Theorem3.{guarded-more}
 use Rattle.numbers.specs.Every.{All, all-imp, all-append}
 use Rattle.meaning.specs.Some.{all-map, all-flat}
 use Rattle.meaning.specs.ClosedResiduals as C
-use Rattle.monitor_spec.specs.Part.{Part, here, follower, choice-left, choice-right, par-left, par-right, Stands}
-use Rattle.monitor_spec.specs.Part.Numbers.{choice-left-stands, choice-right-stands, par-left-stands}
-use Rattle.monitor_spec.specs.Part.Numbers.{par-right-stands, at-number, body-number, number-home, body-beyond}
+use Rattle.table.specs.Part.{Part, here, follower, choice-left, choice-right, par-left, par-right, Stands}
+use Rattle.table.specs.Part.Numbers.{choice-left-stands, choice-right-stands, par-left-stands}
+use Rattle.table.specs.Part.Numbers.{par-right-stands, at-number, body-number, number-home, body-beyond}
 use Rattle.table.specs.Memory.{Memory, noMemory}
 use Rattle.meaning.specs.Closing.{closeRef, close, Scoped}
 use Rattle.meaning.specs.Closing.Laws.{close-plain}
-use Rattle.monitor_spec.specs.Residual.{Residual, leaf, pair, pairs, resolveIn, resolveDef, resolve}
+use Rattle.residuals.specs.Keep.{keep}
+use Rattle.residuals.specs.Residual.{Residual, leaf, pair, pairs, resolveIn, resolveDef, resolve}
 use Rattle.monitor_spec.specs.Regular.{Regular}
 use Rattle.monitor_spec.specs.Meaning.{joinAt, denote, IsPar, Sound, Some}
 
@@ -71,7 +72,7 @@ module _ (t : Table) where
   pub resolveIn-denote : (f : ℕ → List Residual) (g : ℕ → List Term) → ((d : ℕ) → map (denote t) (f d) ≡ g d)
       → (p : Table.Term) (m : Memory) {h c n : ℕ} → Stands (t .definitions) h c n p
       → map (denote t) (resolveIn f p n m) ≡ C.resolveWith g (close 0 m p)
-  unfolding resolveIn C.resolveWith close
+  unfolding resolveIn C.resolveWith close keep
   resolveIn-denote f g k Table.stop m {n = n} s = ap (_∷ []) (denote-leaf n m Table.stop (at-number t s))
   resolveIn-denote f g k Table.fail m s = refl
   resolveIn-denote f g k (Table.prefix r p) m {n = n} s =
@@ -107,7 +108,7 @@ module _ (t : Table) where
   pub resolveIn-sound : (f : ℕ → List Residual) → ((d : ℕ) → All (Sound t) (f d))
       → (p : Table.Term) (m : Memory) {h c n : ℕ} → Stands (t .definitions) h c n p
       → All (Sound t) (resolveIn f p n m)
-  unfolding resolveIn
+  unfolding resolveIn keep
   resolveIn-sound f k Table.stop m s = ((Table.stop, at-number t s, tt), tt)
   resolveIn-sound f k Table.fail m s = tt
   resolveIn-sound f k (Table.prefix r p) m s = ((Table.prefix r p, at-number t s, tt), tt)
@@ -153,7 +154,7 @@ module _ (t : Table) where
 
     body-denote : (f : ℕ → List Residual) (g : ℕ → List Term) → ((d : ℕ) → map (denote t) (f d) ≡ g d) → (d : ℕ)
         → map (denote t) (resolveIn f (bodyOf t d) (bodyNumber t d) noMemory) ≡ C.resolveWith g (body t d)
-    unfolding body bodyCount resolveIn C.resolveWith plain
+    unfolding body bodyCount resolveIn C.resolveWith plain keep
     body-denote f g k d = by (decLt d (bodyCount t))
       where
         by : Dec (d < bodyCount t)
@@ -164,7 +165,7 @@ module _ (t : Table) where
 
     body-sound : (f : ℕ → List Residual) → ((d : ℕ) → All (Sound t) (f d)) → (d : ℕ)
         → All (Sound t) (resolveIn f (bodyOf t d) (bodyNumber t d) noMemory)
-    unfolding bodyCount resolveIn
+    unfolding bodyCount resolveIn keep
     body-sound f k d = by (decLt d (bodyCount t))
       where
         by : Dec (d < bodyCount t) → All (Sound t) (resolveIn f (bodyOf t d) (bodyNumber t d) noMemory)

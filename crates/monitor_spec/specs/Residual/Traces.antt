@@ -18,12 +18,12 @@ use Rattle.numbers.specs.Every.{All, all-imp}
 use Rattle.meaning.specs.Some.{any-unmap, Any, any-all, any-map, all-map}
 use Rattle.meaning.specs.ClosedResiduals as C
 use Rattle.meaning.specs.ClosedResidualsHold.{Ready, Has, run-holds, residuals-hold}
-use Rattle.monitor_spec.specs.Part.Numbers.{number-at}
+use Rattle.table.specs.Part.Numbers.{number-at}
 use Rattle.table.specs.Memory.{Memory}
 use Rattle.meaning.specs.Closing.{close}
 use Rattle.meaning.specs.Closing.Laws.{guarded-close}
-use Rattle.monitor_spec.specs.Residual.{Residual, leaf, pair, resolveDef, resolve, run, fromDefinition}
-use Rattle.monitor_spec.specs.Residual.{residualsOf}
+use Rattle.residuals.specs.Residual.{Residual, leaf, pair, resolveDef, resolve, run, fromDefinition}
+use Rattle.residuals.specs.Residual.{residualsOf}
 use Rattle.monitor_spec.specs.Regular.{Regular}
 use Rattle.monitor_spec.specs.Meaning.{joinAt, denote, IsLeaf, IsPar, Sound, Some}
 use Rattle.monitor_spec.specs.Residual.Resolve.{some-map, denote-leaf, denote-join, number-guarded}

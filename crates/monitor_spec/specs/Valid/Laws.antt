@@ -13,10 +13,11 @@ use Rattle.table.specs.Table.{Table, Term, stop, fail, prefix, choice, par, cal
 use Rattle.numbers.specs.Every.{All}
 use Rattle.table.specs.Memory.{Memory, digit}
 use Rattle.monitor_spec.specs.Regular.{Regular}
-use Rattle.monitor_spec.specs.Residual.{Residual, leaf, pair}
+use Rattle.residuals.specs.Residual.{Residual, leaf, pair}
 use Rattle.monitor_spec.specs.Meaning.{Sound}
-use Rattle.monitor_spec.specs.Slots.{Order, below, same, above, termOfWord, memoryOf, slotOf, compareWords}
-use Rattle.monitor_spec.specs.Slots.Comparison.{cmp-refl, same-eq}
+use Rattle.node_word.specs.Word.{termOfWord, memoryOf}
+use Rattle.residuals.specs.Slots.{Order, below, same, above, slotOf, compareWords}
+use Rattle.residuals.specs.Slots.Comparison.{cmp-refl, same-eq}
 use Rattle.monitor_spec.specs.Valid.{joinTrees, plant, plantWord, forest, oneTree, slotResidual, digitFits}
 use Rattle.monitor_spec.specs.Valid.{memoryFits, memoriesFit, reachSum, isSame, validSlot}
 use Rattle.monitor_spec.specs.Proper.{Remembers, Fits, Proper}

@@ -12,13 +12,15 @@ use Rattle.numbers.specs.Every.{All, all-imp}
 use Rattle.meaning.specs.Some.{Any, any-all, any-map, any-flat, flat-any, all-map}
 use Rattle.table.specs.Memory.{Memory, digit}
 use Rattle.monitor_spec.specs.Regular.{Regular}
-use Rattle.monitor_spec.specs.Residual.{Residual, leaf, pair, after, afterAll}
-use Rattle.monitor_spec.specs.Slots.{nodes, slotOf, canon, slotsOf}
-use Rattle.monitor_spec.specs.Slots.Canonical.{In, in-canon, of-all, all-of, canon-members}
+use Rattle.node_word.specs.Word.{Digits}
+use Rattle.node_word.specs.Word.Laws.{events-fit}
+use Rattle.residuals.specs.Residual.{Residual, leaf, pair, after, afterAll}
+use Rattle.residuals.specs.Slots.{nodes, slotOf, canon, slotsOf}
+use Rattle.residuals.specs.Slots.Canonical.{In, in-canon, of-all, all-of, canon-members}
 use Rattle.monitor_spec.specs.Valid.{slotResidual, held}
 use Rattle.monitor_spec.specs.Proper.{Remembers, Fits, Proper}
 use Rattle.monitor_spec.specs.Proper.Nodes.{nodes-most}
-use Rattle.monitor_spec.specs.Slots.Packing.{Six, SixAll, slotResidual-slotOf}
+use Rattle.monitor_spec.specs.Valid.Packing.{DigitsAll, slotResidual-slotOf}
 use Rattle.monitor_spec.specs.State.Areas.{Sixteen}
 
 any-in : (X : List ℕ → Type 0) (l : List (List ℕ)) → Any X l → (a : List ℕ) × In a l × X a
@@ -83,22 +85,23 @@ module _ (t : Table) where
           same x y p = cc
 
   module _ (regular : Regular t) where
-    pub six : (c : ℕ) (m : Memory) → Remembers (t .alphabet) c m → Six m
+    pub digits-fit : (c : ℕ) (m : Memory) → Remembers (t .alphabet) c m → Digits m
     unfolding digit
-    six c m f =
+    digits-fit c m f =
         let a = regular .alphabet-most in
+        let h = events-fit in
         let b = f 0 (omega arith) .0 in
         let d = f 1 (omega arith) .0 in
         let e = f 2 (omega arith) .0 in
         let g = f 3 (omega arith) .0 in
         record { s0 = omega arith; s1 = omega arith; s2 = omega arith; s3 = omega arith }
 
-    fits-six : (r : Residual) → Fits t r → SixAll r
-    fits-six (leaf n m) f = six (enclosing t n) m f
-    fits-six (pair n m l r) (f, a, b) = (six (enclosing t n) m f, fits-six l a, fits-six r b)
+    fits-digits : (r : Residual) → Fits t r → DigitsAll r
+    fits-digits (leaf n m) f = digits-fit (enclosing t n) m f
+    fits-digits (pair n m l r) (f, a, b) = (digits-fit (enclosing t n) m f, fits-digits l a, fits-digits r b)
 
     pub read-back : (r : Residual) → Proper t r → slotResidual t (slotOf r) ≡ some r
-    read-back r (s, k) = slotResidual-slotOf t r s (fits-six r (k .0))
+    read-back r (s, k) = slotResidual-slotOf t r s (fits-digits r (k .0))
 
     pub slot-sixteen : (r : Residual) → Proper t r → Sixteen (slotOf r)
     unfolding slotOf

@@ -13,14 +13,14 @@ use Rattle.table.specs.Table.{Table}
 use Rattle.numbers.specs.Every.{All}
 use Rattle.table.specs.Operations.{zeros}
 use Rattle.monitor_spec.specs.Regular.{Regular}
-use Rattle.monitor_spec.specs.Residual.{Residual}
-use Rattle.monitor_spec.specs.Slots.{slotsOf}
+use Rattle.residuals.specs.Residual.{Residual}
+use Rattle.residuals.specs.Slots.{slotsOf}
 use Rattle.monitor_spec.specs.State.{Verdict, running, failedAt, State, Monitor, even, choose, fill, laid}
 use Rattle.monitor_spec.specs.View.{Part, noPart, partBy, viewPart, wordsIn, viewOf}
 use Rattle.monitor_spec.specs.State.Areas.{Sixteen, choose-ap, present-even, present-odd}
 use Rattle.monitor_spec.specs.State.Areas.{length-flatten, length-fill}
 use Rattle.monitor_spec.specs.Expected.Verdicts.{slots-none}
-use Rattle.monitor_spec.specs.Sensible.{Sensible}
+use Rattle.monitor_spec.specs.Sensible.{Agrees, Sensible}
 use Rattle.monitor_spec.specs.Expected.Laid.{all-sixteen}
 
 -- ---- the equations of viewPart
@@ -101,42 +101,44 @@ front : (n : ℕ) (ss : List (List ℕ)) → All Sixteen ss → take (length ss 
 unfolding fill
 front n ss h = take-at (flatten ss) (zeros ((n - length ss) * 16)) (length ss * 16) (length-flatten ss h)
 
-module _ (t : Table) (regular : Regular t) (n k : ℕ) (rs : List Residual) where
+module _ (t : Table) (regular : Regular t) (n : ℕ) (s : State) (rs : List Residual) (ok : Sensible t n s rs) where
   abbrev ss : List (List ℕ)
   ss = slotsOf rs
 
   abbrev m : Monitor
-  m = laid n k running ss
+  m = laid n s ss
 
-  module _ (ok : Sensible t n k running rs) where
-    room : (l : List ℕ) → l ≡ fill n ss → length ss * 16 ≤ length l
-    room l e =
-        let w = length-fill n ss (all-sixteen t regular n k running rs ok) (ok .room) in
-        let r = ok .room in
-        rw e (omega arith)
+  room : (l : List ℕ) → l ≡ fill n ss → s .count * 16 ≤ length l
+  room l e =
+      let w = length-fill n ss (all-sixteen t regular n s rs ok) (ok .room) in
+      let r = ok .room in
+      let c = ok .counted in
+      rw e (omega arith)
 
-    words : (l : List ℕ) → l ≡ fill n ss → take (length ss * 16) l ≡ flatten ss
-    words l e = rw e (front n ss (all-sixteen t regular n k running rs ok))
+  words : (l : List ℕ) → l ≡ fill n ss → take (s .count * 16) l ≡ flatten ss
+  words l e = rw (e, ok .counted) (front n ss (all-sixteen t regular n s rs ok))
 
-    laid-by : (x : Bool) → eqb (k % 2) 0 ≡ x → viewOf m ≡ flatten ss
-    unfolding laid wordsIn choose
-    laid-by true q =
-        let e = eqb-true (k % 2) 0 q in
-        let a = present-even k (fill n ss) (fill n []) e in
-        view-in m _ (part-0 (m .state) (length (m .area0)) (length (m .area1)) refl e
-        ∙ part-fits (length ss) 0 (length (m .area0)) (room (m .area0) a))
-        ∙ words (m .area0) a
-    laid-by false q =
-        let e = eqb-false (k % 2) 0 q in
-        let b = present-odd k (fill n []) (fill n ss) e in
-        view-in m _ (part-1 (m .state) (length (m .area0)) (length (m .area1)) refl (omega arith)
-        ∙ part-fits (length ss) 1 (length (m .area1)) (room (m .area1) b))
-        ∙ words (m .area1) b
+  laid-by : s .verdict ≡ running → (x : Bool) → eqb (s .taken % 2) 0 ≡ x → viewOf m ≡ flatten ss
+  unfolding laid wordsIn choose
+  laid-by v true q =
+      let e = eqb-true (s .taken % 2) 0 q in
+      let a = present-even (s .taken) (fill n ss) (fill n []) e in
+      view-in m _ (part-0 (m .state) (length (m .area0)) (length (m .area1)) v e
+      ∙ part-fits (s .count) 0 (length (m .area0)) (room (m .area0) a))
+      ∙ words (m .area0) a
+  laid-by v false q =
+      let e = eqb-false (s .taken % 2) 0 q in
+      let b = present-odd (s .taken) (fill n []) (fill n ss) e in
+      view-in m _ (part-1 (m .state) (length (m .area0)) (length (m .area1)) v (omega arith)
+      ∙ part-fits (s .count) 1 (length (m .area1)) (room (m .area1) b))
+      ∙ words (m .area1) b
 
-  pub view-laid : (v : Verdict) → Sensible t n k v rs → viewOf (laid n k v (slotsOf rs)) ≡ flatten (slotsOf rs)
+  pub view-laid : viewOf (laid n s (slotsOf rs)) ≡ flatten (slotsOf rs)
   unfolding laid wordsIn choose flatten
-  view-laid running ok = laid-by ok (eqb (k % 2) 0) refl
-  view-laid (failedAt p) ok =
-      let x : Monitor = laid n k (failedAt p) ss in
-      view-in x noPart (part-failed (x .state) (length (x .area0)) (length (x .area1)) p refl)
-      ∙ sym (ap (λ (z : List Residual). flatten (slotsOf z)) (ok .agrees .0) ∙ ap flatten slots-none)
+  view-laid = by (s .verdict) refl (ok .agrees)
+    where
+      by : (v : Verdict) → s .verdict ≡ v → Agrees (s .taken) rs v → viewOf m ≡ flatten ss
+      by running v a = laid-by v (eqb (s .taken % 2) 0) refl
+      by (failedAt p) v (a, b) =
+          view-in m noPart (part-failed (m .state) (length (m .area0)) (length (m .area1)) p v)
+          ∙ sym (ap (λ (z : List Residual). flatten (slotsOf z)) a ∙ ap flatten slots-none)

@@ -12,12 +12,12 @@ use borrow.Author.Tests.{ltb-true, ltb-false}
 use Rattle.table.specs.Table.{Table}
 use Rattle.table.specs.Memory.{noMemory}
 use Rattle.table.specs.Rules.{Rules}
-use Rattle.walk.specs.declared.nodes.Tree.{Tree}
-use Rattle.moves.specs.Takes.{Takes}
-use Rattle.monitor_spec.specs.Residual.{Residual, leaf, after, afterAll}
+use Rattle.tree_moves.specs.declared.takes.Tree.{Tree}
+use Rattle.tree_moves.specs.Takes.{Takes}
+use Rattle.residuals.specs.Residual.{Residual, leaf, after, afterAll}
 use Rattle.monitor_spec.specs.Offer.{bitOf}
-use Rattle.stepping.specs.Holds.{AreaHolds, heldIn}
-use Rattle.stepping.specs.Holds.Laws.{length-held, holds-takes}
+use Rattle.step_laws.specs.Holds.{AreaHolds, heldIn}
+use Rattle.step_laws.specs.Holds.Laws.{length-held, holds-takes}
 
 none-first : (l m : List Residual) → ltb 0 (length l) ≡ false → bitOf 0 m ≡ bitOf 0 (l ++ m)
 none-first [] m h = refl
@@ -59,16 +59,16 @@ module _ (t : Table) (e : ℕ) (rs : List Residual) (i : ℕ) where
 
 -- the residuals that an area holds
 module _ {t : Table} (rules : Rules t) {a : List ℕ} {c : ℕ} (holds : AreaHolds t a c) (e : ℕ) (i : ℕ) where
-  module _ (h : i < c) (known : e < t .alphabet) (r : Tree) (takes : Takes t e a (i * 16 + 1) r) where
+  module _ (h : i < c) (r : Tree) (takes : Takes t e a (i * 16 + 1) r) where
     pub bit-next : r .moves ≡ false → bitFrom t e (heldIn t a c) (i + 1) ≡ bitFrom t e (heldIn t a c) i
     bit-next q =
         bit-none t e (heldIn t a c) i (omega (arith, length-held rules holds))
-        (sym (holds-takes rules holds i h e known r takes) ∙ q)
+        (sym (holds-takes rules holds i h e r takes) ∙ q)
 
     pub bit-found : r .moves ≡ true → 1 ≡ bitFrom t e (heldIn t a c) i
     bit-found q =
         bit-some t e (heldIn t a c) i (omega (arith, length-held rules holds))
-        (sym (holds-takes rules holds i h e known r takes) ∙ q)
+        (sym (holds-takes rules holds i h e r takes) ∙ q)
 
   pub bit-done : c ≤ i → 0 ≡ bitFrom t e (heldIn t a c) i
   bit-done h = bit-end t e (heldIn t a c) i (omega (arith, length-held rules holds))

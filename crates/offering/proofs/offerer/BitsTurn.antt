@@ -8,7 +8,7 @@ use mathlib.Core.List.{List, [], _∷_}
 use lib.Pow.{pow-pos, pow-mono}
 use Rattle.table.specs.Table.{Table}
 use Rattle.table.specs.Rules.{Rules}
-use Rattle.monitor_spec.specs.Residual.{Residual, afterAll}
+use Rattle.residuals.specs.Residual.{Residual, afterAll}
 use Rattle.monitor_spec.specs.Offer.{bitOf, bitsBelow}
 use Rattle.monitor_spec.specs.Offer.Laws.{bits-small}
 

@@ -1,86 +1,45 @@
--- The whole outcome of Offer, case by case: lengths that are wrong, a list that is no table, an accepted table.
+-- The whole outcome of Offer, by what stands before its word.
+--     offer-enters                        what `offered` asks for
+--     offer-declined, offer-answered      refusals 1 to 10; the word
 -- Assumes nothing.
 use Prim.Native.Nat.{ℕ}
-use mathlib.Core.Path.{_≡_, refl, ap, ap₂, sym, _∙_}
-use mathlib.Core.Bool.{Bool, true, false, not, _&&_}
+use mathlib.Core.Path.{_≡_, ap, ap₂, sym, _∙_}
+use mathlib.Core.Bool.{true}
 use mathlib.Core.List.{List}
 use lib.ListN.{length}
-use borrow.Author.Tests.{eqb-true, not-true, not-false}
+use Rattle.table.specs.Operations.{zeros}
+use Rattle.table_index.specs.Index.{tableIn, Indexed}
+use Rattle.table.specs.declared.answer.Refusal.{Refusal}
 use Rattle.table.specs.declared.answer.Judged.{Judged}
 use Rattle.table.specs.declared.answer.Judged.the-variants.{Accepted, Declined}
-use Rattle.table.specs.declared.answer.Refusal.{Refusal}
-use Rattle.table.specs.Table.{Table}
-use Rattle.table.specs.Judge.{Judgement, accepted, declined, judgeList}
-use Rattle.table.specs.Judging.{CheckSaid, Checked}
-use Rattle.table.specs.Index.{tableIn, Indexed}
-use Rattle.table.specs.Operations.{zeros}
-use Rattle.state.specs.declared.record.State.{State}
-use Rattle.state.specs.declared.answer.Offered as code
-use Rattle.state.specs.declared.answer.Offered.the-variants.{Refused}
-use Rattle.monitor_spec.specs.Valid.Laws.{and-split}
-use Rattle.monitor_spec.specs.State.{Monitor, areasMeasured, workMeasured}
+use Rattle.monitor_spec.specs.State.{Monitor, areasMeasured}
 use Rattle.monitor_spec.specs.Consistent.{consistent}
-use Rattle.monitor_spec.specs.Offer.{Offered, offering, offerJudged, offerOf}
-use Rattle.state.specs.Record.{lengthsFit, monitorOf}
-use Rattle.state.specs.Record.Laws.{lengths-measured}
-use Rattle.state.specs.Answers.{offeredOf, offerOutcome}
+use Rattle.monitor_spec.specs.Entering.{entranceOn}
+use Rattle.monitor_spec.specs.Offer.{offers, offerBits, offering, offerOf}
+use Rattle.monitor_spec.specs.Offer.Laws.{offer-shut, offer-admits}
+use Rattle.state.specs.declared.answer.Offered.the-variants.{Offers, Refused}
+use Rattle.state.specs.Answers.{offerOutcome}
+use Rattle.entering.specs.Entered.{Entered}
+use Rattle.entering.specs.Entered.Laws.{entered-shut, entered-open, open-on}
 
--- the areas are kept, whatever the answer
-judged-parts : (l : List ℕ) (t : Table) (m : Monitor) (w v : List ℕ)
-    → offering ((offerJudged (accepted l t) m v) .answer) m (zeros (length w)) ≡ offerJudged (accepted l t) m w
-unfolding offerJudged offering
-judged-parts l t m w v = by (consistent t m) refl
+module _ (l : List ℕ) (m : Monitor) (w : List ℕ) (j : Judged) (w₁ : List ℕ) (h : Entered (entranceOn l m w) l j w₁)
   where
-    by : (b : Bool) → consistent t m ≡ b
-        → offering ((offerJudged (accepted l t) m v) .answer) m (zeros (length w)) ≡ offerJudged (accepted l t) m w
-    by true e = rw (e, offerJudged)
-    by false e = rw (e, offerJudged)
+    pub offer-enters : j ≡ Accepted
+        → Indexed l w₁ × (areasMeasured (m .area0) (m .area1) ≡ true) × (consistent (tableIn l) m ≡ true)
+    offer-enters q =
+        let (e, x) = entered-open (entranceOn l m w) l j w₁ h q in
+        let (a, c) = open-on l m w e in
+        (x, a, c)
 
-module _ (l : List ℕ) (s : State) (a b w : List ℕ) (r : Bool)
-    (fit : r ≡ lengthsFit (length a) (length b) (length w)) where
-  -- a length is wrong
-  pub offer-unmeasured : not r ≡ true
-      → offerOutcome (Refused (record { number = 1; place = 0 })) a b w ≡ offerOf l (monitorOf s a b) w
-  unfolding offerOf offering
-  offer-unmeasured h =
-      let k : (areasMeasured a b && workMeasured w) ≡ false = sym (lengths-measured a b w) ∙ sym fit ∙ not-true r h in
-      rw (k, offerOf)
+    pub offer-declined : (r : Refusal) → j ≡ Declined r
+        → offerOutcome (Refused r) (m .area0) (m .area1) w₁ ≡ offerOf l m w
+    unfolding offering
+    offer-declined r q = sym (offer-shut l m w (r .number) (r .place) w₁ (entered-shut (entranceOn l m w) l j w₁ h r q))
 
-  module _ (left : not r ≡ false) where
-    both : (areasMeasured a b && workMeasured w) ≡ true
-    both = sym (lengths-measured a b w) ∙ sym fit ∙ not-false r left
-
-    pub areas-measured : areasMeasured a b ≡ true
-    areas-measured = and-split (areasMeasured a b) (workMeasured w) both .0
-
-    work-measured : length w ≡ 8192
-    unfolding workMeasured
-    work-measured = eqb-true (length w) 8192 (and-split (areasMeasured a b) (workMeasured w) both .1)
-
-    judged : (j : Judgement) → judgeList l ≡ j → offerJudged j (monitorOf s a b) w ≡ offerOf l (monitorOf s a b) w
-    unfolding offerOf
-    judged j e = rw (both, offerOf) (ap (λ (x : Judgement). offerJudged x (monitorOf s a b) w) (sym e))
-
-    module _ (v : List ℕ) (j : Judged) (checked : Checked l w v j) where
-      -- the list is no table
-      pub offer-declined : (x : Refusal) → j ≡ Declined x
-          → offerOutcome (Refused x) a b v ≡ offerOf l (monitorOf s a b) w
-      unfolding offerJudged offering
-      offer-declined x e =
-          let c : CheckSaid l v (Declined x) = rw e at (checked .right work-measured) in
-          ap (λ (y : List ℕ). offerOutcome (Refused x) a b y) (c .1 ∙ ap zeros (sym work-measured))
-          ∙ judged (declined (x .number) (x .place)) (c .0)
-
-      pub offer-indexed : j ≡ Accepted → Indexed l v
-      offer-indexed e = rw e at (checked .right work-measured)
-
-      -- an accepted table
-      pub offer-judged : j ≡ Accepted → (o : code.Offered) (u : List ℕ)
-          → offeredOf o ≡ (offerJudged (accepted l (tableIn l)) (monitorOf s a b) v) .answer
-          → u ≡ zeros (length v) → offerOutcome o a b u ≡ offerOf l (monitorOf s a b) w
-      unfolding offering
-      offer-judged e o u q z =
-          let i = offer-indexed e in
-          let k : length v ≡ length w = i .structure .whole ∙ sym work-measured in
-          ap₂ (λ (x : Offered) (y : List ℕ). offering x (monitorOf s a b) y) q (z ∙ ap zeros k)
-          ∙ judged-parts l (tableIn l) (monitorOf s a b) w v ∙ judged (accepted l (tableIn l)) (i .taken)
+    pub offer-answered : j ≡ Accepted → (bits : ℕ) (w₂ : List ℕ) → bits ≡ offerBits (tableIn l) m (m .state .verdict)
+        → w₂ ≡ zeros (length w₁) → length w₁ ≡ length w
+        → offerOutcome (Offers bits) (m .area0) (m .area1) w₂ ≡ offerOf l m w
+    unfolding offering
+    offer-answered q bits w₂ e z k =
+        ap₂ (λ (x : ℕ) (v : List ℕ). offering (offers x) m v) e (z ∙ ap zeros k)
+        ∙ sym (offer-admits l m w (tableIn l) (entered-open (entranceOn l m w) l j w₁ h q .0))

@@ -1,21 +1,18 @@
 -- Start: one law per way out.
---     record-none, record-some                           the record at the start
 --     areas-cleared                                      areas of the right lengths, all zero
 --     last-resolves, started-given, started-exceeded     an accepted table
---     start-unfit, fit-areas, fit-indexed, start-declined, start-accepted     any list and any lengths
+--     start-enters, start-declined, start-accepted       any list and any lengths
 -- Assumes nothing.
 use Prim.Native.Nat.{ℕ, _-_, _*_, _%_, _<_, _≤_}
 use native.Mathlib.Omega.{arith}
-use native.Mathlib.Decide.{decLt}
-use mathlib.Core.Path.{_≡_, refl, ap, sym, _∙_}
-use mathlib.Core.Bool.{true, false, _&&_}
-use mathlib.Core.List.{List, [], _∷_, flatten}
+use mathlib.Core.Path.{_≡_, ap, sym, subst, _∙_}
+use mathlib.Core.Bool.{Bool, true, _&&_}
+use mathlib.Core.List.{List, [], flatten}
 use lib.ListN.{length}
 use lib.Dec.{eqb}
 use borrow.Author.Tests.{lt-ltb, le-ltb, eqb-true}
 use Rattle.table.specs.Operations.{zeros}
-use Rattle.table.specs.Judging.{Checked}
-use Rattle.table.specs.Index.{tableIn, Indexed}
+use Rattle.table_index.specs.Index.{tableIn, Indexed}
 use Rattle.table.specs.declared.answer.Judged.{Judged}
 use Rattle.table.specs.declared.answer.Judged.the-variants.{Accepted, Declined}
 use Rattle.table.specs.declared.answer.Refusal.{Refusal}
@@ -23,46 +20,28 @@ use Rattle.index.specs.Facts.{indexed-rules}
 use Rattle.meaning.specs.Figure1.{bodyCount, last}
 use Rattle.slots.specs.declared.slots.Held.{Held}
 use Rattle.slots.specs.declared.slots.Held.the-variants.{Count, Exceeded}
-use Rattle.slots.specs.Holding.{Outcome, said, countOf, putAll, Gave}
-use Rattle.step.specs.Started.{ResolvesAll, initial}
-use Rattle.monitor_spec.specs.Residual.{residualsOf}
-use Rattle.monitor_spec.specs.Slots.{slotsOf}
-use Rattle.monitor_spec.specs.State.{State, running, given, refused, areasMeasured, workMeasured}
+use Rattle.slots.specs.Holding.{putAll, Gave}
+use Rattle.set_step.specs.Started.{ResolvesAll, initial}
+use Rattle.residuals.specs.Residual.{fromDefinition, residualsOf}
+use Rattle.residuals.specs.Slots.{slotsOf}
+use Rattle.monitor_spec.specs.State.{State, freshState, given, refused, areasMeasured, workMeasured}
 use Rattle.monitor_spec.specs.State.{slotCount, fill}
 use Rattle.monitor_spec.specs.Valid.Laws.{and-split}
-use Rattle.monitor_spec.specs.Feed.{nextVerdict}
-use Rattle.monitor_spec.specs.Start.{startAccepted, startJudged, startOf}
+use Rattle.monitor_spec.specs.Entering.{Entrance, entrance, refusing}
+use Rattle.monitor_spec.specs.Start.{startAccepted, startOf}
+use Rattle.monitor_spec.specs.Start.Laws.{start-shut, start-admits}
 use Rattle.state.specs.declared.answer.Answer.{Answer}
 use Rattle.state.specs.declared.answer.Answer.the-variants.{Given, Refused}
 use Rattle.state.specs.declared.record.State as code
-use Rattle.state.specs.Record.{stateOf, failing, failedBy, lengthsFit}
+use Rattle.state.specs.Record.{stateOf, lengthsFit}
 use Rattle.state.specs.Record.Laws.{lengths-measured}
 use Rattle.state.specs.Answers.{outcome}
-use Rattle.stepping.specs.Stepping.{start-resolves, start-holds, start-exceeds}
-use Rattle.starting.specs.Starting.{StartRecord, Started}
-
--- ---- the record at the start
-
-none-held : (n : ℕ) → n ≡ 0 → (ss : List (List ℕ)) → length ss ≡ n
-    → failing (record { taken = 0; count = n; verdict = running })
-    ≡ record { taken = 0; count = length ss; verdict = nextVerdict running 0 ss }
-unfolding failing failedBy nextVerdict
-none-held n z [] h = refl
-none-held n z (x ∷ ss) h = absurd (omega arith)
-
-some-held : (n : ℕ) → (n ≡ 0 → ⊥) → (ss : List (List ℕ)) → length ss ≡ n
-    → _≡_ {A = State} (record { taken = 0; count = n; verdict = running })
-    (record { taken = 0; count = length ss; verdict = nextVerdict running 0 ss })
-unfolding nextVerdict
-some-held n z [] h = absurd (z (sym h))
-some-held n z (x ∷ ss) h = rw (sym h)
-
-pub record-none : (s : State) (n : ℕ) → n ≡ 0 → s ≡ failing (record { taken = 0; count = n; verdict = running })
-    → StartRecord n s
-record-none s n z e = record { same = λ ss h. e ∙ none-held n z ss h }
-
-pub record-some : (n : ℕ) → (n ≡ 0 → ⊥) → StartRecord n (record { taken = 0; count = n; verdict = running })
-record-some n z = record { same = some-held n z }
+use Rattle.entering.specs.Entered.{Entered}
+use Rattle.entering.specs.Entered.Laws.{entered-shut, entered-open, open-lent}
+use Rattle.step_laws.specs.Asks.{definition-resolves}
+use Rattle.step_laws.specs.Filled.{Filled}
+use Rattle.step_laws.specs.Filled.Laws.{settled-filled}
+use Rattle.starting.specs.Starting.{Started}
 
 -- ---- areas of the right lengths
 
@@ -88,65 +67,41 @@ areas-cleared a b e =
 
 -- ---- an accepted table
 
--- whether there was no room
-abbrev full : Held → ℕ
-full (Count n) = 0
-full Exceeded = 1
-
 module _ {l w : List ℕ} (x : Indexed l w) (d n : ℕ) (en : n ≡ length (tableIn l .definitions)) (pos : 1 ≤ n)
     (ed : d ≡ n - 1) where
   is-last : d ≡ last (tableIn l)
   unfolding bodyCount
   is-last = omega arith
 
-  pub last-resolves : ResolvesAll (tableIn l) d
+  known : d < bodyCount (tableIn l)
   unfolding bodyCount
-  last-resolves = rw is-last (record {
-    known = omega arith;
-    each = start-resolves (tableIn l) (indexed-rules x);
-  })
+  known = omega arith
+
+  pub last-resolves : ResolvesAll (tableIn l) d
+  last-resolves = definition-resolves (tableIn l) (indexed-rules x) d known
+
+  abbrev ss : List (List ℕ)
+  ss = slotsOf (residualsOf (tableIn l) [])
 
   module _ (a b : List ℕ) (m : areasMeasured a b ≡ true) (a0 : List ℕ) (e0 : a0 ≡ zeros (length a)) (r : Held)
       (a1 : List ℕ) (g : Gave (putAll a0 0 (initial (tableIn l) d)) r a1) where
-    start-gave : said r a1 ≡ putAll (fill (slotCount a) []) 0 (initial (tableIn l) (last (tableIn l)))
-    start-gave = g .same ∙ rw (e0, areas-cleared a b m .0, is-last)
-
-    -- how many slots there are decides
-    start-room : (n : ℕ) → r ≡ Count n → length (slotsOf (residualsOf (tableIn l) [])) ≤ slotCount a
-    unfolding bodyCount
-    start-room n e =
-        elim (decLt (slotCount a) (length (slotsOf (residualsOf (tableIn l) [])))) [
-          | yes h ↦
-              let z : _≡_ {A = ℕ} 0 1 = ap full (sym e ∙ ap (λ (o : Outcome). o .held) start-gave
-              ∙ start-exceeds (tableIn l) (indexed-rules x) (slotCount a) h) in absurd (omega arith)
-          | no h ↦ omega arith
-        ]
-
-    start-full : r ≡ Exceeded → slotCount a < length (slotsOf (residualsOf (tableIn l) []))
-    unfolding bodyCount
-    start-full e =
-        elim (decLt (slotCount a) (length (slotsOf (residualsOf (tableIn l) [])))) [
-          | yes h ↦ h
-          | no h ↦
-              let z : _≡_ {A = ℕ} 1 0 = ap full (sym e ∙ ap (λ (o : Outcome). o .held) (start-gave
-              ∙ start-holds (tableIn l) (indexed-rules x) (slotCount a) (omega arith))) in absurd (omega arith)
-        ]
+    start-filled : Filled (slotCount a) ss r a1
+    unfolding residualsOf
+    start-filled =
+        subst (λ (i : ℕ). Filled (slotCount a) (slotsOf (fromDefinition (tableIn l) i [])) r a1) is-last
+        (settled-filled (tableIn l) (indexed-rules x) d known (slotCount a) a0 (e0 ∙ areas-cleared a b m .0) r a1 g)
 
     module _ (b' : List ℕ) (eb : b' ≡ zeros (length b)) where
-      pub started-given : (n : ℕ) → r ≡ Count n → (s : code.State) → StartRecord n (stateOf s)
+      pub started-given : (n : ℕ) → r ≡ Count n → (s : code.State) → stateOf s ≡ freshState n
           → Started (tableIn l) a b (Given s) a1 b'
-      unfolding startAccepted bodyCount
+      unfolding startAccepted
       started-given n er s f =
-          let room = start-room n er in
-          let o = start-gave ∙ start-holds (tableIn l) (indexed-rules x) (slotCount a) room in
-          let number : length (slotsOf (residualsOf (tableIn l) [])) ≡ n =
-          ap (λ (x : Outcome). countOf (x .held)) (sym o)
-          ∙ ap countOf er in
-          let state = f .same (slotsOf (residualsOf (tableIn l) [])) number in
+          let (number, room, words) : Filled (slotCount a) ss (Count n) a1 = rw er at start-filled in
+          let state = f ∙ ap freshState number in
           record {
             same = λ w. (λ i. record {
               answer = given (state i);
-              area0 = o i .area;
+              area0 = words i;
               area1 = (eb ∙ areas-cleared a b m .1) i;
               work = zeros (length w);
             }) ∙ rw (le-ltb _ _ room, startAccepted);
@@ -156,6 +111,7 @@ module _ {l w : List ℕ} (x : Indexed l w) (d n : ℕ) (en : n ≡ length (tabl
           → Started (tableIn l) a b (Refused (record { number = 13; place = 0 })) a' b'
       unfolding startAccepted
       started-exceeded er a' ea el =
+          let over : slotCount a < length ss = rw er at start-filled in
           let first = ea ∙ ap zeros el ∙ areas-cleared a b m .0 in
           record {
             same = λ w. (λ i. record {
@@ -163,41 +119,32 @@ module _ {l w : List ℕ} (x : Indexed l w) (d n : ℕ) (en : n ≡ length (tabl
               area0 = first i;
               area1 = (eb ∙ areas-cleared a b m .1) i;
               work = zeros (length w);
-            }) ∙ rw (lt-ltb _ _ (start-full er), startAccepted);
+            }) ∙ rw (lt-ltb _ _ over, startAccepted);
           }
 
 -- ---- any list and any lengths
 
 module _ (l a b w : List ℕ) where
-  pub start-unfit : lengthsFit (length a) (length b) (length w) ≡ false
-      → outcome (Refused (record { number = 1; place = 0 })) a b w ≡ startOf l a b w
-  unfolding startOf
-  start-unfit e = rw (sym (lengths-measured a b w) ∙ e, startOf)
+  abbrev at : Bool → Entrance
+  at lent = entrance (lent && workMeasured w) l w
 
-  module _ (fit : lengthsFit (length a) (length b) (length w) ≡ true) where
-    measured : (areasMeasured a b && workMeasured w) ≡ true
-    measured = sym (lengths-measured a b w) ∙ fit
+  module _ (lent : Bool) (fit : lent ≡ lengthsFit (length a) (length b)) (j : Judged) (w1 : List ℕ)
+      (h : Entered (at lent) l j w1) where
+    measured : lent ≡ areasMeasured a b
+    measured = fit ∙ lengths-measured a b
 
-    pub fit-areas : areasMeasured a b ≡ true
-    fit-areas = and-split (areasMeasured a b) (workMeasured w) measured .0
+    pub start-enters : j ≡ Accepted → Indexed l w1 × (areasMeasured a b ≡ true)
+    start-enters q =
+        let (e, x) = entered-open (at lent) l j w1 h q in
+        (x, sym measured ∙ open-lent l w lent e)
 
-    fit-work : length w ≡ 8192
-    unfolding workMeasured
-    fit-work = eqb-true _ _ (and-split (areasMeasured a b) (workMeasured w) measured .1)
+    pub start-declined : (r : Refusal) → j ≡ Declined r → outcome (Refused r) a b w1 ≡ startOf l a b w
+    unfolding refusing
+    start-declined r q =
+        sym (start-shut l a b w (r .number) (r .place) w1 (ap at (sym measured) ∙ entered-shut (at lent) l j w1 h r q))
 
-    module _ (w1 : List ℕ) (j : Judged) (c : Checked l w w1 j) where
-      pub fit-indexed : j ≡ Accepted → Indexed l w1
-      fit-indexed e = rw e at (c .right fit-work)
-
-      pub start-declined : (r : Refusal) → j ≡ Declined r → outcome (Refused r) a b w1 ≡ startOf l a b w
-      unfolding startOf startJudged
-      start-declined r e =
-          let (says, zero) = rw e at (c .right fit-work) in
-          let kept : w1 ≡ zeros (length w) = zero ∙ ap zeros (sym fit-work) in
-          rw kept (rw (measured, says, startOf))
-
-      pub start-accepted : j ≡ Accepted → (r : Answer) (a' b' w' : List ℕ) → Started (tableIn l) a b r a' b'
-          → w' ≡ zeros (length w1) → length w1 ≡ length w → outcome r a' b' w' ≡ startOf l a b w
-      unfolding startOf startJudged
-      start-accepted e r a' b' w' s ew el =
-          rw (ew, el) (s .same w ∙ rw (measured, fit-indexed e .taken, startOf))
+    pub start-accepted : j ≡ Accepted → (r : Answer) (a' b' w' : List ℕ) → Started (tableIn l) a b r a' b'
+        → w' ≡ zeros (length w1) → length w1 ≡ length w → outcome r a' b' w' ≡ startOf l a b w
+    start-accepted q r a' b' w' s ew el =
+        ap (outcome r a' b') (ew ∙ ap zeros el) ∙ s .same w
+        ∙ sym (start-admits l a b w (tableIn l) (ap at (sym measured) ∙ entered-open (at lent) l j w1 h q .0))

@@ -15,7 +15,6 @@ use Rattle.monitor_spec.specs.State.{Verdict, slotCount, even, choose, chunks}
 use Rattle.monitor_spec.specs.State.Areas.{present-even, present-odd}
 use Rattle.monitor_spec.specs.Valid.{validSlot}
 use Rattle.monitor_spec.specs.Consistent.{every, ascends, allZero, verdictFits, recordFits, areaFits, consistent}
-use Rattle.monitor_spec.specs.Consistent.Reading.{verdict-room}
 use Rattle.state.specs.Record.{verdictOf, stateOf, monitorOf}
 
 not-above : (c n : ℕ) → leb c n ≡ not (ltb n c)
@@ -55,10 +54,6 @@ module _ (s : State) (n : ℕ) where
   unfolding recordFits verdictFits
   failed-here p v h =
       sym (ap (λ x. fits (verdictOf x)) v ∙ ap (λ (b : Bool). not b && eqb (s .count) 0) (le-ltb (s .taken) p h))
-
-  pub record-room : recordFits (stateOf s) n ≡ true → s .count ≤ n
-  unfolding recordFits
-  record-room h = verdict-room (verdictOf (s .verdict)) (s .taken) (s .count) n h
 
 -- ---- an area
 

@@ -1,39 +1,9 @@
--- The four events of a memory, one after the other: what `digit` and `memory_fits` answer. Assumes nothing.
-use Prim.Native.Nat.{ℕ, zero, suc, _/_, _%_, _≤_, _<_}
-use native.Mathlib.Omega.{arith}
-use mathlib.Core.Path.{_≡_, refl, ap, sym, _∙_}
+-- The four events of a memory, one after the other: what `memory_fits` answers. Assumes nothing.
+use Prim.Native.Nat.{ℕ}
+use mathlib.Core.Path.{_≡_, ap, sym, _∙_}
 use mathlib.Core.Bool.{Bool, true, false}
 use Rattle.table.specs.Memory.{Memory, digit}
-use Rattle.monitor_spec.specs.Slots.{memoryOf}
 use Rattle.monitor_spec.specs.Valid.{digitFits, memoryFits}
-
--- ---- of a word
-
-last : (m : Memory) (i : ℕ) → 3 ≤ i → m .m3 ≡ digit m i
-unfolding digit
-last m zero h = absurd (omega arith)
-last m (suc zero) h = absurd (omega arith)
-last m (suc (suc zero)) h = absurd (omega arith)
-last m (suc (suc (suc i))) h = refl
-
-module _ (w i : ℕ) where
-  pub digit-0 : i ≡ 0 → (w / 262144 % 64 ≡ digit (memoryOf w) i) × (w / 262144 % 64 < 64)
-  unfolding digit memoryOf
-  digit-0 e = (rw e, omega arith)
-
-  pub digit-1 : i ≡ 1 → (w / 4096 % 64 ≡ digit (memoryOf w) i) × (w / 4096 % 64 < 64)
-  unfolding digit memoryOf
-  digit-1 e = (rw e, omega arith)
-
-  pub digit-2 : i ≡ 2 → (w / 64 % 64 ≡ digit (memoryOf w) i) × (w / 64 % 64 < 64)
-  unfolding digit memoryOf
-  digit-2 e = (rw e, omega arith)
-
-  pub digit-3 : 3 ≤ i → (w % 64 ≡ digit (memoryOf w) i) × (w % 64 < 64)
-  unfolding memoryOf
-  digit-3 h = (last (memoryOf w) i h, omega arith)
-
--- ---- of a memory
 
 module _ (a c : ℕ) (m : Memory) where
   -- whether the i-th fits

@@ -8,7 +8,7 @@ use lib.Seq.{drop-cons, getD-take, getD-drop, length-take-le}
 use Rattle.table.specs.Table.{Table, termCount}
 use Rattle.table.specs.Node.{termOf as nodeTerm}
 use Rattle.table.specs.Width.{reach}
-use Rattle.table.specs.Index.{tableIn, Indexed}
+use Rattle.table_index.specs.Index.{tableIn, Indexed}
 use Rattle.index.specs.Facts.{reach-is}
 use Rattle.state.specs.declared.valid.Forest.{Forest}
 use Rattle.state.specs.declared.valid.Forest.the-variants.{Trees}

@@ -1,69 +1,72 @@
--- What the code's record is, case by case; lent lengths are those of the lists. Assumes nothing.
-use Prim.Native.Nat.{ℕ, suc, _<_}
+-- Residuals held and the record after an event, case by case; lent lengths are those of the lists. Assumes nothing.
+use Prim.Native.Nat.{ℕ}
 use native.Mathlib.Omega.{arith}
 use mathlib.Core.Path.{_≡_, refl, ap, sym, _∙_}
-use mathlib.Core.Bool.{_&&_}
-use mathlib.Core.List.{List, [], _∷_}
+use mathlib.Core.List.{List}
 use lib.ListN.{length}
-use Rattle.monitor_spec.specs.State.{Verdict, running, failedAt, State, Monitor, areasMeasured, workMeasured}
-use Rattle.monitor_spec.specs.Feed.{counterMost, nextVerdict, taking}
-use Rattle.state.specs.Record.{counted, failedBy, failing, holding, Successor, lengthsFit}
+use borrow.Author.Tests.{eq-eqb, ne-eqb}
+use Rattle.monitor_spec.specs.State.{Verdict, running, failedAt, State, nextVerdict, counted, holding, freshState}
+use Rattle.monitor_spec.specs.State.{stateAfter, areasMeasured}
+use Rattle.monitor_spec.specs.State.Records.{state-path, next-some, next-none, next-failed}
+use Rattle.monitor_spec.specs.Feed.{counterMost}
+use Rattle.state.specs.declared.record.Verdict.{Verdict as VerdictCode}
+use Rattle.state.specs.declared.record.Verdict.the-variants.{Running, Failed}
+use Rattle.state.specs.declared.record.State.{State as StateCode}
+use Rattle.state.specs.Record.{verdictOf, stateOf, succeeding, lengthsFit}
+
+-- ---- residuals are held
+
+-- with none it fails
+pub none-running : (s : StateCode) → s .verdict ≡ Running
+    → stateOf (record { taken = s .taken; count = 0; verdict = Failed (s .taken) }) ≡ holding (stateOf s) 0
+unfolding holding
+none-running s e =
+    state-path (stateOf (record { taken = s .taken; count = 0; verdict = Failed (s .taken) })) (holding (stateOf s) 0)
+    refl refl (sym (ap (λ (v : VerdictCode). nextVerdict (verdictOf v) (s .taken) 0) e ∙ next-none (s .taken)))
+
+pub none-failed : (s : StateCode) (p : ℕ) → s .verdict ≡ Failed p
+    → stateOf (record { taken = s .taken; count = 0; verdict = Failed p }) ≡ holding (stateOf s) 0
+unfolding holding
+none-failed s p e =
+    state-path (stateOf (record { taken = s .taken; count = 0; verdict = Failed p })) (holding (stateOf s) 0)
+    refl refl (sym (ap (λ (v : VerdictCode). nextVerdict (verdictOf v) (s .taken) 0) e ∙ next-failed p (s .taken) 0))
+
+pub none-held : (s r : State) (n : ℕ) → n ≡ 0 → r ≡ holding s 0 → r ≡ holding s n
+none-held s r n z e = e ∙ ap (holding s) (sym z)
+
+next-stays : (v : Verdict) (k n : ℕ) → (n ≡ 0 → ⊥) → v ≡ nextVerdict v k n
+next-stays running k n z = sym (next-some k n (omega arith))
+next-stays (failedAt p) k n z = sym (next-failed p k n)
+
+pub some-held : (s : StateCode) (n : ℕ) → (n ≡ 0 → ⊥)
+    → stateOf (record { taken = s .taken; count = n; verdict = s .verdict }) ≡ holding (stateOf s) n
+unfolding holding
+some-held s n z =
+    state-path (stateOf (record { taken = s .taken; count = n; verdict = s .verdict })) (holding (stateOf s) n)
+    refl refl (next-stays (verdictOf (s .verdict)) (s .taken) n z)
 
 -- ---- the record after an event
 
-next-failing : (v : Verdict) (n : ℕ) → failedBy v n ≡ nextVerdict v n []
-unfolding failedBy nextVerdict
-next-failing running n = refl
-next-failing (failedAt p) n = refl
+pub succeeding-full : (s : State) (n : ℕ) → s .taken ≡ counterMost → s ≡ succeeding s n
+unfolding succeeding
+succeeding-full s n h = rw (eq-eqb (s .taken) counterMost h, succeeding)
 
-next-holding : (v : Verdict) (n : ℕ) (s : List ℕ) (l : List (List ℕ)) → v ≡ nextVerdict v n (s ∷ l)
-unfolding nextVerdict
-next-holding running n s l = refl
-next-holding (failedAt p) n s l = refl
+pub succeeding-counts : (s : State) (n : ℕ) → (s .taken ≡ counterMost → ⊥) → succeeding s n ≡ stateAfter s n
+unfolding succeeding
+succeeding-counts s n h = rw (ne-eqb (s .taken) counterMost h, succeeding)
 
-failing-taking : (m : Monitor) (next : List (List ℕ)) → length next ≡ 0
-    → failing (counted (m .state)) ≡ taking m next .state
-unfolding failing counted taking
-failing-taking m [] e =
-    λ i. record {
-      taken = suc (m .state .taken);
-      count = 0;
-      verdict = next-failing (m .state .verdict) (suc (m .state .taken)) i;
-    }
-failing-taking m (s ∷ l) e = absurd (omega arith)
+pub fresh-held : (r : State) (n : ℕ) → r ≡ holding (record { taken = 0; count = 0; verdict = running }) n
+    → r ≡ freshState n
+unfolding freshState
+fresh-held r n e = e
 
-holding-taking : (m : Monitor) (next : List (List ℕ)) (n : ℕ) → length next ≡ n → 0 < n
-    → holding (counted (m .state)) n ≡ taking m next .state
-unfolding holding counted taking
-holding-taking m [] n e h = absurd (omega arith)
-holding-taking m (s ∷ l) n e h =
-    λ i. record {
-      taken = suc (m .state .taken);
-      count = sym e i;
-      verdict = next-holding (m .state .verdict) (suc (m .state .taken)) s l i;
-    }
-
-pub after-full : (s : State) (n : ℕ) → s .taken ≡ counterMost → Successor s n s
-after-full s n z = record { event = λ y. absurd (y z); full = λ y. refl }
-
-pub after-none : (s r : State) (n : ℕ) → (s .taken ≡ counterMost → ⊥) → n ≡ 0 → r ≡ failing (counted s)
-    → Successor s n r
-after-none s r n y z e = record {
-  event = λ x m next p q. e ∙ ap (λ (x : State). failing (counted x)) (sym p) ∙ failing-taking m next (q ∙ z);
-  full = λ x. absurd (y x);
-}
-
-pub after-some : (s r : State) (n : ℕ) → (s .taken ≡ counterMost → ⊥) → (n ≡ 0 → ⊥) → r ≡ holding (counted s) n
-    → Successor s n r
-after-some s r n y z e = record {
-  event = λ x m next p q.
-      e ∙ ap (λ (x : State). holding (counted x) n) (sym p) ∙ holding-taking m next n q (omega arith);
-  full = λ x. absurd (y x);
-}
+pub after-held : (s u r : State) (n : ℕ) → (s .taken ≡ counterMost → ⊥) → u ≡ counted s → r ≡ holding u n
+    → r ≡ succeeding s n
+unfolding stateAfter
+after-held s u r n h c e = e ∙ ap (λ (x : State). holding x n) c ∙ sym (succeeding-counts s n h)
 
 -- ---- lengths
 
-pub lengths-measured : (a b w : List ℕ)
-    → lengthsFit (length a) (length b) (length w) ≡ (areasMeasured a b && workMeasured w)
-unfolding lengthsFit areasMeasured workMeasured
-lengths-measured a b w = refl
+pub lengths-measured : (a b : List ℕ) → lengthsFit (length a) (length b) ≡ areasMeasured a b
+unfolding lengthsFit areasMeasured
+lengths-measured a b = refl

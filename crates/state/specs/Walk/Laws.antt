@@ -11,7 +11,7 @@ use Rattle.table.specs.Node.{termOf as nodeTerm, kindOf}
 use Rattle.table.specs.Width.{reach}
 use Rattle.state.specs.declared.valid.Forest.{Forest}
 use Rattle.state.specs.declared.valid.Forest.the-variants.{Broken, Trees}
-use Rattle.monitor_spec.specs.Slots.{termOfWord, memoryOf}
+use Rattle.node_word.specs.Word.{termOfWord, memoryOf}
 use Rattle.monitor_spec.specs.Valid.{memoryFits}
 use Rattle.monitor_spec.specs.Valid.Laws.{and-split}
 use Rattle.state.specs.Walk.{Few, withLeaf, paired, wordFits, plantedBy, planted}

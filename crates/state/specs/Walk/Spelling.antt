@@ -18,10 +18,10 @@ use Rattle.table.specs.Memory.{Memory}
 use Rattle.table.specs.Width.{reach}
 use Rattle.state.specs.declared.valid.Forest.{Forest}
 use Rattle.state.specs.declared.valid.Forest.the-variants.{Broken, Trees}
-use Rattle.monitor_spec.specs.Part.Numbers.{number-at, number-below}
+use Rattle.table.specs.Part.Numbers.{number-at, number-below}
 use Rattle.monitor_spec.specs.Proper.Laws.{reachAt-at}
-use Rattle.monitor_spec.specs.Residual.{Residual, leaf, pair}
-use Rattle.monitor_spec.specs.Slots.{termOfWord, memoryOf}
+use Rattle.residuals.specs.Residual.{Residual, leaf, pair}
+use Rattle.node_word.specs.Word.{termOfWord, memoryOf}
 use Rattle.monitor_spec.specs.Valid.{joinTrees, plant, plantWord, forest, memoryFits, memoriesFit, reachSum}
 use Rattle.monitor_spec.specs.Valid.Laws.{plant-none, plant-some, forest-none, forest-some}
 use Rattle.monitor_spec.specs.Consistent.{every}

@@ -1,27 +1,18 @@
 -- The words of the trees that node words spell are these words.
---     pack-word             a node word is that of its term and memory
 --     spelled, one-words    of trees; of one tree
 -- Assumes nothing.
-use Prim.Native.Nat.{ℕ, _/_}
-use native.Mathlib.Omega.{arith}
-use native.Mathlib.Nat.{div-div-eq-div-mul}
+use Prim.Native.Nat.{ℕ}
 use mathlib.Core.Path.{_≡_, refl, ap, ap₂, sym, _∙_}
 use mathlib.Core.List.{List, [], _∷_, _++_, append-assoc, append-nil}
 use mathlib.Core.Option.{Option, none, some}
 use Rattle.table.specs.Table.{Table, Term, stop, fail, prefix, choice, par, call, termAt}
 use Rattle.table.specs.Memory.{Memory}
-use Rattle.monitor_spec.specs.Residual.{Residual, leaf, pair}
-use Rattle.monitor_spec.specs.Slots.{pack, termOfWord, memoryOf, nodes}
+use Rattle.residuals.specs.Residual.{Residual, leaf, pair}
+use Rattle.node_word.specs.Word.{pack, termOfWord, memoryOf}
+use Rattle.node_word.specs.Word.Laws.{word-pack}
+use Rattle.residuals.specs.Slots.{nodes}
 use Rattle.monitor_spec.specs.Valid.{joinTrees, plant, plantWord, forest}
 use Rattle.monitor_spec.specs.Valid.Laws.{some-same, none-some, plant-none, plant-some, forest-none, forest-some}
-
-pub pack-word : (w : ℕ) → pack (termOfWord w) (memoryOf w) ≡ w
-unfolding pack termOfWord memoryOf
-pack-word w =
-    let a : w / 64 / 64 ≡ w / 4096 = div-div-eq-div-mul w 64 64 in
-    let b : w / 4096 / 64 ≡ w / 262144 = div-div-eq-div-mul w 4096 64 in
-    let c : w / 262144 / 64 ≡ w / 16777216 = div-div-eq-div-mul w 262144 64 in
-    omega arith
 
 unfoldable pub nodesAll : List Residual → List ℕ
 nodesAll [] = []
@@ -62,7 +53,7 @@ module _ (t : Table) where
       word qs q h none k = none-some rs (sym (plant-none t w qs k) ∙ h)
       word qs q h (some p) k =
           plant-words (termOfWord w) (memoryOf w) p qs rs (sym (plant-some t w qs p k) ∙ h)
-          ∙ ap₂ _∷_ (pack-word w) q
+          ∙ ap₂ _∷_ (word-pack w) q
 
       by : (o : Option (List Residual)) → forest t ws ≡ o
           → ((qs : List Residual) → forest t ws ≡ some qs → nodesAll qs ≡ ws) → nodesAll rs ≡ w ∷ ws

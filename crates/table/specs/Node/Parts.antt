@@ -15,6 +15,7 @@ use Rattle.table.specs.Table.{SetRef, Term, stop, fail, prefix, choice, 
 use Rattle.table.specs.Writing.{refNumbers, termNumbers}
 use Rattle.table.specs.Context.{Each}
 use Rattle.table.specs.Fields.{depthOf}
+pub use Rattle.table.specs.Part.Laws.{size-positive}
 use Rattle.table.specs.Node.{Node, node, nodes, noNode, followerSpot, sideSpot, besideSpot}
 
 pub data Part : Spot → ℕ → Term → ℕ → Node → Type 0 where
@@ -30,15 +31,6 @@ pub data Part : Spot → ℕ → Term → ℕ → Node → Type 0 where
   par-right : {s : Spot} {i k : ℕ} {r : SetRef} {p q : Term} {x : Node}
       → Part (besideSpot s) (suc i + length (refNumbers r) + length (termNumbers p)) q k x
       → Part s i (par r p q) (suc (size p + k)) x
-
-pub size-positive : (p : Term) → 0 < size p
-unfolding size
-size-positive stop = omega arith
-size-positive fail = omega arith
-size-positive (prefix r p) = omega arith
-size-positive (choice p q) = omega arith
-size-positive (par r p q) = omega arith
-size-positive (call d) = omega arith
 
 pub length-nodes : (s : Spot) (i : ℕ) (p : Term) → length (nodes s i p) ≡ size p
 unfolding nodes size

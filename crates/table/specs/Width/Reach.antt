@@ -3,6 +3,7 @@
 -- anything.
 --     reach-each, reach-linked, reach-body    every term in a body that is not wider than its level; every term in a
 --                                             table's body
+--     reach-most                every term of every body: at most 8
 --     bodies-all                what holds of each body by its number holds of all
 --     level-small               levels are at most 7
 -- Assumes nothing.
@@ -20,6 +21,7 @@ use Rattle.table.specs.Grow.{grow}
 use Rattle.table.specs.Grow.Laws.{length-grow, getD-grow, grow-stable}
 use Rattle.table.specs.Table.{SetRef, Term, stop, fail, prefix, choice, par, call, Definition, Table}
 use Rattle.table.specs.Context.{Context, outermost, underPrefix, underParallel, Throughout, Each}
+use Rattle.table.specs.Context.Laws.{each-imp}
 use Rattle.table.specs.References.{levelIn}
 use Rattle.table.specs.References.Laws.{CallOk, Linked}
 use Rattle.table.specs.Width.{widthWith, widest, callWidth, nextWidth, allWidths, levelWidth, reach}
@@ -159,6 +161,14 @@ reach-linked t low calls d b =
 pub reach-body : (t : Table) → Rules t → (d : ℕ) → d < length (t .definitions)
     → Each (λ q. reach t q ≤ levelWidth t (levelIn (t .definitions) d)) (bodyIn (t .definitions) d)
 reach-body t r d b = reach-linked t (r .fields .levels) (linked t r) d b
+
+-- every term of every body
+pub reach-most : (t : Table) → Rules t → (d : ℕ) → d < length (t .definitions)
+    → Each (λ q. reach t q ≤ 8) (bodyIn (t .definitions) d)
+reach-most t r d b =
+    let h = r .width (levelIn (t .definitions) d) in
+    each-imp (λ q. reach t q ≤ levelWidth t (levelIn (t .definitions) d)) (λ q. reach t q ≤ 8) (λ q k. omega arith)
+    (bodyIn (t .definitions) d) (reach-body t r d b)
 
 -- what holds of the body of each number holds of each body
 pub bodies-all : (X : Term → Type 0) (ds : List Definition)

@@ -15,8 +15,8 @@ returns-2 c = read-wrong-work _ _ _ (c .before .if1 .left) (c .if2 .taken)
 read-bytes-requires : tie.Need-read-bytes-requires
 read-bytes-requires c κs = search needs
 
-clear-words-requires : tie.Need-clear-words-requires
-clear-words-requires c κs = search needs
+clear-all-requires : tie.Need-clear-all-requires
+clear-all-requires c κs = search needs
 
 same-length : tie.Need-same-length
 same-length c = search needs
@@ -29,7 +29,7 @@ returns-3 c =
     let done = c .before .before .before .before .before .before .before .before in
     let right = done .before .before .before in
     read-said _ _ _ _ _ (done .read-bytes .last .1 .1 .0) _ (right .before .if1 .left) (right .if2 .left)
-    (done .read-bytes .ensures) (c .before .before .clear-words .ensures) (omega arith)
+    (done .read-bytes .ensures) (c .before .before .clear-all .ensures) (omega arith)
 
 pub read-spec : {M : Type 1} → statement M
 read-spec =
@@ -38,7 +38,7 @@ read-spec =
     returns
     returns-2
     read-bytes-requires
-    clear-words-requires
+    clear-all-requires
     same-length
     same-length-2
     returns-3)

@@ -5,7 +5,7 @@ use native.Mathlib.Omega.{arith}
 use mathlib.Core.Path.{_≡_, ap, _∙_}
 use mathlib.Core.Logic.{⊎-elim, inl, inr}
 use Rattle.table.specs.Judge.{declined}
-use Rattle.table.specs.BytesRefused.Judged.{on-short, on-loose, on-number, on-over, on-reference, on-kept}
+use Rattle.table_index.specs.BytesJudged.{on-short, on-loose, on-number, on-over, on-reference, on-kept}
 use Rattle.codec.proofs.reader.refused_bytes.Statement.{statement}
 use Rattle.codec.proofs.reader.refused_bytes.Tie as tie
 

@@ -12,8 +12,8 @@ returns c = write-wrong-work _ _ _ (c .if1 .taken)
 write-list-requires : tie.Need-write-list-requires
 write-list-requires c κs = search needs
 
-clear-words-requires : tie.Need-clear-words-requires
-clear-words-requires c κs = search needs
+clear-all-requires : tie.Need-clear-all-requires
+clear-all-requires c κs = search needs
 
 same-length : tie.Need-same-length
 same-length c = search needs
@@ -26,9 +26,9 @@ returns-2 c =
     let done = c .before .before .before .before .before .before .before .before in
     let right = done .before .before .before in
     write-said _ _ _ _ _ (done .write-list .last .1 .1 .0) _ (right .if1 .left)
-    (done .write-list .ensures) (c .before .before .clear-words .ensures) (omega arith)
+    (done .write-list .ensures) (c .before .before .clear-all .ensures) (omega arith)
 
 pub write-spec : {M : Type 1} → statement M
 write-spec =
     tie.close
-    (tie.spec returns write-list-requires clear-words-requires same-length same-length-2 returns-2)
+    (tie.spec returns write-list-requires clear-all-requires same-length same-length-2 returns-2)

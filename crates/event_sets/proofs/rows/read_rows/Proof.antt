@@ -5,7 +5,7 @@ use native.Mathlib.Omega.{arith}
 use mathlib.Core.Path.{_≡_, refl}
 use lib.ListN.{length}
 use borrow.Author.Needs.{needs}
-use Rattle.table.specs.Layout.{rowsMost}
+use Rattle.table_index.specs.Layout.{rowsMost}
 use Rattle.event_sets.proofs.rows.RowsTurn.{Head, head-first, head-next, head-done, head-stop}
 use Rattle.event_sets.proofs.rows.read_rows.Statement.{statement}
 use Rattle.event_sets.proofs.rows.read_rows.Tie as tie

@@ -10,9 +10,11 @@ use Rattle.feeding.proofs.event.advance_present.Tie as tie
 advance-requires : tie.Need-advance-requires
 advance-requires c κs =
     let at-if1 = c .before .before .before in
-    let at-start = at-if1 .before .before .before .before .before .before .before in
-    let holding = holding-even _ (regular _ (indexed-rules (at-start .pre .0))) (at-start .args .state)
-    (at-start .args .area0 .now) (at-start .args .area1 .now) (at-start .pre .1 .0) (at-if1 .if1 .taken) in
+    let at-start = at-if1 .before .before .before .before .before .before in
+    let args = at-start .args in
+    let holding = holding-even _ (regular _ (indexed-rules (at-start .pre .0))) (args .state) (args .area0 .now)
+    (args .area1 .now)
+    (at-start .pre .1 .0) (at-if1 .if1 .taken) in
     (at-start .pre .0, (holding, at-start .pre .1 .1))
 
 same-length : tie.Need-same-length
@@ -29,17 +31,19 @@ returns : tie.Need-returns
 returns c =
     let at-advance = c .before .before .before .before .before .before in
     let at-if1 = at-advance .before .before .before .before in
-    let at-start = at-if1 .before .before .before .before .before .before .before in
-    moved-even _ (regular _ (indexed-rules (at-start .pre .0))) (at-start .args .state)
-    (at-start .args .area0 .now) (at-start .args .area1 .now) (at-start .pre .1 .0) (at-if1 .if1 .taken) _ _ _ _
-    (at-advance .advance .ensures)
+    let at-start = at-if1 .before .before .before .before .before .before in
+    let args = at-start .args in
+    moved-even _ (regular _ (indexed-rules (at-start .pre .0))) (args .state) (args .area0 .now) (args .area1 .now)
+    (at-start .pre .1 .0) (at-if1 .if1 .taken) _ _ _ _ (at-advance .advance .ensures)
 
 advance-requires-2 : tie.Need-advance-requires-2
 advance-requires-2 c κs =
     let at-if1 = c .before .before .before in
-    let at-start = at-if1 .before .before .before .before .before .before .before in
-    let holding = holding-odd _ (regular _ (indexed-rules (at-start .pre .0))) (at-start .args .state)
-    (at-start .args .area0 .now) (at-start .args .area1 .now) (at-start .pre .1 .0) (at-if1 .if1 .left) in
+    let at-start = at-if1 .before .before .before .before .before .before in
+    let args = at-start .args in
+    let holding = holding-odd _ (regular _ (indexed-rules (at-start .pre .0))) (args .state) (args .area0 .now)
+    (args .area1 .now)
+    (at-start .pre .1 .0) (at-if1 .if1 .left) in
     (at-start .pre .0, (holding, at-start .pre .1 .1))
 
 same-length-4 : tie.Need-same-length-4
@@ -54,12 +58,12 @@ same-length-6 c = search needs
 -- area 1 is present
 returns-2 : tie.Need-returns-2
 returns-2 c =
-    let at-advance2 = c .before .before .before .before .before .before in
-    let at-if1 = at-advance2 .before .before .before .before in
-    let at-start = at-if1 .before .before .before .before .before .before .before in
-    moved-odd _ (regular _ (indexed-rules (at-start .pre .0))) (at-start .args .state)
-    (at-start .args .area0 .now) (at-start .args .area1 .now) (at-start .pre .1 .0) (at-if1 .if1 .left) _ _ _ _
-    (at-advance2 .advance2 .ensures)
+    let at-advance = c .before .before .before .before .before .before in
+    let at-if1 = at-advance .before .before .before .before in
+    let at-start = at-if1 .before .before .before .before .before .before in
+    let args = at-start .args in
+    moved-odd _ (regular _ (indexed-rules (at-start .pre .0))) (args .state) (args .area0 .now) (args .area1 .now)
+    (at-start .pre .1 .0) (at-if1 .if1 .left) _ _ _ _ (at-advance .advance2 .ensures)
 
 pub advance-present-spec : {M : Type 1} → statement M
 advance-present-spec =

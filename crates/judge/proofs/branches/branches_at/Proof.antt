@@ -2,8 +2,8 @@
 -- `Filling/Branches.antt` gives the branches. Assumes nothing.
 use borrow.Author.Needs.{needs}
 use native.Mathlib.Omega.{arith}
-use Rattle.table.specs.Filling.Branches.{branches-one, branches-fail, branches-choice, branches-par}
-use Rattle.table.specs.Filling.Branches.{called-inside, root-inside, branches-called, branches-none}
+use Rattle.table_index.specs.Filling.Branches.{branches-one, branches-fail, branches-choice, branches-par}
+use Rattle.table_index.specs.Filling.Branches.{called-inside, root-inside, branches-called, branches-none}
 use Rattle.judge.proofs.branches.branches_at.Statement.{statement}
 use Rattle.judge.proofs.branches.branches_at.Tie as tie
 

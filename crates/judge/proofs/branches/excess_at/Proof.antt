@@ -1,7 +1,7 @@
 -- `judge::branches::excess_at` meets its contract: the entry digit of the term's word says whether the term is tested,
 -- and the capped count is above 256 where the count is. Assumes nothing.
 use borrow.Author.Needs.{needs}
-use Rattle.table.specs.Filling.Excess.{excess-entry, excess-other}
+use Rattle.table_index.specs.Filling.Excess.{excess-entry, excess-other}
 use Rattle.judge.proofs.branches.excess_at.Statement.{statement}
 use Rattle.judge.proofs.branches.excess_at.Tie as tie
 

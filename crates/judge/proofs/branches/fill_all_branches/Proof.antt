@@ -3,8 +3,8 @@
 use Prim.Native.Nat.{_-_}
 use native.Mathlib.Omega.{arith}
 use mathlib.Core.Path.{sym, _∙_}
-use Rattle.table.specs.Index.{tableIn}
-use Rattle.table.specs.Filling.Bodies.{BodiesSoFar, bodies-first, bodies-asked, bodies-next, all-asked, all-done}
+use Rattle.table_index.specs.Index.{tableIn}
+use Rattle.table_index.specs.Filling.Bodies.{BodiesSoFar, bodies-first, bodies-asked, bodies-next, all-asked, all-done}
 use Rattle.judge.proofs.branches.fill_all_branches.Statement.{statement}
 use Rattle.judge.proofs.branches.fill_all_branches.Tie as tie
 

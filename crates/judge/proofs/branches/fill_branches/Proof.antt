@@ -4,10 +4,10 @@
 use Prim.Native.Nat.{_≤_}
 use native.Mathlib.Omega.{arith}
 use mathlib.Core.Path.{sym, _∙_}
-use Rattle.table.specs.Layout.{withBranches}
-use Rattle.table.specs.Index.{tableIn}
-use Rattle.table.specs.Filling.{BranchesFilled}
-use Rattle.table.specs.Filling.Fill.{fill-first, branches-next, fill-next, fill-done}
+use Rattle.table_index.specs.Layout.{withBranches}
+use Rattle.table_index.specs.Index.{tableIn}
+use Rattle.table_index.specs.Filling.{BranchesFilled}
+use Rattle.table_index.specs.Filling.Fill.{fill-first, branches-next, fill-next, fill-done}
 use Rattle.judge.proofs.branches.fill_branches.Statement.{statement}
 use Rattle.judge.proofs.branches.fill_branches.Tie as tie
 

@@ -5,9 +5,9 @@ use native.Mathlib.Omega.{arith}
 use mathlib.Core.Path.{_≡_, sym, _∙_}
 use mathlib.Core.Bool.{false}
 use borrow.Author.Count.{below-more}
-use Rattle.table.specs.Index.{tableIn}
-use Rattle.table.specs.Filling.{exceeds}
-use Rattle.table.specs.Filling.Excess.{excess-asked, excess-broken, excess-nowhere}
+use Rattle.table_index.specs.Index.{tableIn}
+use Rattle.table_index.specs.Filling.{exceeds}
+use Rattle.table_index.specs.Filling.Excess.{excess-asked, excess-broken, excess-nowhere}
 use Rattle.judge.proofs.branches.first_excess.Statement.{statement}
 use Rattle.judge.proofs.branches.first_excess.Tie as tie
 

@@ -1,7 +1,7 @@
 -- `judge::checker::check` meets its contract: another length is refused before anything is stored; else `check_list`
 -- answers, and what it leaves is the index, or is cleared. Assumes nothing.
 use native.Mathlib.Omega.{arith}
-use Rattle.table.specs.Judging.Laws.{checked-wrong, checked-taken, checked-refused}
+use Rattle.table_index.specs.Judging.Laws.{checked-wrong, checked-taken, checked-refused}
 use borrow.Author.Needs.{needs}
 use Rattle.judge.proofs.checker.check.Statement.{statement}
 use Rattle.judge.proofs.checker.check.Tie as tie
@@ -19,8 +19,8 @@ enum-told c = search needs
 enum-known-r : tie.Need-enum-known-r
 enum-known-r c = search needs
 
-clear-words-requires : tie.Need-clear-words-requires
-clear-words-requires c κs = search needs
+clear-all-requires : tie.Need-clear-all-requires
+clear-all-requires c κs = search needs
 
 same-length : tie.Need-same-length
 same-length c = search needs
@@ -40,7 +40,7 @@ returns-3 c =
     let known = c .before .before .before .before .before in
     let listed = known .before .before .before .before in
     checked-refused _ _ _ _ _ _ (listed .before .before .if1 .left) (listed .check-list .ensures) (known .r .given .1)
-    (c .before .before .clear-words .ensures)
+    (c .before .before .clear-all .ensures)
 
 pub check-spec : {M : Type 1} → statement M
 check-spec =
@@ -50,7 +50,7 @@ check-spec =
     check-list-requires
     enum-told
     enum-known-r
-    clear-words-requires
+    clear-all-requires
     same-length
     returns-2
     same-length-2

@@ -1,7 +1,7 @@
 -- `judge::checker::check_list` meets its contract: `judge` says all but 2, and the bytes of an accepted list are
 -- counted. Assumes nothing.
 use native.Mathlib.Omega.{arith}
-use Rattle.table.specs.Judging.Laws.{listed-long, listed-short, listed-stop}
+use Rattle.table_index.specs.Judging.Laws.{listed-long, listed-short, listed-stop}
 use borrow.Author.Needs.{needs}
 use Rattle.judge.proofs.checker.check_list.Statement.{statement}
 use Rattle.judge.proofs.checker.check_list.Tie as tie

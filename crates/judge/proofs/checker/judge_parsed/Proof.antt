@@ -1,7 +1,7 @@
 -- `judge::checker::judge_parsed` meets its contract: the first broken rule of 7, then of 8, then of 9 decides, and
 -- where none is broken the three passes have filled the index. Assumes nothing.
-use Rattle.table.specs.Judging.Laws.{Broken-out, Nowhere-out, judging, fields-are}
-use Rattle.table.specs.Judging.Laws.{judged-7, judged-8, judged-9, judged-all}
+use Rattle.table_index.specs.Judging.Laws.{Broken-out, Nowhere-out, judging, fields-are}
+use Rattle.table_index.specs.Judging.Laws.{judged-7, judged-8, judged-9, judged-all}
 use borrow.Author.Needs.{needs}
 use Rattle.judge.proofs.checker.judge_parsed.Statement.{statement}
 use Rattle.judge.proofs.checker.judge_parsed.Tie as tie

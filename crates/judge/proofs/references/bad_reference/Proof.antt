@@ -4,9 +4,9 @@
 use native.Mathlib.Omega.{arith}
 use mathlib.Core.Path.{sym, _∙_}
 use borrow.Author.Needs.{needs}
-use Rattle.table.specs.References.Heads.{place-known, place-inside}
-use Rattle.table.specs.References.Words.{word-own, call-place, param-place}
-use Rattle.table.specs.References.Words.{call-kept, call-broken, param-kept, param-broken}
+use Rattle.table_index.specs.References.Heads.{place-known, place-inside}
+use Rattle.table_index.specs.References.Words.{word-own, call-place, param-place}
+use Rattle.table_index.specs.References.Words.{call-kept, call-broken, param-kept, param-broken}
 use Rattle.judge.proofs.references.bad_reference.Statement.{statement}
 use Rattle.judge.proofs.references.bad_reference.Tie as tie
 

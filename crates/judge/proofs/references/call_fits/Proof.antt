@@ -3,7 +3,7 @@
 use native.Mathlib.Omega.{arith}
 use mathlib.Core.Logic.{⊎-elim}
 use borrow.Author.Needs.{needs}
-use Rattle.table.specs.References.Words.{fits-unknown, fits-higher, fits-beside, fits-bare, fits-under}
+use Rattle.table_index.specs.References.Words.{fits-unknown, fits-higher, fits-beside, fits-bare, fits-under}
 use Rattle.judge.proofs.references.call_fits.Statement.{statement}
 use Rattle.judge.proofs.references.call_fits.Tie as tie
 

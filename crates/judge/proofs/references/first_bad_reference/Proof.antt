@@ -7,10 +7,10 @@ use mathlib.Core.Path.{_≡_, sym, _∙_}
 use borrow.Author.Needs.{needs}
 use borrow.Author.Count.{below-more}
 use Rattle.table.specs.Table.{termCount}
-use Rattle.table.specs.Index.{tableIn}
-use Rattle.table.specs.Index.Heads.{headsBefore, heads-first, heads-next}
-use Rattle.table.specs.References.Heads.{head-fits}
-use Rattle.table.specs.References.Words.{NoneBelow, nowhere-out, first-broken, first-nowhere}
+use Rattle.table_index.specs.Index.{tableIn}
+use Rattle.table_index.specs.Index.Heads.{headsBefore, heads-first, heads-next}
+use Rattle.table_index.specs.References.Heads.{head-fits}
+use Rattle.table_index.specs.References.Words.{NoneBelow, nowhere-out, first-broken, first-nowhere}
 use Rattle.judge.proofs.references.first_bad_reference.Statement.{statement}
 use Rattle.judge.proofs.references.first_bad_reference.Tie as tie
 

@@ -1,7 +1,7 @@
 -- `judge::references::head_length` meets its contract: the parameter and the kind in the term's word say how many
 -- numbers stand before those of the terms in it. Assumes nothing.
 use borrow.Author.Needs.{needs}
-use Rattle.table.specs.References.Heads.{head-family, head-leaf, head-choice, head-two}
+use Rattle.table_index.specs.References.Heads.{head-family, head-leaf, head-choice, head-two}
 use Rattle.judge.proofs.references.head_length.Statement.{statement}
 use Rattle.judge.proofs.references.head_length.Tie as tie
 

@@ -2,7 +2,7 @@
 -- after its terms are filled in. Assumes nothing.
 use borrow.Author.Needs.{needs}
 use native.Mathlib.Omega.{arith}
-use Rattle.table.specs.Filling.Levels.{body-asked, root-inside, body-own, body-other}
+use Rattle.table_index.specs.Filling.Levels.{body-asked, root-inside, body-own, body-other}
 use Rattle.judge.proofs.widths.body_width.Statement.{statement}
 use Rattle.judge.proofs.widths.body_width.Tie as tie
 

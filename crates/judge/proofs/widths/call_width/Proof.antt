@@ -2,8 +2,8 @@
 -- holds. Assumes nothing.
 use borrow.Author.Needs.{needs}
 use native.Mathlib.Omega.{arith}
-use Rattle.table.specs.Filling.Spans.{level-stored}
-use Rattle.table.specs.Filling.OneWidth.{call-own, call-other}
+use Rattle.table_index.specs.Filling.Spans.{level-stored}
+use Rattle.table_index.specs.Filling.OneWidth.{call-own, call-other}
 use Rattle.judge.proofs.widths.call_width.Statement.{statement}
 use Rattle.judge.proofs.widths.call_width.Tie as tie
 

@@ -3,10 +3,10 @@
 use Prim.Native.Nat.{_≤_}
 use native.Mathlib.Omega.{arith}
 use mathlib.Core.Path.{sym, _∙_}
-use Rattle.table.specs.Layout.{withWidth}
-use Rattle.table.specs.Index.{tableIn}
-use Rattle.table.specs.Filling.{WidthsFilled}
-use Rattle.table.specs.Filling.Widths.{widths-first, width-next, width-small, widths-next, widths-done}
+use Rattle.table_index.specs.Layout.{withWidth}
+use Rattle.table_index.specs.Index.{tableIn}
+use Rattle.table_index.specs.Filling.{WidthsFilled}
+use Rattle.table_index.specs.Filling.Widths.{widths-first, width-next, width-small, widths-next, widths-done}
 use Rattle.judge.proofs.widths.fill_widths.Statement.{statement}
 use Rattle.judge.proofs.widths.fill_widths.Tie as tie
 

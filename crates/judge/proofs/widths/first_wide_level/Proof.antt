@@ -3,9 +3,9 @@
 use Prim.Native.Nat.{_-_}
 use native.Mathlib.Omega.{arith}
 use mathlib.Core.Path.{sym, _∙_}
-use Rattle.table.specs.Index.{tableIn}
-use Rattle.table.specs.Filling.Wide.{WideSoFar, wide-first, wide-asked, wide-level, wide-next, wide-none}
-use Rattle.table.specs.Filling.Wide.{reach-asked, reach-done, wide-broken, wide-nowhere}
+use Rattle.table_index.specs.Index.{tableIn}
+use Rattle.table_index.specs.Filling.Wide.{WideSoFar, wide-first, wide-asked, wide-level, wide-next, wide-none}
+use Rattle.table_index.specs.Filling.Wide.{reach-asked, reach-done, wide-broken, wide-nowhere}
 use Rattle.judge.proofs.widths.first_wide_level.Statement.{statement}
 use Rattle.judge.proofs.widths.first_wide_level.Tie as tie
 

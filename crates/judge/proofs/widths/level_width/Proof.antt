@@ -3,8 +3,8 @@
 use Prim.Native.Nat.{_-_}
 use native.Mathlib.Omega.{arith}
 use mathlib.Core.Path.{sym, _∙_}
-use Rattle.table.specs.Index.{tableIn}
-use Rattle.table.specs.Filling.Levels.{LevelSoFar, level-first, level-asked, level-next, level-done}
+use Rattle.table_index.specs.Index.{tableIn}
+use Rattle.table_index.specs.Filling.Levels.{LevelSoFar, level-first, level-asked, level-next, level-done}
 use Rattle.judge.proofs.widths.level_width.Statement.{statement}
 use Rattle.judge.proofs.widths.level_width.Tie as tie
 

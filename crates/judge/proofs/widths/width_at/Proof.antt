@@ -3,8 +3,8 @@
 use borrow.Author.Needs.{needs}
 use native.Mathlib.Omega.{arith}
 use mathlib.Core.Path.{refl}
-use Rattle.table.specs.Filling.OneWidth.{width-leaf, width-prefix, width-choice, width-par, par-small}
-use Rattle.table.specs.Filling.OneWidth.{width-call, call-named, width-none}
+use Rattle.table_index.specs.Filling.OneWidth.{width-leaf, width-prefix, width-choice, width-par, par-small}
+use Rattle.table_index.specs.Filling.OneWidth.{width-call, call-named, width-none}
 use Rattle.judge.proofs.widths.width_at.Statement.{statement}
 use Rattle.judge.proofs.widths.width_at.Tie as tie
 

@@ -3,12 +3,12 @@
 use native.Mathlib.Omega.{arith}
 use Prim.Native.Nat.{_-_}
 use mathlib.Core.Path.{_≡_, refl, _∙_}
-use Rattle.table.specs.Index.{tableIn}
+use Rattle.table_index.specs.Index.{tableIn}
 use Rattle.index.specs.Facts.{indexed-rules}
-use Rattle.monitor_spec.specs.Residual.{afterAll}
+use Rattle.residuals.specs.Residual.{afterAll}
 use Rattle.monitor_spec.specs.Offer.{bitOf}
-use Rattle.stepping.specs.Holds.{heldIn}
-use Rattle.stepping.specs.Holds.Laws.{holds-room, holds-tree}
+use Rattle.step_laws.specs.Holds.{heldIn}
+use Rattle.step_laws.specs.Holds.Laws.{holds-room, holds-tree}
 use Rattle.offering.proofs.offerer.BitTurn.{bitFrom, bit-next, bit-found, bit-done}
 use borrow.Author.Needs.{needs}
 use Rattle.offering.proofs.offerer.bit.Statement.{statement}
@@ -42,16 +42,14 @@ takes-at-requires c κs =
     let turn = c .before .loop in
     let at-start = c .before .before .before .before .before in
     let rules = indexed-rules (at-start .pre .0) in
-    let e = at-start .pre .1 .1 in
-    let most = rules .fields .alphabet-most in
-    (at-start .pre .0, (omega arith, holds-tree rules (at-start .pre .1 .0) (turn .i) (c .loop-test .taken)))
+    (at-start .pre .0, (at-start .pre .1 .1, holds-tree rules (at-start .pre .1 .0) (turn .i) (c .loop-test .taken)))
 
 returns : tie.Need-returns Inv-loop μ-loop
 returns c =
     let loop-test = c .before .before .loop-test in
     let turn = c .before .before .before .loop in
     let at-start = c .before .before .before .before .before .before .before in
-    bit-found (indexed-rules (at-start .pre .0)) (at-start .pre .1 .0) _ _ (loop-test .taken) (at-start .pre .1 .1) _
+    bit-found (indexed-rules (at-start .pre .0)) (at-start .pre .1 .0) _ _ (loop-test .taken) _
     (c .before .takes-at .ensures) (c .if1 .taken)
     ∙ turn .inv
 
@@ -66,7 +64,7 @@ loop-again c =
     let loop-test = c .before .before .loop-test in
     let turn = c .before .before .before .loop in
     let at-start = c .before .before .before .before .before .before .before in
-    bit-next (indexed-rules (at-start .pre .0)) (at-start .pre .1 .0) _ _ (loop-test .taken) (at-start .pre .1 .1) _
+    bit-next (indexed-rules (at-start .pre .0)) (at-start .pre .1 .0) _ _ (loop-test .taken) _
     (c .before .takes-at .ensures) (c .if1 .left)
     ∙ turn .inv
 

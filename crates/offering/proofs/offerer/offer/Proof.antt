@@ -1,92 +1,73 @@
--- `offering::offerer::offer` meets its contract: lengths are tried first, then the list; the work area is cleared last.
--- Assumes nothing.
-use Rattle.offering.proofs.offerer.Outcomes.{offer-unmeasured, areas-measured}
-use Rattle.offering.proofs.offerer.Outcomes.{offer-declined, offer-indexed, offer-judged}
+-- `offering::offerer::offer` meets its contract: it is entered or refused; the work area is cleared last. Assumes
+-- nothing.
+use native.Mathlib.Omega.{arith}
+use Rattle.state.specs.Record.{monitorOf}
+use Rattle.offering.proofs.offerer.Outcomes.{offer-enters, offer-declined, offer-answered}
 use borrow.Author.Needs.{needs}
 use Rattle.offering.proofs.offerer.offer.Statement.{statement}
 use Rattle.offering.proofs.offerer.offer.Tie as tie
 
-lengths-fit-requires : tie.Need-lengths-fit-requires
-lengths-fit-requires c κs = search needs
-
--- a length is wrong
-returns : tie.Need-returns
-returns c =
-    let at-start = c .before .before .before .before .before .before in
-    offer-unmeasured (at-start .args .list .now) (at-start .args .state) (at-start .args .area0 .now)
-    (at-start .args .area1 .now) (at-start .args .work .now) _ (c .before .lengths-fit .ensures) (c .if1 .taken)
-
-check-requires : tie.Need-check-requires
-check-requires c κs = search needs
+enter-on-requires : tie.Need-enter-on-requires
+enter-on-requires c κs = search needs
 
 enum-told : tie.Need-enum-told
 enum-told c = search needs
 
-offer-accepted-requires : tie.Need-offer-accepted-requires
-offer-accepted-requires c κs =
-    let at-check = c .before .before .before .before .before in
-    let if1 = at-check .before .before .if1 in
-    let at-lengths = at-check .before .before .before in
-    let at-start = at-lengths .before .before .before .before .before in
-    let list = at-start .args .list .now in
-    let state = at-start .args .state in
-    let a = at-start .args .area0 .now in
-    let b = at-start .args .area1 .now in
-    let w = at-start .args .work .now in (
-      offer-indexed list state a b w _ (at-lengths .lengths-fit .ensures) (if1 .left) _ _
-          (at-check .check .ensures) (c .before .enum-told .given .1),
-      areas-measured list state a b w _ (at-lengths .lengths-fit .ensures) (if1 .left),
-    )
+offered-requires : tie.Need-offered-requires
+offered-requires c κs =
+    let at-told = c .before in
+    let at-enter = at-told .before .before .before .before in
+    let args = at-enter .before .before .before .before .before .before .args in
+    let m = monitorOf (args .state) (args .area0 .now) (args .area1 .now) in
+    let (x, a, h) = offer-enters (args .list .now) m (args .work .now) _ _ (at-enter .enter-on .ensures)
+    (at-told .enum-told .given .1) in
+    (x, (a, h))
 
 clear-all-requires : tie.Need-clear-all-requires
 clear-all-requires c κs = search needs
 
-enum-known-r : tie.Need-enum-known-r
-enum-known-r c = search needs
+enum-known-refusal : tie.Need-enum-known-refusal
+enum-known-refusal c = search needs
 
 same-length : tie.Need-same-length
 same-length c = search needs
 
--- the list is a table
-returns-2 : tie.Need-returns-2
-returns-2 c =
-    let at-answer = c .before .before .before .before in
-    let at-told = at-answer .before .before in
-    let at-check = at-told .before .before .before .before in
-    let if1 = at-check .before .before .if1 in
-    let at-lengths = at-check .before .before .before in
-    let at-start = at-lengths .before .before .before .before .before in
-    offer-judged (at-start .args .list .now) (at-start .args .state) (at-start .args .area0 .now)
-    (at-start .args .area1 .now) (at-start .args .work .now) _ (at-lengths .lengths-fit .ensures) (if1 .left) _ _
-    (at-check .check .ensures) (at-told .enum-told .given .1) (at-answer .offer-accepted .result) _
-    (at-answer .offer-accepted .ensures) (c .before .before .clear-all .ensures)
+-- it is entered
+returns : tie.Need-returns
+returns c =
+    let at-clear-all = c .before .before in
+    let at-offered = at-clear-all .before .before in
+    let at-told = at-offered .before .before in
+    let at-enter = at-told .before .before .before .before in
+    let args = at-enter .before .before .before .before .before .before .args in
+    let m = monitorOf (args .state) (args .area0 .now) (args .area1 .now) in
+    offer-answered (args .list .now) m (args .work .now) _ _ (at-enter .enter-on .ensures)
+    (at-told .enum-told .given .1)
+    _ _ (at-offered .offered .ensures) (at-clear-all .clear-all .ensures) (omega arith)
 
 same-length-2 : tie.Need-same-length-2
 same-length-2 c = search needs
 
--- it is none
-returns-3 : tie.Need-returns-3
-returns-3 c =
-    let at-check = c .before .before .before .before .before in
-    let if1 = at-check .before .before .if1 in
-    let at-lengths = at-check .before .before .before in
-    let at-start = at-lengths .before .before .before .before .before in
-    offer-declined (at-start .args .list .now) (at-start .args .state) (at-start .args .area0 .now)
-    (at-start .args .area1 .now) (at-start .args .work .now) _ (at-lengths .lengths-fit .ensures) (if1 .left) _ _
-    (at-check .check .ensures) _ (c .before .r .given .1)
+-- it is refused
+returns-2 : tie.Need-returns-2
+returns-2 c =
+    let at-refusal = c .before in
+    let at-enter = at-refusal .before .before .before .before in
+    let args = at-enter .before .before .before .before .before .before .args in
+    let m = monitorOf (args .state) (args .area0 .now) (args .area1 .now) in
+    offer-declined (args .list .now) m (args .work .now) _ _ (at-enter .enter-on .ensures) _
+    (at-refusal .refusal .given .1)
 
 pub offer-spec : {M : Type 1} → statement M
 offer-spec =
     tie.close
     (tie.spec
-    lengths-fit-requires
-    returns
-    check-requires
+    enter-on-requires
     enum-told
-    offer-accepted-requires
+    offered-requires
     clear-all-requires
-    enum-known-r
+    enum-known-refusal
     same-length
-    returns-2
+    returns
     same-length-2
-    returns-3)
+    returns-2)

@@ -4,8 +4,8 @@ use native.Mathlib.Omega.{arith}
 use mathlib.Core.Path.{refl, _∙_}
 use lib.ListN.{getD, length-set}
 use borrow.Author.Needs.{needs}
-use Rattle.table.specs.Parse.Terms.OneDefinition.{definition-short, definition-high, definition-read}
-use Rattle.table.specs.Parse.Terms.OneDefinition.{body-fits, marked, marks-ready, marks-same}
+use Rattle.table_index.specs.Parse.Terms.OneDefinition.{definition-short, definition-high, definition-read}
+use Rattle.table_index.specs.Parse.Terms.OneDefinition.{body-fits, marked, marks-ready, marks-same}
 use Rattle.parse.proofs.definitions.read_definition.Statement.{statement}
 use Rattle.parse.proofs.definitions.read_definition.Tie as tie
 

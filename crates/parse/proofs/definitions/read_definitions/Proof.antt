@@ -4,9 +4,9 @@ use Prim.Native.Nat.{_-_, _≤_}
 use native.Mathlib.Omega.{arith}
 use mathlib.Core.Path.{refl, _∙_}
 use borrow.Author.Needs.{needs}
-use Rattle.table.specs.Index.{setsIn}
-use Rattle.table.specs.Parse.Terms.Definitions.{Defined, defined-first, defined-ready, defined-next}
-use Rattle.table.specs.Parse.Terms.Definitions.{defined-done, defined-stop}
+use Rattle.table_index.specs.Index.{setsIn}
+use Rattle.table_index.specs.Parse.Terms.Definitions.{Defined, defined-first, defined-ready, defined-next}
+use Rattle.table_index.specs.Parse.Terms.Definitions.{defined-done, defined-stop}
 use Rattle.parse.proofs.definitions.read_definitions.Statement.{statement}
 use Rattle.parse.proofs.definitions.read_definitions.Tie as tie
 

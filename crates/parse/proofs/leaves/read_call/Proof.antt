@@ -4,7 +4,7 @@ use Prim.Native.Nat.{_+_}
 use native.Mathlib.Omega.{arith}
 use mathlib.Core.Path.{refl}
 use borrow.Author.Needs.{needs}
-use Rattle.table.specs.Parse.Terms.Kind.{call-short, call-read, head-fits}
+use Rattle.table_index.specs.Parse.Terms.Kind.{call-short, call-read, head-fits}
 use Rattle.parse.proofs.leaves.read_call.Statement.{statement}
 use Rattle.parse.proofs.leaves.read_call.Tie as tie
 

@@ -3,7 +3,7 @@
 use native.Mathlib.Omega.{arith}
 use mathlib.Core.Path.{refl}
 use borrow.Author.Needs.{needs}
-use Rattle.table.specs.Index.{packed}
+use Rattle.table_index.specs.Index.{packed}
 use Rattle.parse.proofs.leaves.store_term.Statement.{statement}
 use Rattle.parse.proofs.leaves.store_term.Tie as tie
 

@@ -2,9 +2,9 @@
 -- sets or in a set, or what `parse_definitions` says. Assumes nothing.
 use native.Mathlib.Omega.{arith}
 use mathlib.Core.Path.{_∙_}
-use Rattle.table.specs.Parse.Header.{stop-1, stop-2, stop-3, header-read}
-use Rattle.table.specs.Parse.Header.{count-got, count-low, count-high, count-none}
-use Rattle.table.specs.Parse.Header.{sets-got, sets-high, sets-none}
+use Rattle.table_index.specs.Parse.Header.{stop-1, stop-2, stop-3, header-read}
+use Rattle.table_index.specs.Parse.Header.{count-got, count-low, count-high, count-none}
+use Rattle.table_index.specs.Parse.Header.{sets-got, sets-high, sets-none}
 use borrow.Author.Needs.{needs}
 use Rattle.parse.proofs.parser.parse.Statement.{statement}
 use Rattle.parse.proofs.parser.parse.Tie as tie

@@ -2,9 +2,9 @@
 -- definitions, in a definition or after the table, or the stored index of a whole one. Assumes nothing.
 use native.Mathlib.Omega.{arith}
 use mathlib.Core.Path.{_∙_}
-use Rattle.table.specs.Parse.Header.{stop-4, stop-5, more-left}
-use Rattle.table.specs.Parse.Header.{count-got, count-low, count-high, count-none}
-use Rattle.table.specs.Parse.Structure.{structured}
+use Rattle.table_index.specs.Parse.Header.{stop-4, stop-5, more-left}
+use Rattle.table_index.specs.Parse.Header.{count-got, count-low, count-high, count-none}
+use Rattle.table_index.specs.Parse.Structure.{structured}
 use borrow.Author.Needs.{needs}
 use Rattle.parse.proofs.parser.parse_definitions.Statement.{statement}
 use Rattle.parse.proofs.parser.parse_definitions.Tie as tie

@@ -3,7 +3,7 @@
 use native.Mathlib.Omega.{arith}
 use mathlib.Core.Path.{refl}
 use lib.ListN.{length-set}
-use Rattle.table.specs.Parse.Structure.{counted}
+use Rattle.table_index.specs.Parse.Structure.{counted}
 use borrow.Author.Needs.{needs}
 use Rattle.parse.proofs.parser.store_counts.Statement.{statement}
 use Rattle.parse.proofs.parser.store_counts.Tie as tie

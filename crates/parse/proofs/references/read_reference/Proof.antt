@@ -3,8 +3,8 @@
 use native.Mathlib.Omega.{arith}
 use mathlib.Core.Path.{refl}
 use borrow.Author.Needs.{needs}
-use Rattle.table.specs.Parse.Terms.Reference.{ref-short, ref-high, ref-fixed}
-use Rattle.table.specs.Parse.Terms.Reference.{ref-param-short, ref-param-high, ref-family}
+use Rattle.table_index.specs.Parse.Terms.Reference.{ref-short, ref-high, ref-fixed}
+use Rattle.table_index.specs.Parse.Terms.Reference.{ref-param-short, ref-param-high, ref-family}
 use Rattle.parse.proofs.references.read_reference.Statement.{statement}
 use Rattle.parse.proofs.references.read_reference.Tie as tie
 

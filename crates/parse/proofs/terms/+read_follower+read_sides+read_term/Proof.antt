@@ -9,12 +9,12 @@ use mathlib.Core.Logic.{inl, inr}
 use borrow.Author.Needs.{needs}
 use borrow.Fn.Kinds.{In}
 use borrow.Fn.PlainCycle.{Measures, is, falls, and}
-use Rattle.table.specs.Index.{setsIn}
-use Rattle.table.specs.Parse.Terms.Kind.{term-short, term-deep, term-many, term-unknown}
-use Rattle.table.specs.Parse.Terms.Kind.{term-stop, term-fail, term-call, head-fits}
-use Rattle.table.specs.Parse.Terms.Sides.{term-no-ref, term-prefix, term-choice, term-par}
-use Rattle.table.specs.Parse.Terms.Sides.{follower-read, follower-stop, sides-read, sides-stop, sides-ready}
-use Rattle.table.specs.Parse.Terms.Sides.{follower-fits, side-fits, beside-fits}
+use Rattle.table_index.specs.Index.{setsIn}
+use Rattle.table_index.specs.Parse.Terms.Kind.{term-short, term-deep, term-many, term-unknown}
+use Rattle.table_index.specs.Parse.Terms.Kind.{term-stop, term-fail, term-call, head-fits}
+use Rattle.table_index.specs.Parse.Terms.Sides.{term-no-ref, term-prefix, term-choice, term-par}
+use Rattle.table_index.specs.Parse.Terms.Sides.{follower-read, follower-stop, sides-read, sides-stop, sides-ready}
+use Rattle.table_index.specs.Parse.Terms.Sides.{follower-fits, side-fits, beside-fits}
 use Rattle.parse.proofs.terms.read_follower.Reads as read-follower
 use Rattle.parse.proofs.terms.read_follower.Kinds as read-follower-kinds
 use Rattle.parse.proofs.terms.+read_follower+read_sides+read_term.Lts-read_follower as read-follower-lts

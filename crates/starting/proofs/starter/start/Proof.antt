@@ -1,35 +1,28 @@
--- `starting::starter::start` meets its contract: lent lengths are tried first, then the list; the work area is cleared
--- last. Assumes nothing.
-use mathlib.Core.Path.{sym, _∙_}
-use borrow.Author.Tests.{not-true, not-false}
+-- `starting::starter::start` meets its contract: it is entered or refused; the work area is cleared last. Assumes
+-- nothing.
+use native.Mathlib.Omega.{arith}
+use Rattle.starting.specs.Starting.Laws.{start-enters, start-declined, start-accepted}
 use borrow.Author.Needs.{needs}
-use Rattle.starting.specs.Starting.Laws.{start-unfit, fit-areas, fit-indexed, start-declined, start-accepted}
 use Rattle.starting.proofs.starter.start.Statement.{statement}
 use Rattle.starting.proofs.starter.start.Tie as tie
 
 lengths-fit-requires : tie.Need-lengths-fit-requires
 lengths-fit-requires c κs = search needs
 
--- a lent length is wrong
-returns : tie.Need-returns
-returns c = start-unfit _ _ _ _ (sym (c .before .lengths-fit .ensures) ∙ not-true _ (c .if1 .taken))
-
-check-requires : tie.Need-check-requires
-check-requires c κs = search needs
+enter-requires : tie.Need-enter-requires
+enter-requires c κs = search needs
 
 enum-told : tie.Need-enum-told
 enum-told c = search needs
 
 start-accepted-requires : tie.Need-start-accepted-requires
 start-accepted-requires c κs =
-    let checked = c .before .before .before .before .before .before .before in
-    let args = checked .before .before .before .before .before .before .before .before .args in
-    let fit = sym (checked .before .before .before .lengths-fit .ensures)
-    ∙ not-false _ (checked .before .before .if1 .left) in (
-      fit-indexed (args .list .now) (args .area0 .now) (args .area1 .now) (args .work .now) fit _ _
-          (checked .check .ensures) (c .before .before .before .enum-told .given .1),
-      fit-areas (args .list .now) (args .area0 .now) (args .area1 .now) (args .work .now) fit,
-    )
+    let at-told = c .before .before .before in
+    let at-enter = at-told .before .before .before .before in
+    let at-lengths = at-enter .before .before in
+    let args = at-lengths .before .before .before .before .before .args in
+    start-enters (args .list .now) (args .area0 .now) (args .area1 .now) (args .work .now) _
+    (at-lengths .lengths-fit .ensures) _ _ (at-enter .enter .ensures) (at-told .enum-told .given .1)
 
 clear-all-requires : tie.Need-clear-all-requires
 clear-all-requires c κs = search needs
@@ -46,40 +39,38 @@ same-length-2 c = search needs
 same-length-3 : tie.Need-same-length-3
 same-length-3 c = search needs
 
--- the list is accepted
-returns-2 : tie.Need-returns-2
-returns-2 c =
-    let begun = c .before .before .before .before .before .before .before .before in
-    let checked = begun .before .before .before .before .before .before .before .before in
-    let args = checked .before .before .before .before .before .before .before .before .args in
-    let fit = sym (checked .before .before .before .lengths-fit .ensures)
-    ∙ not-false _ (checked .before .before .if1 .left) in
-    start-accepted (args .list .now) (args .area0 .now) (args .area1 .now) (args .work .now) fit _ _
-    (checked .check .ensures)
-    (begun .before .before .before .before .enum-told .given .1) _ _ _ _ (begun .start-accepted .ensures)
-    (c .before .before .clear-all .ensures) (checked .check .kept .1 .0)
+-- it is entered
+returns : tie.Need-returns
+returns c =
+    let at-clear-all = c .before .before in
+    let at-accepted = at-clear-all .before .before .before .before .before .before in
+    let at-told = at-accepted .before .before .before .before in
+    let at-enter = at-told .before .before .before .before in
+    let at-lengths = at-enter .before .before in
+    let args = at-lengths .before .before .before .before .before .args in
+    start-accepted (args .list .now) (args .area0 .now) (args .area1 .now) (args .work .now) _
+    (at-lengths .lengths-fit .ensures) _ _ (at-enter .enter .ensures) (at-told .enum-told .given .1) _ _ _ _
+    (at-accepted .start-accepted .ensures) (at-clear-all .clear-all .ensures) (omega arith)
 
 same-length-4 : tie.Need-same-length-4
 same-length-4 c = search needs
 
--- it is declined
-returns-3 : tie.Need-returns-3
-returns-3 c =
-    let checked = c .before .before .before .before .before in
-    let args = checked .before .before .before .before .before .before .before .before .args in
-    let fit = sym (checked .before .before .before .lengths-fit .ensures)
-    ∙ not-false _ (checked .before .before .if1 .left) in
-    start-declined (args .list .now) (args .area0 .now) (args .area1 .now) (args .work .now) fit _ _
-    (checked .check .ensures) _
-    (c .before .refusal .given .1)
+-- it is refused
+returns-2 : tie.Need-returns-2
+returns-2 c =
+    let at-refusal = c .before in
+    let at-enter = at-refusal .before .before .before .before in
+    let at-lengths = at-enter .before .before in
+    let args = at-lengths .before .before .before .before .before .args in
+    start-declined (args .list .now) (args .area0 .now) (args .area1 .now) (args .work .now) _
+    (at-lengths .lengths-fit .ensures) _ _ (at-enter .enter .ensures) _ (at-refusal .refusal .given .1)
 
 pub start-spec : {M : Type 1} → statement M
 start-spec =
     tie.close
     (tie.spec
     lengths-fit-requires
-    returns
-    check-requires
+    enter-requires
     enum-told
     start-accepted-requires
     clear-all-requires
@@ -87,6 +78,6 @@ start-spec =
     same-length
     same-length-2
     same-length-3
-    returns-2
+    returns
     same-length-4
-    returns-3)
+    returns-2)

@@ -29,8 +29,8 @@ resolve-set-requires c κs =
 enum-known-count : tie.Need-enum-known-count
 enum-known-count c = search needs
 
-start-record-requires : tie.Need-start-record-requires
-start-record-requires c κs = search needs
+fresh-requires : tie.Need-fresh-requires
+fresh-requires c κs = search needs
 
 enum-told : tie.Need-enum-told
 enum-told c = search needs
@@ -54,7 +54,7 @@ returns c =
     let at-start = cleared .before .before .before .before .before .before in
     started-given (at-start .pre .0) _ _ (last .0) (last .1) refl _ _ (at-start .pre .1) _
     (cleared .clear-all .ensures) _ _ (held .resolve-set .ensures) _ other _ (c .before .before .count .given .1) _
-    (c .start-record .ensures)
+    (c .fresh .ensures)
 
 same-length-3 : tie.Need-same-length-3
 same-length-3 c = search needs
@@ -85,7 +85,7 @@ start-accepted-spec =
     sub-last
     resolve-set-requires
     enum-known-count
-    start-record-requires
+    fresh-requires
     enum-told
     clear-all-requires-3
     same-length

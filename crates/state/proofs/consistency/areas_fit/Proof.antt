@@ -1,7 +1,7 @@
 -- `state::consistency::areas_fit` meets its contract: the present area and then the other decide. Assumes nothing.
 use mathlib.Core.Path.{sym, _∙_}
 use borrow.Author.Tests.{not-true, not-false}
-use Rattle.table.specs.Index.{tableIn}
+use Rattle.table_index.specs.Index.{tableIn}
 use Rattle.state.proofs.consistency.Cases.{area-unfit, other-zero}
 use borrow.Author.Needs.{needs}
 use Rattle.state.proofs.consistency.areas_fit.Statement.{statement}

@@ -5,8 +5,10 @@ use mathlib.Core.Path.{sym, _∙_}
 use borrow.Author.Tests.{not-true, not-false}
 use Prim.Native.Nat.{_/_}
 use lib.ListN.{length}
-use Rattle.table.specs.Index.{tableIn}
-use Rattle.state.proofs.consistency.Cases.{record-room, record-unfit, areas-even, areas-odd}
+use Rattle.table_index.specs.Index.{tableIn}
+use Rattle.monitor_spec.specs.Consistent.Reading.{record-room}
+use Rattle.state.specs.Record.{stateOf}
+use Rattle.state.proofs.consistency.Cases.{record-unfit, areas-even, areas-odd}
 use borrow.Author.Needs.{needs}
 use Rattle.state.proofs.consistency.consistent.Statement.{statement}
 use Rattle.state.proofs.consistency.consistent.Tie as tie
@@ -28,7 +30,7 @@ areas-fit-requires c κs =
     let if1 = c .before .before .if1 in
     let record-fits = c .before .before .before .record-fits in
     let at-start = c .before .before .before .before .before .before .before .before in
-    let room = record-room (at-start .args .state) (length (at-start .args .area0 .now) / 16)
+    let room = record-room (stateOf (at-start .args .state)) (length (at-start .args .area0 .now) / 16)
     (sym (record-fits .ensures) ∙ not-false _ (if1 .left)) in
     (at-start .pre .0, omega arith)
 
@@ -48,7 +50,7 @@ areas-fit-requires-2 c κs =
     let if1 = c .before .before .if1 in
     let record-fits = c .before .before .before .record-fits in
     let at-start = c .before .before .before .before .before .before .before .before in
-    let room = record-room (at-start .args .state) (length (at-start .args .area0 .now) / 16)
+    let room = record-room (stateOf (at-start .args .state)) (length (at-start .args .area0 .now) / 16)
     (sym (record-fits .ensures) ∙ not-false _ (if1 .left)) in
     let same = at-start .pre .1 in
     (at-start .pre .0, omega arith)

@@ -4,7 +4,7 @@ use native.Mathlib.Omega.{arith}
 use Prim.Native.Nat.{_+_, _-_, _*_, _≤_}
 use mathlib.Core.Path.{_≡_, refl, ap, sym, _∙_}
 use borrow.Author.Tests.{not-true, not-false}
-use Rattle.table.specs.Index.{tableIn}
+use Rattle.table_index.specs.Index.{tableIn}
 use Rattle.monitor_spec.specs.State.{chunks}
 use Rattle.monitor_spec.specs.Valid.{validSlot}
 use Rattle.monitor_spec.specs.Consistent.{every}

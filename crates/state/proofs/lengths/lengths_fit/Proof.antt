@@ -24,20 +24,10 @@ returns-3 c =
 returns-4 : tie.Need-returns-4
 unfolding lengthsFit
 returns-4 c =
-    let if4 = c .if4 in
-    let if3 = c .before .if3 in
-    let if2 = c .before .before .if2 in
-    let if1 = c .before .before .before .if1 in
-    simp (eq-eqb _ _ (if1 .left), eq-eqb _ _ (if2 .left), le-leb _ _ (if3 .left), lt-leb _ _ (if4 .taken))
-
-returns-5 : tie.Need-returns-5
-unfolding lengthsFit
-returns-5 c =
-    let if4 = c .if4 in
-    let if3 = c .before .if3 in
-    let if2 = c .before .before .if2 in
-    let if1 = c .before .before .before .if1 in
-    simp (eq-eqb _ _ (if1 .left), eq-eqb _ _ (if2 .left), le-leb _ _ (if3 .left), le-leb _ _ (if4 .left))
+    let if3 = c .if3 in
+    let if2 = c .before .if2 in
+    let if1 = c .before .before .if1 in
+    simp (eq-eqb _ _ (if1 .left), eq-eqb _ _ (if2 .left), le-leb _ _ (if3 .left))
 
 pub lengths-fit-spec : {M : Type 1} → statement M
-lengths-fit-spec = tie.close (tie.spec returns returns-2 returns-3 returns-4 returns-5)
+lengths-fit-spec = tie.close (tie.spec returns returns-2 returns-3 returns-4)

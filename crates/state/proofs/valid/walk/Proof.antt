@@ -1,7 +1,7 @@
 -- `state::valid::walk` meets its contract. The invariant is `Head`: the forest is that of the words from i on. The
 -- measure is i. Assumes nothing.
 use native.Mathlib.Omega.{arith}
-use Rattle.table.specs.Index.{tableIn}
+use Rattle.table_index.specs.Index.{tableIn}
 use Rattle.state.proofs.valid.WalkTurn.{Head, reach-few, head-first, head-few, head-next, head-done}
 use borrow.Author.Needs.{needs}
 use Rattle.state.proofs.valid.walk.Statement.{statement}

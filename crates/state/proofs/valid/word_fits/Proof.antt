@@ -2,7 +2,7 @@
 use native.Mathlib.Omega.{arith}
 use Prim.Native.Nat.{ℕ}
 use mathlib.Core.Path.{ap₂, _∙_}
-use Rattle.monitor_spec.specs.Slots.{memoryOf}
+use Rattle.node_word.specs.Word.{memoryOf}
 use Rattle.monitor_spec.specs.Valid.{memoryFits}
 use Rattle.state.specs.Walk.Laws.{unknown-term, known-term}
 use borrow.Author.Needs.{needs}

@@ -1,6 +1,6 @@
 -- `state::record::State::take` meets its contract: one event more. Assumes nothing.
 use native.Mathlib.Numerals.{add-one}
-use Rattle.state.specs.Record.{counted}
+use Rattle.monitor_spec.specs.State.{counted}
 use borrow.Author.Needs.{needs}
 use Rattle.state.proofs.record.State.take.Statement.{statement}
 use Rattle.state.proofs.record.State.take.Tie as tie

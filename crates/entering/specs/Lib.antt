@@ -1,0 +1,2 @@
+-- What entering an operation promises, in the terms of crate monitor_spec. Assumes nothing.
+pub mod Entered

@@ -1,0 +1,2 @@
+-- The worked examples of `specs/Examples.antt` hold. Assumes nothing.
+pub mod Rows

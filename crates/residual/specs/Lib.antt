@@ -1,6 +1,0 @@
--- Residuals in reading order: node words, tables whose definitions can be resolved, what resolving gives, and a leaf's
--- distinct results. Assumes nothing.
-pub mod Words
-pub mod Lawful
-pub mod Residual
-pub mod Distinct

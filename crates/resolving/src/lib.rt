@@ -1,0 +1,18 @@
+// Residuals as words (01, "Residuals"): what a node word says of its term, the residuals that a
+// term is resolved to, and a leaf's distinct results. The definitions are in `specs/`;
+// `specs/Lib.antt` lists them in reading order.
+mod descent;
+mod leaves;
+mod resolve;
+mod words;
+
+pub use descent::Landed;
+pub use descent::descend;
+pub use descent::resolve_at;
+pub use leaves::distinct;
+pub use resolve::push;
+pub use resolve::resolve_definition;
+pub use resolve::resolve_term;
+pub use words::holds_at;
+pub use words::kind_at;
+pub use words::node_at;

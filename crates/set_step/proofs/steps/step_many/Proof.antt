@@ -1,0 +1,61 @@
+-- `set_step::steps::step_many` meets its contract: the slot is loaded, its leaves prepared, and walked. Assumes nothing.
+use Rattle.set_step.specs.Stepped.One.{loaded-sound, start-place, many-done}
+use borrow.Author.Needs.{needs}
+use Rattle.set_step.proofs.steps.step_many.Statement.{statement}
+use Rattle.set_step.proofs.steps.step_many.Tie as tie
+
+mul-load : tie.Need-mul-load
+mul-load c = search needs
+
+load-requires : tie.Need-load-requires
+load-requires c κs = search needs
+
+prepare-requires : tie.Need-prepare-requires
+prepare-requires c κs = (
+  c .before .before .before .before .before .before .before .before .before .before .pre .0,
+  loaded-sound (c .before .before .before .before .before .before .before .before .before .before .pre .1)
+      (c .before .before .before .load .last .1 .1 .0) (c .before .before .before .load .kept .1 .1 .0)
+      (c .before .before .before .load .ensures),
+)
+
+walk-requires : tie.Need-walk-requires
+walk-requires c κs = (
+  c .before .before .before .before .before .before .before .before .before .before .before .before .before .before
+      .before .pre .0,
+  (
+    c .before .before .before .before .prepare .ensures .ready,
+    start-place (c .before .before .before .before .before .before .before .before .before .before .before .before
+        .before .before .before .pre .1) (c .before .before .before .before .before .before .before .before .load .last .1
+        .1 .0) (c .before .before .before .before .before .before .before .before .load .kept .1 .1 .0)
+        (c .before .before .before .before .before .before .before .before .load .ensures) _
+        (c .before .before .before .before .prepare .ensures),
+  ),
+)
+
+same-length : tie.Need-same-length
+same-length c = search needs
+
+same-length-2 : tie.Need-same-length-2
+same-length-2 c = search needs
+
+returns : tie.Need-returns
+returns c =
+    many-done (c .before .before .before .before .before .before .before .before .before .before .before .before
+    .before .before .before .before .before .before .pre .1)
+    (c .before .before .before .before .before .before .before .before .before .before .before .load .last .1 .1 .0)
+    (c .before .before .before .before .before .before .before .before .before .before .before .load .kept .1 .1 .0)
+    (c .before .before .before .before .before .before .before .before .before .before .before .load .ensures) _
+    (c .before .before .before .before .before .before .before .prepare .ensures) _ _
+    (c .before .before .walk .ensures)
+
+pub step-many-spec : {M : Type 1} → statement M
+step-many-spec =
+    tie.close
+    (tie.spec
+    mul-load
+    load-requires
+    prepare-requires
+    walk-requires
+    same-length
+    same-length-2
+    returns)

@@ -1,0 +1,152 @@
+-- `set_step::steps::step_one` meets its contract: the way of the residual says which of its results there are.
+-- Assumes nothing.
+use native.Mathlib.Omega.{arith}
+use mathlib.Core.Path.{refl}
+use Rattle.set_step.specs.Stepped.One.{slot-rooted, still-one, marks-few, lone-rebuilds, lone-done, several-asks}
+use Rattle.set_step.specs.Stepped.One.{several-done, many-one}
+use borrow.Author.Needs.{needs}
+use Rattle.set_step.proofs.steps.step_one.Statement.{statement}
+use Rattle.set_step.proofs.steps.step_one.Tie as tie
+
+mul-at : tie.Need-mul-at
+mul-at c = omega (arith, c .before .before .before .before .before .pre .1 .inside)
+
+mul-n : tie.Need-mul-n
+mul-n c = omega (arith, c .before .before .before .before .before .pre .1 .inside)
+
+shared-slice-read-n : tie.Need-shared-slice-read-n
+shared-slice-read-n c = omega (arith, c .before .before .before .before .before .before .pre .1 .inside)
+
+add-way-of : tie.Need-add-way-of
+add-way-of c = omega (arith, c .before .before .before .before .before .before .pre .1 .inside)
+
+way-of-requires : tie.Need-way-of-requires
+way-of-requires c κs = (
+  c .before .before .before .before .before .before .pre .0,
+  (
+    c .before .before .before .before .before .before .pre .1 .event,
+    slot-rooted (c .before .before .before .before .before .before .pre .1) _ refl,
+  ),
+)
+
+enum-told : tie.Need-enum-told
+enum-told c = search needs
+
+enum-known-moves : tie.Need-enum-known-moves
+enum-known-moves c = search needs
+
+add-marks : tie.Need-add-marks
+add-marks c =
+    omega (
+      arith,
+      marks-few (c .before .before .before .before .before .before .before .before .before .before .before
+          .before .pre .1) _ refl _ (c .before .before .before .before .before .way-of .ensures) _
+          (c .before .before .before .moves .given .1),
+    )
+
+add-rebuild : tie.Need-add-rebuild
+add-rebuild c = omega (arith, c .before .before .before .before .before .before .before .before .before .before .before .before .pre .1 .inside)
+
+rebuild-requires : tie.Need-rebuild-requires
+rebuild-requires c κs =
+    let at-start = c .before .before .before .before .before .before .before .before .before .before .before .before in (
+      at-start .pre .0,
+      lone-rebuilds (at-start .pre .1) _ refl _ (c .before .before .before .before .before .way-of .ensures) _
+          (c .before .before .before .moves .given .1) (c .before .if1 .taken),
+    )
+
+put-requires : tie.Need-put-requires
+put-requires c κs =
+    c .before .before .before .before .before .before .before .before .before .before .before .before .before .before
+    .pre .1 .held
+
+same-length : tie.Need-same-length
+same-length c = search needs
+
+returns : tie.Need-returns
+returns c =
+    lone-done (c .before .before .before .before .before .before .before .before .before .before .before .before
+    .before .before .before .before .before .pre .1) _ refl _
+    (c .before .before .before .before .before .before .before .before .before .before .way-of .ensures) _
+    (c .before .before .before .before .before .before .before .before .moves .given .1)
+    (c .before .before .before .before .before .before .if1 .taken) _ (c .before .before .before .before .rebuild .ensures) _
+    _ (c .before .before .put .ensures)
+
+add-step-moves : tie.Need-add-step-moves
+add-step-moves c =
+    omega (
+      arith,
+      c .before .before .before .before .before .before .before .before .before .before .before .pre .1
+          .inside,
+    )
+
+step-moves-requires : tie.Need-step-moves-requires
+step-moves-requires c κs = (
+  c .before .before .before .before .before .before .before .before .before .before .before .before .pre .0,
+  several-asks (c .before .before .before .before .before .before .before .before .before .before .before .before
+      .pre .1) _ refl _ (c .before .before .before .before .before .way-of .ensures) _
+      (c .before .before .before .moves .given .1),
+)
+
+enum-told-2 : tie.Need-enum-told-2
+enum-told-2 c = search needs
+
+step-many-requires : tie.Need-step-many-requires
+step-many-requires c κs = (
+  c .before .before .before .before .before .before .before .before .before .before .before .pre .0,
+  c .before .before .before .before .before .before .before .before .before .before .before .pre .1,
+)
+
+returns-2 : tie.Need-returns-2
+returns-2 c =
+    still-one (c .before .before .before .before .before .before .before .before .before .pre .1) _ refl _
+    (c .before .before .way-of .ensures) (c .enum-told .given .1)
+
+same-length-2 : tie.Need-same-length-2
+same-length-2 c = search needs
+
+returns-3 : tie.Need-returns-3
+returns-3 c =
+    several-done (c .before .before .before .before .before .before .before .before .before .before .before .before
+    .before .before .before .pre .1) _ refl _
+    (c .before .before .before .before .before .before .before .before .way-of .ensures) _
+    (c .before .before .before .before .before .before .moves .given .1) _ _ (c .before .before .step-moves .ensures)
+
+same-length-3 : tie.Need-same-length-3
+same-length-3 c = search needs
+
+same-length-4 : tie.Need-same-length-4
+same-length-4 c = search needs
+
+returns-4 : tie.Need-returns-4
+returns-4 c =
+    many-one (c .before .before .before .before .before .before .before .before .before .before .before .before
+    .before .before .before .before .pre .1) _ _ (c .before .before .before .before .step-many .ensures)
+
+pub step-one-spec : {M : Type 1} → statement M
+step-one-spec =
+    tie.close
+    (tie.spec
+    mul-at
+    mul-n
+    shared-slice-read-n
+    add-way-of
+    way-of-requires
+    enum-told
+    enum-known-moves
+    add-marks
+    add-rebuild
+    rebuild-requires
+    put-requires
+    same-length
+    returns
+    add-step-moves
+    step-moves-requires
+    enum-told-2
+    step-many-requires
+    returns-2
+    same-length-2
+    returns-3
+    same-length-3
+    same-length-4
+    returns-4)

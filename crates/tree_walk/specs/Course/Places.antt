@@ -1,0 +1,119 @@
+-- A place in the walk over one residual, and the next one: one law per way out of `walk`.
+--     split, known, pair-here, leaf-here            the node at a place, and the first tree there
+--     next-place, next-kept, next-leaf              the next place, and its trees
+--     walk-end, walk-kept-pair, walk-kept-leaf      `walk`
+-- Assumes nothing.
+use Prim.Native.Nat.{ℕ, _+_, _*_, _/_, _%_, _<_, _≤_, max, _^_}
+use native.Mathlib.Omega.{arith}
+use native.Mathlib.Numerals.{add-one}
+use native.Mathlib.Nat.{pow-suc}
+use mathlib.Core.Path.{_≡_, _∙_}
+use mathlib.Core.List.{List, _∷_, map}
+use lib.ListN.{length, getD}
+use lib.Pow.{pow-mono}
+use Rattle.table.specs.Table.{Table}
+use Rattle.residuals.specs.Slots.{nodes}
+use Rattle.slots.specs.declared.slots.Held.{Held}
+use Rattle.slots.specs.Holding.{putOne, Gave}
+use Rattle.slots.specs.Holding.Laws.{put-single}
+use Rattle.resolving.specs.Residual.Pushed.{length-pushed, head-pushed}
+use Rattle.resolving.specs.Words.{kindAt, KnownWord}
+use Rattle.resolving.specs.Residual.{pushed, pushAll}
+use Rattle.tree_walk.specs.Walk.{before, results, leafResults, longest, room, onto}
+use Rattle.tree_walk.specs.Walk.Results.{onto-before, kept-pair, kept-leaf}
+use Rattle.tree_walk.specs.Course.{nodeCount, nodesFrom, Ready, Trees, Place, walked}
+use Rattle.tree_walk.specs.Course.Nodes.{nodes-none, nodes-cons}
+use Rattle.tree_walk.specs.Course.Turns.{PairTurn, LeafTurn, pair-turn, leaf-turn, node-known, next-sides}
+
+-- ---- the walk
+
+module _ {t : Table} {bound e : ℕ} {store : List ℕ} (ready : Ready t bound e store) (k modes : ℕ) (slot area : List ℕ)
+    (count : ℕ) where
+  pub walk-end : nodeCount store < k → (r : Held) (l : List ℕ) → Gave (putOne area count slot) r l
+      → Gave (walked t e store k modes slot area count) r l
+  unfolding walked results onto pushAll
+  walk-end h r l g =
+      record { same = g .same ∙ put-single area count slot ∙ rw (nodes-none store k h); fits = g .fits }
+
+  module _ (p : Place t e store k modes slot area count) (h : k ≤ nodeCount store) where
+    pub split : nodesFrom store k ≡ getD store k 0 ∷ nodesFrom store (k + 1)
+    split = nodes-cons store k h (omega (arith, ready .size, ready .few))
+
+    pub spare : getD slot 0 0 +
+        (max 1 (longest (map nodes (leafResults t e (getD store k 0)))) + room t e (nodesFrom store (k + 1))) ≤ 15
+    unfolding room
+    spare = rw split at (p .room)
+
+    pub push-room : getD slot 0 0 < 15
+    push-room = omega (arith, spare)
+
+    pub bits-next : (x : ℕ) → x ≤ 2 * modes + 1 → x < 2 ^ (k + 1)
+    bits-next x w = rw add-one (omega (arith, p .bits, pow-suc 2 k))
+
+    pub bits-fit : modes < 65536
+    bits-fit = omega (arith, p .bits, pow-mono {i = k} {j = 16} (omega (arith, ready .few)))
+
+    pub pair-here : kindAt t (getD store k 0) ≡ 4
+        → PairTurn t e store k modes (getD store k 0) (nodesFrom store (k + 1))
+    pair-here q = pair-turn t e store k modes _ _ split (p .trees) q
+
+    pub leaf-here : (kindAt t (getD store k 0) ≡ 4 → ⊥)
+        → LeafTurn t e store k modes (getD store k 0) (nodesFrom store (k + 1))
+    leaf-here q = leaf-turn t e store k modes _ _ split (p .trees) q
+
+    -- the trees after a node that is kept, and after a leaf
+    pub next-kept : kindAt t (getD store k 0) ≡ 4 → Trees t e store (k + 1) (modes / 2 * 4)
+    next-kept q =
+        next-sides (pair-here q) (modes / 2 * 4) (omega arith) (λ z. absurd (z (omega arith)))
+        (λ z. absurd (z (omega arith)))
+
+    pub next-leaf : (kindAt t (getD store k 0) ≡ 4 → ⊥) → Trees t e store (k + 1) (modes / 2)
+    next-leaf q = let turn = leaf-here q in record { forest = turn .forest; served = turn .served }
+
+    pub known : KnownWord t (getD store k 0)
+    known = node-known t e store k modes _ _ split (p .trees)
+
+    pub next-place : (x : ℕ) (s a : List ℕ) (c : ℕ) → x ≤ 2 * modes + 1 → s ≡ pushed slot (getD store k 0)
+        → c * 16 ≤ length a → Trees t e store (k + 1) x → Place t e store (k + 1) x s a c
+    next-place x s a c w es f g = rw es (record {
+      first = omega arith;
+      last = omega arith;
+      bits = bits-next x w;
+      whole = length-pushed slot _ ∙ p .whole;
+      room = omega (arith, spare, head-pushed slot (getD store k 0) (p .whole));
+      held = f;
+      trees = g;
+    })
+
+    pub go : (x : ℕ) → results t e (nodesFrom store k) modes
+        ≡ before (getD store k 0) (results t e (nodesFrom store (k + 1)) x)
+        → (s : List ℕ) → s ≡ pushed slot (getD store k 0) → (r : Held) (l : List ℕ)
+        → Gave (walked t e store (k + 1) x s area count) r l → Gave (walked t e store k modes slot area count) r l
+    unfolding walked
+    go x q s es r l g = record { same = g .same ∙ rw (es, q, onto-before); fits = g .fits }
+
+    pub walk-kept-pair : modes % 2 ≡ 0 → kindAt t (getD store k 0) ≡ 4 → (s : List ℕ) → s
+        ≡ pushed slot (getD store k 0) → (r : Held) (l : List ℕ)
+        → Gave (walked t e store (k + 1) (modes / 2 * 4) s area count) r l
+        → Gave (walked t e store k modes slot area count) r l
+    walk-kept-pair z q s es r l g = go (modes / 2 * 4) (rw split (kept-pair t e _ _ modes z q)) s es r l g
+
+    pub walk-kept-leaf : modes % 2 ≡ 0 → (kindAt t (getD store k 0) ≡ 4 → ⊥) → (s : List ℕ) → s
+        ≡ pushed slot (getD store k 0) → (r : Held) (l : List ℕ)
+        → Gave (walked t e store (k + 1) (modes / 2) s area count) r l
+        → Gave (walked t e store k modes slot area count) r l
+    walk-kept-leaf z q s es r l g = go (modes / 2) (rw split (kept-leaf t e _ _ modes z q)) s es r l g
+
+-- ---- odd modes, as the code has them
+
+module _ (t : Table) (e : ℕ) (store : List ℕ) (k modes : ℕ) (slot area : List ℕ) (count : ℕ) (h : modes % 2 ≡ 0 → ⊥)
+  where
+    halves : modes / 2 * 2 + 1 ≡ modes
+    halves = omega arith
+
+    pub odd-place : Place t e store k modes slot area count → Place t e store k (modes / 2 * 2 + 1) slot area count
+    odd-place p = rw halves p
+
+    pub odd-gave : {r : Held} {l : List ℕ} → Gave (walked t e store k (modes / 2 * 2 + 1) slot area count) r l
+        → Gave (walked t e store k modes slot area count) r l
+    odd-gave g = rw halves at g
