@@ -23,6 +23,10 @@
  *     CSPE_FAILED       0 running, 1 failed; a call that reads a record takes any word but 0 for failed
  *     CSPE_PLACE        how many events were taken when it failed, that event counted; 0 while it runs, and then not
  *                       read
+ *     CSPE_PEAK         the most residuals that were held at a time since Start, those held now included. An event that
+ *                       is refused, and those after a failure, do not move it; Start begins it anew. Areas are sized
+ *                       by it: so many slots would have done for the events taken (docs/USING.md). It is at least
+ *                       CSPE_RESIDUALS and at most the slots, else the record is refused (10)
  * A monitor is its record and areas 0 and 1. Between calls only the calls below write them.
  */
 #ifndef CSPE_MONITOR_H
@@ -34,6 +38,9 @@
 #ifdef __cplusplus
 extern "C" {
 #endif
+
+/* It goes up by one where the library changes for a caller; docs/CHANGELOG.md says how. */
+#define CSPE_VERSION 2
 
 /* A table has at most so many bytes. */
 #define CSPE_TABLE_BYTES 16384
@@ -47,11 +54,12 @@ extern "C" {
 #define CSPE_AREA_WORDS_LEAST 16
 #define CSPE_AREA_WORDS_MOST 4096
 /* The length of a record, in words, and the indices of its words. */
-#define CSPE_RECORD_WORDS 4
+#define CSPE_RECORD_WORDS 5
 #define CSPE_TAKEN 0
 #define CSPE_RESIDUALS 1
 #define CSPE_FAILED 2
 #define CSPE_PLACE 3
+#define CSPE_PEAK 4
 
 /*
  * The refusals, with document 01's words and their places. They are tried in this order: 1; 2; 3 to 5 at each number
@@ -69,7 +77,7 @@ enum cspe_refusal {
     CSPE_BAD_REFERENCE = 7,      /* wrong reference: a rule of references is broken; place: that number */
     CSPE_TOO_WIDE = 8,           /* too many hands: a level's width is above 8; place: the lowest such level */
     CSPE_TOO_MANY_BRANCHES = 9,  /* too many openings: above 256; place: the lowest such term */
-    CSPE_INCONSISTENT = 10,      /* disturbed: record and areas disagree; place 0 */
+    CSPE_INCONSISTENT = 10,      /* disturbed: record and areas disagree, the peak and the slots too; place 0 */
     CSPE_UNKNOWN_EVENT = 11,     /* strange event: it is not below the alphabet's size; place: events taken by this call */
     CSPE_COUNTER_FULL = 12,      /* counter full: 2^64 - 1 events were taken; place: the same */
     CSPE_CAPACITY_EXCEEDED = 13  /* crowded: more residuals than the areas have room for; place: the same, 0 at Start */
@@ -156,7 +164,7 @@ uint32_t cspe_offer(const uint16_t *list, size_t list_length, const uint64_t *re
  *     record, area0, area1    the monitor, which is only read
  * It returns how many words the residuals' slots are; they begin area *area, which is 0 or 1. It returns 0, and *area is
  * 0, after a failure, where the record holds no residual or more than that area has room for, and where record is not
- * of CSPE_RECORD_WORDS words.
+ * of CSPE_RECORD_WORDS words. The peak is not read.
  */
 size_t cspe_view(const uint64_t *record, size_t record_length, const uint64_t *area0, size_t area0_length,
                  const uint64_t *area1, size_t area1_length, uint64_t *area);

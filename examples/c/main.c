@@ -1,7 +1,8 @@
 /*
  * The monitor from C: table B of document 01 (an alphabet of 3; prefix {0}, prefix {1}, call 0) is read, a monitor is
- * started and fed `0 1 0` in pieces, and each answer is checked. It prints a line for each call, and ends with status 1
- * at the first answer that is not the expected one. In the repository's root:
+ * started and fed `0 1 0` in pieces, and each answer is checked. Then areas are sized for another table: by the peak of
+ * a trial lot. It prints a line for each call, and ends with status 1 at the first answer that is not the expected one.
+ * In the repository's root:
  *
  *     rt staticlib monitor_c
  *     cc -std=c99 -O2 -Iinclude -o target/example examples/c/main.c target/staticlib/libmonitor_c.a
@@ -19,10 +20,15 @@ enum { SLOTS = 4, AREA_WORDS = SLOTS * CSPE_SLOT_WORDS };
 static const uint8_t table_b[] = {0x03, 0x02, 0x00, 0x01, 0x00, 0x00, 0x01, 0x01,
                                   0x01, 0x00, 0x02, 0x00, 0x02, 0x01, 0x05, 0x00};
 
+/* drawing K8 of document 01: prefix {0} to STOP, twice, side by side */
+static const uint8_t table_k8[] = {0x03, 0x03, 0x00, 0x01, 0x00, 0x00, 0x01, 0x01, 0x00, 0x00,
+                                   0x01, 0x00, 0x04, 0x02, 0x02, 0x00, 0x00, 0x02, 0x00, 0x00};
+
 static uint16_t list[CSPE_NUMBERS];
 static size_t list_length;
 static uint64_t record[CSPE_RECORD_WORDS];
-static uint64_t area[2][AREA_WORDS];
+static uint64_t area[2][CSPE_AREA_WORDS_MOST];
+static size_t area_words = AREA_WORDS;
 static uint64_t work[CSPE_WORK_WORDS];
 
 static void expect(int holds, const char *what) {
@@ -32,30 +38,33 @@ static void expect(int holds, const char *what) {
     }
 }
 
-static uint32_t start(size_t area_words, uint64_t *place) {
+static uint32_t start(size_t words, uint64_t *place) {
+    area_words = words;
     return cspe_start(list, list_length, record, CSPE_RECORD_WORDS, area[0], area_words, area[1], area_words, work,
                       CSPE_WORK_WORDS, place);
 }
 
 static uint32_t feed(const uint8_t *events, size_t events_length, uint64_t *place) {
-    return cspe_feed(list, list_length, record, CSPE_RECORD_WORDS, area[0], AREA_WORDS, area[1], AREA_WORDS, events,
+    return cspe_feed(list, list_length, record, CSPE_RECORD_WORDS, area[0], area_words, area[1], area_words, events,
                      events_length, work, CSPE_WORK_WORDS, place);
 }
 
 static uint32_t offer(uint64_t *value) {
-    return cspe_offer(list, list_length, record, CSPE_RECORD_WORDS, area[0], AREA_WORDS, area[1], AREA_WORDS, work,
+    return cspe_offer(list, list_length, record, CSPE_RECORD_WORDS, area[0], area_words, area[1], area_words, work,
                       CSPE_WORK_WORDS, value);
 }
 
 /* Prints the record, which must be the one given. */
-static void show(const char *call, uint64_t taken, uint64_t residuals, uint64_t failed, uint64_t place) {
+static void show(const char *call, uint64_t taken, uint64_t residuals, uint64_t failed, uint64_t place, uint64_t peak) {
     expect(record[CSPE_TAKEN] == taken && record[CSPE_RESIDUALS] == residuals && record[CSPE_FAILED] == failed &&
-               record[CSPE_PLACE] == place,
+               record[CSPE_PLACE] == place && record[CSPE_PEAK] == peak,
            call);
     if (record[CSPE_FAILED] == 0) {
-        printf("%s: running, %" PRIu64 " taken, %" PRIu64 " held\n", call, record[CSPE_TAKEN], record[CSPE_RESIDUALS]);
+        printf("%s: running, %" PRIu64 " taken, %" PRIu64 " held, peak %" PRIu64 "\n", call, record[CSPE_TAKEN],
+               record[CSPE_RESIDUALS], record[CSPE_PEAK]);
     } else {
-        printf("%s: failed at %" PRIu64 ", %" PRIu64 " taken\n", call, record[CSPE_PLACE], record[CSPE_TAKEN]);
+        printf("%s: failed at %" PRIu64 ", %" PRIu64 " taken, peak %" PRIu64 "\n", call, record[CSPE_PLACE],
+               record[CSPE_TAKEN], record[CSPE_PEAK]);
     }
 }
 
@@ -73,7 +82,7 @@ static void show_offer(uint64_t bits_due) {
 
 static void show_view(size_t words_due, uint64_t area_due) {
     uint64_t which;
-    size_t words = cspe_view(record, CSPE_RECORD_WORDS, area[0], AREA_WORDS, area[1], AREA_WORDS, &which);
+    size_t words = cspe_view(record, CSPE_RECORD_WORDS, area[0], area_words, area[1], area_words, &which);
     expect(words == words_due && which == area_due, "view");
     printf("view: %zu words of area %" PRIu64 "\n", words, which);
     for (size_t i = 0; i < words; i += CSPE_SLOT_WORDS) {
@@ -100,15 +109,15 @@ static void follow(void) {
     uint32_t number = start(0, &place);
     show_refusal("start without slots", number, place, CSPE_WRONG_LENGTH, 0);
     expect(start(AREA_WORDS, &place) == CSPE_NONE, "start");
-    show("start", 0, 1, 0, 0);
+    show("start", 0, 1, 0, 0, 1);
     show_offer(1);
 
     const uint8_t events[] = {0, 1, 0};
     expect(feed(events, 1, &place) == CSPE_NONE, "feed of the first piece");
-    show("feed 0", 1, 1, 0, 0);
+    show("feed 0", 1, 1, 0, 0, 1);
     show_offer(2);
     expect(feed(events + 1, 2, &place) == CSPE_NONE, "feed of the second piece");
-    show("feed 1 0", 3, 1, 0, 0);
+    show("feed 1 0", 3, 1, 0, 0, 1);
     show_offer(2);
     show_view(CSPE_SLOT_WORDS, 1);
 }
@@ -119,11 +128,11 @@ static void refuse_and_fail(void) {
     const uint8_t strange[] = {1, 3, 0};
     uint32_t number = feed(strange, sizeof strange, &place);
     show_refusal("feed 1 3 0", number, place, CSPE_UNKNOWN_EVENT, 1);
-    show("the record", 4, 1, 0, 0);
+    show("the record", 4, 1, 0, 0, 1);
 
     const uint8_t wrong[] = {1};
     expect(feed(wrong, sizeof wrong, &place) == CSPE_NONE, "feed of an event that is not offered");
-    show("feed 1", 5, 0, 1, 5);
+    show("feed 1", 5, 0, 1, 5, 1);
     show_offer(0);
     show_view(0, 0);
 
@@ -137,10 +146,36 @@ static void refuse_and_fail(void) {
     show_refusal("read without the last byte", number, value, CSPE_TRUNCATED, sizeof table_b - 1);
 }
 
+/* The areas of a table, sized by a trial lot: the largest areas, and then as many slots as the peak. */
+static void size_areas(void) {
+    const uint8_t lot[] = {0, 0};
+    uint64_t value;
+    uint32_t number = cspe_read(table_k8, sizeof table_k8, list, CSPE_NUMBERS, work, CSPE_WORK_WORDS, &value);
+    expect(number == CSPE_NONE, "read of another table");
+    list_length = (size_t)value;
+
+    uint64_t place;
+    expect(start(CSPE_AREA_WORDS_MOST, &place) == CSPE_NONE, "start with 256 slots");
+    expect(feed(lot, sizeof lot, &place) == CSPE_NONE, "feed of a trial lot");
+    show("trial lot with 256 slots", 2, 1, 0, 0, 2);
+    size_t slots = (size_t)record[CSPE_PEAK];
+
+    expect(start(slots * CSPE_SLOT_WORDS, &place) == CSPE_NONE, "start with the peak's slots");
+    expect(feed(lot, sizeof lot, &place) == CSPE_NONE, "feed of the same lot");
+    show("the same with 2 slots", 2, 1, 0, 0, 2);
+
+    /* one slot less: an event is refused, which does not move the peak */
+    expect(start((slots - 1) * CSPE_SLOT_WORDS, &place) == CSPE_NONE, "start with a slot less");
+    number = feed(lot, sizeof lot, &place);
+    show_refusal("the same with 1 slot", number, place, CSPE_CAPACITY_EXCEEDED, 0);
+    show("the record", 0, 1, 0, 0, 1);
+}
+
 int main(void) {
     read_and_write();
     follow();
     refuse_and_fail();
+    size_areas();
     printf("ok\n");
     return 0;
 }

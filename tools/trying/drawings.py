@@ -127,8 +127,8 @@ def show_drawing(file):
     print(flush=True)
 
 
-def show(run, line, file):
-    """A run and its answer; whether the line is the one expected."""
+def show(run, line, file, peak=None):
+    """A run and its answer, with its peak if that is known; whether the line is the one expected."""
     if run.comment:
         print(run.comment)
     print("events  ", " ".join(run.events) or "none")
@@ -138,6 +138,8 @@ def show(run, line, file):
     print("line    ", line)
     for text in about(run.events, line, file):
         print("        ", text)
+    if peak is not None:
+        print("peak    ", peak)
     right = show_expected(run, line)
     print(flush=True)
     return right

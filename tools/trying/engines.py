@@ -1,4 +1,5 @@
-"""Who answers before the program is proved. An engine has `what`, a sentence about itself, and `ask`, a run's line.
+"""Who answers before the program is proved. An engine has `what`, a sentence about itself, `ask`, a run's line, and
+`peak`, the most residuals that the run held at a time, if it can tell.
 
 Unproved      the program's own code without its proof, by `rt try`
 Reference     tools/reference, another implementation of document 01
@@ -12,6 +13,7 @@ from trying.children import TooLong, said
 from trying.drawings import LINE, ROOT
 
 PROGRAM = "line_monitor"
+PEAK = re.compile(r"peak (\d+)")
 
 # `rt try` says of each way to run a program whether it wrote what is in the file `stdout`, and else what it wrote
 WAY = re.compile(r"^(?:ok|FAIL): ", re.MULTILINE)
@@ -60,20 +62,30 @@ class Unproved:
             raise NoAnswer(f"rt try says: {text.strip() or 'nothing'}")
         return lines[0]
 
+    def peak(self, _):
+        """The program's line does not have it."""
+        return None
+
 
 class Reference:
     what = "tools/reference, another implementation of document 01: not the program, and not proved"
 
     def __init__(self):
-        self.folder = ROOT / "tools" / "reference"
+        folder = ROOT / "tools" / "reference"
+        self.program = folder / "target" / "release" / "reference"
         if not shutil.which("cargo"):
             raise NoAnswer("cargo is not there")
-        status, text = said(["cargo", "build", "--release", "--offline", "--quiet"], cwd=self.folder)
+        status, text = said(["cargo", "build", "--release", "--offline", "--quiet"], cwd=folder)
         if status != 0:
             raise NoAnswer(f"tools/reference cannot be built:\n{text.strip()}")
 
     def ask(self, run):
-        _, text = said([self.folder / "target" / "release" / "reference", "line", run.input])
+        _, text = said([self.program, "line", run.input])
         if not LINE.fullmatch(text.strip()):
             raise NoAnswer(f"tools/reference says: {text.strip() or 'nothing'}")
         return text.strip()
+
+    def peak(self, run):
+        _, text = said([self.program, "peak", run.input])
+        found = PEAK.fullmatch(text.strip())
+        return found and found[1]

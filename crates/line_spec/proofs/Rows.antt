@@ -31,8 +31,8 @@ use Rattle.monitor_spec.specs.Valid.{memoryFits, memoriesFit, reachAt, reachSum
 use Rattle.monitor_spec.specs.State.{nextVerdict, freshState, stateAfter, areasMeasured, workMeasured, slotCount}
 use Rattle.monitor_spec.specs.State.{counted, holding}
 use Rattle.monitor_spec.specs.State.{even, choose, chunks, fill}
-use Rattle.monitor_spec.specs.Consistent.{every, allZero, ascendsFrom, ascends, verdictFits, recordFits, areaFits}
-use Rattle.monitor_spec.specs.Consistent.{consistent}
+use Rattle.monitor_spec.specs.Consistent.{every, allZero, ascendsFrom, ascends, verdictFits, peakFits, recordFits}
+use Rattle.monitor_spec.specs.Consistent.{areaFits, consistent}
 use Rattle.monitor_spec.specs.Entering.{measuring, judging, entrance, agreeing, entranceOn, entering, refusing}
 use Rattle.monitor_spec.specs.Fold.{through}
 use Rattle.monitor_spec.specs.Feed.{presentSlots, nextSlots, taking, eventRefused, takeEvent, endingOf}
@@ -57,9 +57,8 @@ unfolding flatMap size sizes bodyOf bodyNumber termIn termOfDefs termAt prefixes
     joinTrees plant plantWord forest oneTree slotResidual held digitFits memoryFits memoriesFit reachAt reachSum
     validSlot
     areasMeasured workMeasured slotCount even choose chunks flatten fill
-    every allZero ascendsFrom ascends verdictFits recordFits areaFits consistent through
-    presentSlots nextSlots nextVerdict counted holding freshState stateAfter
-    taking eventRefused takeEvent endingOf feedOf
+    every allZero ascendsFrom ascends verdictFits peakFits recordFits areaFits consistent through
+    presentSlots nextSlots nextVerdict freshState stateAfter counted holding taking eventRefused takeEvent endingOf feedOf
     measuring judging entrance agreeing entranceOn entering refusing startAccepted startOf
     carry later scanWith readNumber byteToken byteTokensWith byteTokens judgeBytes
     cut headBy headOf verdictLine stateLine answerLine fresh monitorLeft startedBy startedLine readLine headLine lineOf

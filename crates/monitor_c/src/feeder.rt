@@ -21,7 +21,7 @@ pub extern "C" fn cspe_feed(
         ≡ feedCall (now (list .entry)) (now («record» .entry)) (now (area0 .entry))
         (now (area1 .entry)) (now (events .entry)) (now (work .entry)) ⌝ }
 {
-    if record.len() != 4 {
+    if record.len() != 5 {
         *place = 0;
         return 1;
     }

@@ -20,7 +20,7 @@ pub extern "C" fn cspe_offer(
         ≡ offerCall (now (list .entry)) (now («record» .entry)) (now (area0 .entry))
         (now (area1 .entry)) (now (work .entry)) ⌝ }
 {
-    if record.len() != 4 {
+    if record.len() != 5 {
         *value = 0;
         return 1;
     }

@@ -16,7 +16,7 @@ pub extern "C" fn cspe_view<'a>(
         ≡ viewCall (now («record» .entry)) (now (area0 .entry)) (now (area1 .entry)) ⌝ }
 {
     *area = 0;
-    if record.len() != 4 {
+    if record.len() != 5 {
         return 0;
     }
     let state = load(record);

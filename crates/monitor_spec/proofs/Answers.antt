@@ -20,7 +20,7 @@ use Rattle.monitor_spec.specs.State.{workMeasured, slotCount, laid}
 use Rattle.monitor_spec.specs.Entering.{refusing}
 use Rattle.monitor_spec.specs.Feed.{takeEvent, endingOf, feedOf}
 use Rattle.monitor_spec.specs.Joined.{extend}
-use Rattle.monitor_spec.specs.Expected.{verdictOf, monitorAfter}
+use Rattle.monitor_spec.specs.Expected.{verdictOf, recordOf, monitorAfter}
 use Rattle.monitor_spec.specs.Expected.Records.{record-verdict}
 use Rattle.monitor_spec.specs.Expected.Steps.{Fed}
 use Rattle.monitor_spec.specs.History.{Leaves}
@@ -29,6 +29,7 @@ use Rattle.monitor_spec.specs.Stops.{Stops, StoppedAt, AnswersOne, Judge
 use Rattle.monitor_spec.proofs.Endings.{T-true, true-T, false-T, not-true, none-answer, some-answer}
 use Rattle.monitor_spec.proofs.Endings.{ending-given, ending-stopped, stops-out, stops-in}
 use Rattle.monitor_spec.proofs.Forms.{given-same, refused-same, stopped-same, refused-given, refused-stopped}
+use Rattle.monitor_spec.proofs.Peaks.{record-greatest}
 use Rattle.monitor_spec.proofs.Verdicts.{judged-running, fails-exactly}
 
 append-cancel : (s u v : List ℕ) → s ++ u ≡ s ++ v → u ≡ v
@@ -207,14 +208,15 @@ module _ (t : Table) (regular : Regular t) (n : ℕ) (s : List ℕ) (fed : Fed t
           gives = (λ h. gives-to (h .0) (h .1), λ h. (_, gives-from (T-true (workMeasured w) (h .0)) (h .1)));
         }
 
-    -- the verdict of a record that is given
-    pub given-verdict : (r : State) → feedOf l M es w .answer ≡ given r → r .verdict ≡ verdictOf t (s ++ es)
+    -- a record that is given, and its verdict
+    pub given-record : (r : State) → feedOf l M es w .answer ≡ given r → r ≡ recordOf t (s ++ es)
     unfolding monitorAfter laid
-    given-verdict r e =
+    given-record r e =
         let (h, x) = gives-to r e in
-        ap (λ (z : State). z .verdict)
-        (given-same r (monitorAfter t n (s ++ es) .state) (sym e ∙ gives-from (T-true (workMeasured w) h) x))
-        ∙ record-verdict t (s ++ es)
+        given-same r (monitorAfter t n (s ++ es) .state) (sym e ∙ gives-from (T-true (workMeasured w) h) x)
+
+    pub given-verdict : (r : State) → feedOf l M es w .answer ≡ given r → r .verdict ≡ verdictOf t (s ++ es)
+    given-verdict r e = ap (λ (z : State). z .verdict) (given-record r e) ∙ record-verdict t (s ++ es)
 
 -- ---- demand 2: one list fed to a fresh monitor
 
@@ -228,5 +230,6 @@ judges-one l ns t says regular n low high fed c H model s w =
           judged-running t regular H model s in (λ x. j .0 (sym g ∙ x), λ x. g ∙ j .1 x);
       fails = λ r e p. let g = given-verdict t regular n [] fed l ns says low high s w r e in let j =
           fails-exactly t regular H model s p in (λ x. j .0 (sym g ∙ x), λ x. g ∙ j .1 x);
+      peaks = λ r e. rw (given-record t regular n [] fed l ns says low high s w r e) (record-greatest t s);
       exceeds = λ p. rw c (answers-one t regular n [] fed l ns says low high s w .stops 13 p);
     }

@@ -21,15 +21,17 @@ use Rattle.monitor_spec.specs.State.{Monitor, Outcome, workMeasured, slo
 use Rattle.monitor_spec.specs.State.Areas.{choose-twice}
 use Rattle.monitor_spec.specs.Entering.{refusing}
 use Rattle.monitor_spec.specs.Feed.{takeEvent, endingOf, feedOf}
-use Rattle.monitor_spec.specs.Joined.{Call, extend, joinCall, joined}
+use Rattle.monitor_spec.specs.Joined.{Call, residualCount, extend, joinCall, joined}
 use Rattle.monitor_spec.specs.Expected.{verdictOf, recordOf, monitorAfter}
 use Rattle.monitor_spec.specs.Expected.Records.{record-taken, record-count, record-verdict}
 use Rattle.monitor_spec.specs.Expected.Laid.{laid-count}
 use Rattle.monitor_spec.specs.Expected.Steps.{Fed, fed-sensible}
-use Rattle.monitor_spec.specs.History.{history, Fresh, start, HoldsJust, Leaves, Eventful, Along, AfterCalls}
+use Rattle.monitor_spec.specs.History.{history, Fresh, start, GreatestOver, HoldsJust, Leaves, Eventful, Along}
+use Rattle.monitor_spec.specs.History.{AfterCalls}
 use Rattle.monitor_spec.specs.History.Laws.{extends, measured, feed-refused, feed-goes, fed-join, call-join}
 use Rattle.monitor_spec.specs.History.Laws.{history-joined, one-goes}
 use Rattle.monitor_spec.specs.History.Begun.{fresh-began}
+use Rattle.monitor_spec.proofs.Peaks.{record-greatest}
 use Rattle.monitor_spec.proofs.Verdicts.{start-formed, judged-running, judged-failed}
 use Rattle.monitor_spec.proofs.Endings.{T-true, true-T, false-T, none-answer, some-answer, stops-out}
 use Rattle.monitor_spec.proofs.Endings.{stops-range}
@@ -55,6 +57,10 @@ module _ (l ns : List ℕ) (t : Table) (says : judgeList l ≡ accepted ns t) (r
   unfolding monitorAfter laid
   taken-after n s = record-taken t s
 
+  peak-after : (n : ℕ) (s : List ℕ) → GreatestOver (residualCount t) s (monitorAfter t n s .state .peak)
+  unfolding monitorAfter laid
+  peak-after n s = record-greatest t s
+
   leaves-after : (n k : ℕ) (s : List ℕ) (o : Outcome)
       → o ≡ endingOf k (record { at = monitorAfter t n s; taken = length s; why = none })
       → Leaves o (monitorAfter t n s)
@@ -78,6 +84,7 @@ module _ (l ns : List ℕ) (t : Table) (says : judgeList l ≡ accepted ns t) (r
         running-chains = (λ e. c .0 (j .0 (sym v ∙ e)), λ x. v ∙ j .1 (c .1 x));
         otherwise = λ x. let (p, e, o) = judged-failed t regular H model s x in (p, v ∙ e, o);
         taken = taken-after n s;
+        peak = peak-after n s;
         holds = holds-after n s;
         one-call = λ work w. leaves-after n (length work) s (feedOf l (monitorAfter t n []) s work)
             (one-goes t regular n l ns says low high calls f work (T-true (workMeasured work) w));

@@ -1,6 +1,6 @@
 -- The worked examples hold, by computing. Assumes nothing.
 use mathlib.Core.Path.{refl}
-use mathlib.Core.List.{flatMap, flatten}
+use mathlib.Core.List.{_++_, flatMap, flatten}
 use Rattle.table.specs.Table.{size, sizes, bodyOf, bodyNumber, termIn, termOfDefs, termAt}
 use Rattle.table.specs.Table.{prefixesIn, enclosingIn, enclosing}
 use Rattle.numbers.specs.Number.{listBytes, bytesOf, groups}
@@ -33,8 +33,8 @@ use Rattle.monitor_spec.specs.Valid.{memoryFits, memoriesFit, reachAt, r
 use Rattle.monitor_spec.specs.State.{nextVerdict, freshState, stateAfter, areasMeasured, workMeasured, slotCount}
 use Rattle.monitor_spec.specs.State.{counted, holding}
 use Rattle.monitor_spec.specs.State.{even, choose, chunks, fill}
-use Rattle.monitor_spec.specs.Consistent.{every, allZero, ascendsFrom, ascends, verdictFits, recordFits, areaFits}
-use Rattle.monitor_spec.specs.Consistent.{consistent}
+use Rattle.monitor_spec.specs.Consistent.{every, allZero, ascendsFrom, ascends, verdictFits, peakFits, recordFits}
+use Rattle.monitor_spec.specs.Consistent.{areaFits, consistent}
 use Rattle.monitor_spec.specs.Entering.{measuring, judging, entrance, agreeing, entranceOn, entering, refusing}
 use Rattle.monitor_spec.specs.Fold.{through}
 use Rattle.monitor_spec.specs.Feed.{presentSlots, nextSlots, taking, eventRefused, takeEvent}
@@ -46,6 +46,7 @@ use Rattle.monitor_spec.specs.View.{partBy, viewPart, wordsIn, viewOf}
 use Rattle.monitor_spec.specs.History.{standing, callOn, history}
 use Rattle.monitor_spec.specs.Examples.{drawn, feedAfter, startAndFeed, rows, saysAll}
 use Rattle.monitor_spec.specs.Cases.{fed, afterCalls, afterStart, cases, casesHold}
+use Rattle.monitor_spec.specs.PeakCases.{peakCases}
 use Rattle.monitor_spec.specs.Buffers.{deep, BuffersStand}
 
 pub marked : saysAll rows
@@ -62,13 +63,12 @@ unfolding flatMap size sizes bodyOf bodyNumber termIn termOfDefs termAt prefixes
     joinTrees plant plantWord forest oneTree slotResidual held digitFits memoryFits memoriesFit reachAt reachSum
     validSlot
     areasMeasured workMeasured slotCount even choose chunks flatten fill
-    every allZero ascendsFrom ascends verdictFits recordFits areaFits consistent through
-    presentSlots nextSlots nextVerdict counted holding freshState stateAfter
-    taking eventRefused takeEvent endingOf feedOf
+    every allZero ascendsFrom ascends verdictFits peakFits recordFits areaFits consistent through
+    presentSlots nextSlots nextVerdict freshState stateAfter counted holding taking eventRefused takeEvent endingOf feedOf
     measuring judging entrance agreeing entranceOn entering refusing startAccepted startOf drawn feedAfter startAndFeed
 marked = refl
 
-pub further : casesHold cases
+pub further : casesHold (cases ++ peakCases)
 unfolding flatMap size sizes bodyOf bodyNumber termIn termOfDefs termAt prefixesIn enclosingIn enclosing
     listBytes bytesOf groups listTokens trailing placeOf number pure next andThen times
     events row setOfKind eventSet refOfKind setRef termOfKind termWith definition definitionsOf table
@@ -82,9 +82,8 @@ unfolding flatMap size sizes bodyOf bodyNumber termIn termOfDefs termAt prefixes
     joinTrees plant plantWord forest oneTree slotResidual held digitFits memoryFits memoriesFit reachAt reachSum
     validSlot
     areasMeasured workMeasured slotCount even choose chunks flatten fill
-    every allZero ascendsFrom ascends verdictFits recordFits areaFits consistent through
-    presentSlots nextSlots nextVerdict counted holding freshState stateAfter
-    taking eventRefused takeEvent endingOf feedOf
+    every allZero ascendsFrom ascends verdictFits peakFits recordFits areaFits consistent through
+    presentSlots nextSlots nextVerdict freshState stateAfter counted holding taking eventRefused takeEvent endingOf feedOf
     measuring judging entrance agreeing entranceOn entering refusing startAccepted startOf drawn feedAfter startAndFeed
     standing callOn history fed afterCalls afterStart
 further = refl
@@ -103,9 +102,8 @@ unfolding flatMap size sizes bodyOf bodyNumber termIn termOfDefs termAt prefixes
     joinTrees plant plantWord forest oneTree slotResidual held digitFits memoryFits memoriesFit reachAt reachSum
     validSlot
     areasMeasured workMeasured slotCount even choose chunks flatten fill
-    every allZero ascendsFrom ascends verdictFits recordFits areaFits consistent through
-    presentSlots nextSlots nextVerdict counted holding freshState stateAfter
-    taking eventRefused takeEvent endingOf feedOf
+    every allZero ascendsFrom ascends verdictFits peakFits recordFits areaFits consistent through
+    presentSlots nextSlots nextVerdict freshState stateAfter counted holding taking eventRefused takeEvent endingOf feedOf
     measuring judging entrance agreeing entranceOn entering refusing startAccepted startOf drawn feedAfter startAndFeed
     bitOf bitsBelow offerBits offering offerOf partBy viewPart wordsIn viewOf deep
 outcomes-stand = (refl, refl, refl)

@@ -1,5 +1,5 @@
 -- Start on every input: which refusal it gives and what it leaves, case by case. Assumes nothing.
-use Prim.Native.Nat.{ℕ, _-_, _*_, _/_, _≤_, _<_}
+use Prim.Native.Nat.{ℕ, max, _-_, _*_, _/_, _≤_, _<_}
 use native.Mathlib.Omega.{arith}
 use mathlib.Core.Path.{_≡_, refl, ap, sym, _∙_}
 use mathlib.Core.Bool.{Bool, true, false}
@@ -146,6 +146,9 @@ module _ (l a b w : List ℕ) where
 
   -- ---- what is given
 
+  zero-max : (n : ℕ) → max 0 n ≡ n
+  zero-max n = omega arith
+
   gives-to : (m : Monitor) → Fresh l a b w m → Case → Starts l a b w m
   unfolding begun record0 residualCount freshState holding
   gives-to m f (case-1 x) = refused-given 1 0 (m .state) (says-refused 1 0 a b w (on-1 x)) (f .gave)
@@ -163,6 +166,7 @@ module _ (l a b w : List ℕ) where
         room = h;
         taken = ap (λ (z : State). z .taken) s;
         count = ap (λ (z : State). z .count) s;
+        peak = ap (λ (z : State). z .peak) s ∙ zero-max _;
         first = sym (f .gave0) ∙ ap (λ (z : Outcome). z .area0) e;
         second = sym (f .gave1) ∙ ap (λ (z : Outcome). z .area1) e;
         verdict = ap (λ (z : State). z .verdict) s ∙ verdict-by (residualsOf t []) 0;
@@ -175,6 +179,7 @@ module _ (l a b w : List ℕ) where
       let e = on-room (s .measured) l t (is-table-in l t (s .is-table)) (s .room) in
       let q : record0 t ≡ m .state =
       state-path (record0 t) (m .state) (sym (s .taken)) (sym (s .count))
+      (zero-max _ ∙ sym (s .peak))
       (verdict-by (residualsOf t []) 0 ∙ sym (s .verdict)) in
       record {
         gave = says-room t e ∙ ap given q;

@@ -23,13 +23,14 @@ use Rattle.monitor_spec.specs.Proper.{Kept}
 use Rattle.monitor_spec.specs.Proper.Laws.{resolve-kept}
 use Rattle.monitor_spec.specs.Valid.Laws.{valid-proper, proper-valid}
 use Rattle.monitor_spec.specs.Valid.Residuals.{read-back}
-use Rattle.monitor_spec.specs.State.{Monitor, areasMeasured, workMeasured, slotCount}
+use Rattle.monitor_spec.specs.State.{Monitor, areasMeasured, workMeasured, slotCount, laid}
 use Rattle.monitor_spec.specs.Consistent.{consistent}
 use Rattle.monitor_spec.specs.Consistent.Reading.{consistent-laid}
 use Rattle.monitor_spec.specs.Consistent.Laws.{laid-still}
 use Rattle.monitor_spec.specs.Views.Laws.{part-way}
 use Rattle.monitor_spec.specs.Joined.{residualCount, joined}
-use Rattle.monitor_spec.specs.Expected.{monitorAfter}
+use Rattle.monitor_spec.specs.Expected.{recordOnward, monitorOnward, monitorAfter}
+use Rattle.monitor_spec.specs.Expected.Peaks.{peak-grows, peak-over, peak-stands}
 use Rattle.monitor_spec.specs.Stops.{JudgesOne}
 use Rattle.monitor_spec.specs.Expected.Steps.{Fed}
 use Rattle.monitor_spec.specs.History.Laws.{fed-joined}
@@ -39,7 +40,7 @@ use Rattle.monitor_spec.specs.Claims.{CallsResolve, ResolvesReach}
 use Rattle.monitor_spec.specs.Claims.{SlotsTell, SlotsOnce, ValidExactly, ConsistentExactly}
 use Rattle.monitor_spec.specs.Claims.{StartRefusedExactly, StartGives, StartAnswers, StartBuffers, StartExceeds}
 use Rattle.monitor_spec.specs.Claims.{FeedRefusedExactly, FeedStopsExactly, FeedGivesExactly, FeedBuffers}
-use Rattle.monitor_spec.specs.Claims.{StartFits, OfferRefusedExactly, OfferBits, OfferBuffers, ViewsPart}
+use Rattle.monitor_spec.specs.Claims.{StartFits, FeedPeaks, OfferRefusedExactly, OfferBits, OfferBuffers, ViewsPart}
 use Rattle.monitor_spec.specs.Claims.{Judges, Answers, Histories, OffersTraces, ViewsResiduals, FeedKeeps}
 use Rattle.monitor_spec.specs.Claims.{Examples, Cases, Buffers}
 use Rattle.monitor_spec.proofs.Endings.{T-true, true-T}
@@ -146,6 +147,19 @@ feed-stops-exactly l m es w = feed-stops l m es w
 pub feed-gives-exactly : FeedGivesExactly
 unfolding FeedGivesExactly
 feed-gives-exactly l m es w = feed-gives l m es w
+
+pub feed-peaks : FeedPeaks
+unfolding FeedPeaks monitorOnward recordOnward laid
+feed-peaks t n m x es =
+    let p : ℕ = m .state .peak in
+    let rs : List Residual = x .residuals in
+    let c = x .sensible .counted in
+    let low = x .sensible .peak-low in
+    record {
+      before = peak-grows t es p rs;
+      bounds = λ k. peak-over t es k p rs (omega arith);
+      reached = peak-stands t es p rs;
+    }
 
 pub offer-refused-exactly : OfferRefusedExactly
 unfolding OfferRefusedExactly

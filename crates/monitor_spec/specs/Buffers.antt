@@ -18,7 +18,7 @@ use Rattle.monitor_spec.specs.Offer as Offer
 use Rattle.monitor_spec.specs.Offer.{OfferOutcome, offerOf}
 use Rattle.monitor_spec.specs.View.{Part, viewPart, viewOf}
 use Rattle.monitor_spec.specs.Examples.{tableB, drawn, a, b}
-use Rattle.monitor_spec.specs.Cases.{st, oneNode, threeNodes, word}
+use Rattle.monitor_spec.specs.Cases.{peaked, st, oneNode, threeNodes, word}
 
 -- words that nobody wrote
 abbrev sevens : ℕ → List ℕ
@@ -118,7 +118,7 @@ outcomes =
     (given (st 0 1 running)) fullSlot (zeros 16) (zeros 8192)
     -- failed: both areas zero
     ∷ leaves (feedOf tableB (mon 4 1 running (oneNode 0) (zeros 16)) (2 ∷ []) (sevens 8192))
-    (given (st 5 0 (failedAt 5))) (zeros 16) (zeros 16) (zeros 8192)
+    (given (peaked 5 0 1 (failedAt 5))) (zeros 16) (zeros 16) (zeros 8192)
     -- two slots ascending, and the same descending
     ∷ leaves (feedOf seven (mon 0 2 running both (zeros 32)) [] (sevens 8192))
     (given (st 0 2 running)) both (zeros 32) (zeros 8192)

@@ -26,11 +26,18 @@ pub record Case : Type 0 where
 abbrev pub is : Answer → Answer → Case
 is x y = record { got = x; expected = y }
 
+-- a record whose peak is p; one whose peak is its count
+abbrev pub peaked : ℕ → ℕ → ℕ → Verdict → State
+peaked k c p v = record { taken = k; count = c; peak = p; verdict = v }
+
 abbrev pub st : ℕ → ℕ → Verdict → State
-st k c v = record { taken = k; count = c; verdict = v }
+st k c v = peaked k c c v
+
+abbrev pub saidPeak : ℕ → ℕ → ℕ → Verdict → Answer
+saidPeak k c p v = given (peaked k c p v)
 
 abbrev pub said : ℕ → ℕ → Verdict → Answer
-said k c v = given (st k c v)
+said k c v = saidPeak k c c v
 
 -- Feed on a record and two areas, as they are
 unfoldable pub fed : List ℕ → State → List ℕ → List ℕ → List ℕ → Answer
@@ -120,7 +127,7 @@ either p = prefix (fixed 3) p
 abbrev mixed : List ℕ
 mixed = drawn (choice (a stop) (par (fixed 2) (a stop) (a stop)))
 
-abbrev eight : List ℕ
+abbrev pub eight : List ℕ
 eight = drawn (par (fixed 2) (a stop) (a stop))
 
 -- an event set of a parameter k, behind four prefixes
@@ -133,33 +140,33 @@ cases =
     is (startAndFeed 4 twice (0 ∷ 1 ∷ [])) (said 2 2 running)
     -- a pair's memory is "kept through later events"
     ∷ is (startAndFeed 4 rowed (0 ∷ 1 ∷ [])) (said 2 1 running)
-    ∷ is (startAndFeed 4 rowed (0 ∷ 1 ∷ 1 ∷ [])) (said 3 0 (failedAt 3))
+    ∷ is (startAndFeed 4 rowed (0 ∷ 1 ∷ 1 ∷ [])) (saidPeak 3 0 1 (failedAt 3))
     ∷ is (startAndFeed 4 rowed (1 ∷ 1 ∷ [])) (said 2 2 running)
-    ∷ is (startAndFeed 4 rowed (1 ∷ 1 ∷ 1 ∷ 1 ∷ [])) (said 4 1 running)
+    ∷ is (startAndFeed 4 rowed (1 ∷ 1 ∷ 1 ∷ 1 ∷ [])) (saidPeak 4 1 2 running)
     -- "A residual already held is not held twice": the same from both sides
     ∷ is (startAndFeed 1 loops (0 ∷ [])) (said 1 1 running)
     -- a follower may call a higher definition number
     ∷ is (startAndFeed 1 higher (0 ∷ [])) (said 1 1 running)
-    ∷ is (startAndFeed 1 higher (0 ∷ 0 ∷ [])) (said 2 0 (failedAt 2))
+    ∷ is (startAndFeed 1 higher (0 ∷ 0 ∷ [])) (saidPeak 2 0 1 (failedAt 2))
     -- "memory (e, m0, m1, m2)": parameters 0 and 3
     ∷ is (startAndFeed 1 (behind 0) (1 ∷ 1 ∷ 1 ∷ 0 ∷ 1 ∷ [])) (said 5 1 running)
     ∷ is (startAndFeed 1 (behind 3) (0 ∷ 1 ∷ 1 ∷ 1 ∷ 1 ∷ [])) (said 5 1 running)
-    ∷ is (startAndFeed 1 (behind 3) (0 ∷ 1 ∷ 1 ∷ 1 ∷ 0 ∷ [])) (said 5 0 (failedAt 5))
+    ∷ is (startAndFeed 1 (behind 3) (0 ∷ 1 ∷ 1 ∷ 1 ∷ 0 ∷ [])) (saidPeak 5 0 1 (failedAt 5))
     -- "Later events are taken; the place stays."
-    ∷ is (startAndFeed 1 tableB (0 ∷ 0 ∷ 1 ∷ [])) (said 3 0 (failedAt 2))
+    ∷ is (startAndFeed 1 tableB (0 ∷ 0 ∷ 1 ∷ [])) (saidPeak 3 0 1 (failedAt 2))
     -- 11: place "events taken by this call", also after failure
     ∷ is (startAndFeed 1 tableB (0 ∷ 9 ∷ 1 ∷ [])) (stopped 11 1 (st 1 1 running))
-    ∷ is (startAndFeed 1 tableB (1 ∷ 3 ∷ [])) (stopped 11 1 (st 1 0 (failedAt 1)))
+    ∷ is (startAndFeed 1 tableB (1 ∷ 3 ∷ [])) (stopped 11 1 (peaked 1 0 1 (failedAt 1)))
     -- 13 at place 0 and at place 1: K8, and 1 to K8
     ∷ is (startAndFeed 1 (drawn (par (fixed 2) (a stop) (a stop))) (0 ∷ [])) (stopped 13 0 (st 0 1 running))
     ∷ is (startAndFeed 1 (drawn (b (par (fixed 2) (a stop) (a stop)))) (1 ∷ 0 ∷ [])) (stopped 13 1 (st 1 1 running))
     -- lists of calls: one event at a time; a refused event is left out; a wrong work length adds none
     ∷ is (afterStart 1 tableB []) (said 0 1 running)
-    ∷ is (afterStart 1 tableB (feeds (0 ∷ []) ∷ feeds (0 ∷ []) ∷ [])) (said 2 0 (failedAt 2))
+    ∷ is (afterStart 1 tableB (feeds (0 ∷ []) ∷ feeds (0 ∷ []) ∷ [])) (saidPeak 2 0 1 (failedAt 2))
     ∷ is (afterStart 1 tableB (feeds (0 ∷ 9 ∷ []) ∷ feeds [] ∷ feeds (1 ∷ 0 ∷ []) ∷ [])) (said 3 1 running)
     ∷ is (afterStart 1 tableB (feeds (0 ∷ []) ∷ short (0 ∷ []) ∷ feeds (1 ∷ []) ∷ [])) (said 2 1 running)
     ∷ is (afterStart 1 (drawn (b (par (fixed 2) (a stop) (a stop)))) (feeds (1 ∷ 0 ∷ []) ∷ feeds (2 ∷ []) ∷ []))
-    (said 2 0 (failedAt 2))
+    (saidPeak 2 0 1 (failedAt 2))
     -- the counter: 11 before 12, 12 only with an event; 2^64-2 and 2^64-1
     ∷ is (fed tableB (st counterMost 1 running) (zeros 16) (oneNode 0) []) (said counterMost 1 running)
     ∷ is (fed tableB (st counterMost 1 running) (zeros 16) (oneNode 0) (3 ∷ []))

@@ -10,6 +10,7 @@
 --     ConsistentExactly       the consistent monitors are those laid out of proper residuals
 --     StartRefusedExactly, StartGives, StartAnswers           demand 1, on every input: Start
 --     FeedRefusedExactly, FeedStopsExactly, FeedGivesExactly  Feed
+--     FeedPeaks                                               the peak that Feed leaves
 --     OfferRefusedExactly, OfferBits                          Offer
 --     StartBuffers, FeedBuffers, OfferBuffers                 areas and work words on every input
 --     ViewsPart               View, on every input: which area, how many words, and which
@@ -23,7 +24,7 @@
 -- Every claim along a history is about a number list l that the table layer accepts as the table t. Assumes nothing.
 use Prim.Native.Nat.{ℕ, _≤_, _<_}
 use mathlib.Core.Path.{_≡_}
-use mathlib.Core.List.{List, [], flatten}
+use mathlib.Core.List.{List, [], _++_, flatten}
 use mathlib.Core.Option.{some}
 use mathlib.Core.Logic.{_↔_}
 use lib.ListN.{length}
@@ -54,14 +55,16 @@ use Rattle.monitor_spec.specs.Joined.{Call, residualCount, joined}
 use Rattle.monitor_spec.specs.Meaning.{denote, Sound, Some}
 use Rattle.monitor_spec.specs.Proper.{Remembers, Proper}
 use Rattle.monitor_spec.specs.Sensible.{Laid}
+use Rattle.monitor_spec.specs.Expected.{monitorOnward}
 use Rattle.monitor_spec.specs.Refusals.{StartRefused, Starts, CallRefused, Offers, WorkLeft}
-use Rattle.monitor_spec.specs.Progress.{LeavesAt, FeedStops, FeedGives}
+use Rattle.monitor_spec.specs.Progress.{LeavesAt, PeakOnward, FeedStops, FeedGives}
 use Rattle.monitor_spec.specs.History.{callOn, history, Fresh, slotsLent, start, Leaves, Along, AfterCalls}
 use Rattle.monitor_spec.specs.Stops.{AnswersOne, JudgesOne}
 use Rattle.monitor_spec.specs.Offers.{OffersJust}
 use Rattle.monitor_spec.specs.Views.{PartWay}
 use Rattle.monitor_spec.specs.Examples.{rows, saysAll}
 use Rattle.monitor_spec.specs.Cases.{cases, casesHold}
+use Rattle.monitor_spec.specs.PeakCases.{peakCases}
 use Rattle.monitor_spec.specs.Buffers.{BuffersStand}
 
 -- The trace set of some residual holds the list exactly when the residuals after it are not empty.
@@ -155,6 +158,13 @@ unfoldable pub FeedGivesExactly : Type 0
 FeedGivesExactly =
     (l : List ℕ) (m : Monitor) (es w : List ℕ) (left : Monitor)
     → Leaves (feedOf l m es w) left ↔ FeedGives l m es w left
+
+-- 02, W1: the peak of the record that `FeedStops` and `FeedGives` leave
+unfoldable pub FeedPeaks : Type 0
+FeedPeaks =
+    (t : Table) (n : ℕ) (m : Monitor) (x : Laid t n m) (es : List ℕ)
+    → PeakOnward t (m .state .peak) (x .residuals) es
+    (monitorOnward t n (m .state) (x .residuals) es .state .peak)
 
 unfoldable pub OfferRefusedExactly : Type 0
 OfferRefusedExactly =
@@ -258,7 +268,7 @@ unfoldable pub Examples : Type 0
 Examples = saysAll rows
 
 unfoldable pub Cases : Type 0
-Cases = casesHold cases
+Cases = casesHold (cases ++ peakCases)
 
 unfoldable pub Buffers : Type 0
 Buffers = BuffersStand

@@ -37,8 +37,12 @@ unfoldable pub verdictFits : Verdict → ℕ → ℕ → ℕ → Bool
 verdictFits running k c n = ltb 0 c && not (ltb n c)
 verdictFits (failedAt p) k c n = not (ltb k p) && eqb c 0
 
+-- 02, W1: "A record whose peak is below its count, or above the slots, is disturbed."
+unfoldable pub peakFits : ℕ → ℕ → ℕ → Bool
+peakFits p c n = not (ltb p c) && not (ltb n p)
+
 unfoldable pub recordFits : State → ℕ → Bool
-recordFits s n = verdictFits (s .verdict) (s .taken) (s .count) n
+recordFits s n = verdictFits (s .verdict) (s .taken) (s .count) n && peakFits (s .peak) (s .count) n
 
 -- "that many ascending valid slots (none after failure) and then zeros"
 unfoldable pub areaFits : Table → ℕ → List ℕ → Bool

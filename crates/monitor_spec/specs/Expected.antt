@@ -1,10 +1,11 @@
 -- The monitor that a list of events calls for, from the residuals alone (ours; 01, "Operations", "Joined events").
 --     verdictFrom      running, or failed at the length of the first beginning with no residual
 --     recordOf         the record of a list;  monitorAfter: record and areas after a list, with n slots
---     verdictOnward, recordOnward, monitorOnward    the same from any record and residuals held
--- The laws are in `Expected/`: `Verdicts`, `Records`, `Laid`, `Steps`; from any residuals, in `Progress/Laws.antt`.
--- Assumes nothing.
-use Prim.Native.Nat.{ℕ, suc, _+_}
+--     verdictOnward, peakOnward, recordOnward, monitorOnward
+--                      the same from any record and residuals held
+-- The laws are in `Expected/`: `Verdicts`, `Peaks`, `Records`, `Laid`, `Steps`; from any residuals, in
+-- `Progress/Laws.antt`. Assumes nothing.
+use Prim.Native.Nat.{ℕ, suc, max, _+_}
 use mathlib.Core.List.{List, [], _∷_}
 use lib.ListN.{length}
 use Rattle.table.specs.Table.{Table}
@@ -13,6 +14,7 @@ use Rattle.residuals.specs.Residual.{Residual, resolveDef, afterAll, run, resid
 use Rattle.residuals.specs.Slots.{slotsOf}
 use Rattle.monitor_spec.specs.State.{Verdict, running, failedAt, State, freshState, Monitor, laid}
 pub mod Verdicts
+pub mod Peaks
 pub mod Records
 pub mod Laid
 pub mod Steps
@@ -33,6 +35,12 @@ unfoldable pub verdictOnward : Table → Verdict → List Residual → ℕ → L
 verdictOnward t (failedAt p) rs k es = failedAt p
 verdictOnward t running rs k es = verdictFrom t rs k es
 
+-- from the peak p and the residuals rs: the larger of p and of the counts after each event
+unfoldable pub peakOnward : Table → ℕ → List Residual → List ℕ → ℕ
+peakOnward t p rs [] = p
+peakOnward t p rs (e ∷ es) =
+    peakOnward t (max p (length (slotsOf (afterAll t e rs)))) (afterAll t e rs) es
+
 -- the record after the events es, from the record s and the residuals rs: "The record holds taken, residual count, and
 -- running or failed at a place."
 unfoldable pub recordOnward : Table → State → List Residual → List ℕ → State
@@ -40,6 +48,7 @@ recordOnward t s rs es =
     record {
       taken = s .taken + length es;
       count = length (slotsOf (run t rs es));
+      peak = peakOnward t (s .peak) rs es;
       verdict = verdictOnward t (s .verdict) rs (s .taken) es;
     }
 

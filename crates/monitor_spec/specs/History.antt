@@ -2,6 +2,7 @@
 --     callOn, history      a monitor after one call; after a list of calls
 --     Fresh                what a Start gave that was not refused
 --     ShortestOutside      the length of a list's shortest beginning outside a trace set
+--     GreatestOver         the greatest value over a list's beginnings
 --     HoldsJust, Leaves    count, present area and other area are those of residuals; record and areas are an
 --                          outcome's
 --     Eventful, Along      no call of a list is refused with 2 to 10
@@ -23,7 +24,7 @@ use Rattle.monitor_spec.specs.State.{running, failedAt, State, Monitor, 
 use Rattle.monitor_spec.specs.State.{workMeasured, slotCount, even, choose, fill}
 use Rattle.monitor_spec.specs.Start.{startOf}
 use Rattle.monitor_spec.specs.Feed.{feedOf}
-use Rattle.monitor_spec.specs.Joined.{Call}
+use Rattle.monitor_spec.specs.Joined.{Call, residualCount}
 pub mod Laws
 pub mod Begun
 
@@ -64,6 +65,11 @@ pub record ShortestOutside (X : TraceSet) (s : List ℕ) (n : ℕ) : Type 0 wher
   pub outside : X (take n s) → ⊥
   pub inside : (k : ℕ) → k < n → X (take k s)
 
+-- 02, W1: "the greatest .. over all beginnings": of a list s, the empty one and the whole included
+pub record GreatestOver (f : List ℕ → ℕ) (s : List ℕ) (p : ℕ) : Type 0 where
+  pub bounds : (k : ℕ) → f (take k s) ≤ p
+  pub reached : (k : ℕ) × (f (take k s) ≡ p)
+
 -- "the record's count is their number, the present area has their slots and then zeros, the other area zeros": n
 -- slots
 pub record HoldsJust (n : ℕ) (rs : List Residual) (m : Monitor) : Type 0 where
@@ -100,6 +106,8 @@ pub record AfterCalls (l : List ℕ) (t : Table) (H : Term → TraceSet) (n : �
   pub otherwise : (H (start t) s → ⊥) → (p : ℕ) × (m .state .verdict ≡ failedAt p) × ShortestOutside (H (start t)) s p
   -- "Taken is their number"
   pub taken : m .state .taken ≡ length s
+  -- 02, W1: "after a list of calls the greatest count over all beginnings of the joined events"
+  pub peak : GreatestOver (residualCount t) s (m .state .peak)
   -- "and the monitor holds just their residuals"
   pub holds : HoldsJust n (residualsOf t s) m
   -- "Record and both areas equal what one feeding call on them all, from the same fresh monitor, leaves"; 01: "The

@@ -23,6 +23,7 @@ pub mod Offers
 pub mod Views
 pub mod Examples
 pub mod Cases
+pub mod PeakCases
 pub mod Buffers
 pub mod Claims
 pub mod Regular

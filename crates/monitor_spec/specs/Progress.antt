@@ -3,12 +3,14 @@
 --     Meets, Passes    an event meets 11, 12 or 13; the events of a list meet none
 --     HaltsAt          the first event that meets one, at its place
 --     LeavesAt         a refusal with a record: number, place, record and areas
+--     PeakOnward       the peak after a list of events, from any before it
 --     FeedStops        the call stops at an event;  FeedGives: it takes all events
 -- The laws are in `Progress/Laws.antt`. Assumes nothing.
 use Prim.Native.Nat.{ℕ, suc, _+_, _≤_, _<_}
 use mathlib.Core.Path.{_≡_}
 use mathlib.Core.List.{List, [], _∷_, _++_}
-use lib.ListN.{length}
+use mathlib.Core.Logic.{_⊎_}
+use lib.ListN.{length, take}
 use Rattle.table.specs.Table.{Table}
 use Rattle.residuals.specs.Residual.{Residual, afterAll, run}
 use Rattle.residuals.specs.Slots.{slotsOf}
@@ -52,6 +54,13 @@ pub record LeavesAt (o : Outcome) (number place : ℕ) (m : Monitor) : Type 0 wh
   pub record-same : o .answer ≡ stopped number place (m .state)
   pub area0-same : o .area0 ≡ m .area0
   pub area1-same : o .area1 ≡ m .area1
+
+-- 02, W1: "the largest residual count since Start, the present one included": from a peak p and residuals rs, after the
+-- events es it is q
+pub record PeakOnward (t : Table) (p : ℕ) (rs : List Residual) (es : List ℕ) (q : ℕ) : Type 0 where
+  pub before : p ≤ q
+  pub bounds : (k : ℕ) → length (slotsOf (run t rs (take k es))) ≤ q
+  pub reached : (q ≡ p) ⊎ ((k : ℕ) × (length (slotsOf (run t rs (take k es))) ≡ q))
 
 -- the call on m stops at an event, and leaves the monitor that the events before it call for
 pub record FeedStops (l : List ℕ) (m : Monitor) (es w : List ℕ) (number place : ℕ) (left : Monitor) : Type 0 where

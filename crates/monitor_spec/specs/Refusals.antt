@@ -62,6 +62,8 @@ pub record Starts (l a b w : List ℕ) (m : Monitor) : Type 0 where
   -- "Start settles the last definition into area 0, zeroes area 1, taken 0."
   pub taken : m .state .taken ≡ 0
   pub count : m .state .count ≡ residualCount table []
+  -- 02, W1: "the largest residual count since Start, the present one included"
+  pub peak : m .state .peak ≡ residualCount table []
   pub first : m .area0 ≡ fill (slotCount a) (slotsOf (residualsOf table []))
   pub second : m .area1 ≡ fill (slotCount a) []
   -- "An empty set means failed, at .. (0 at Start)"

@@ -27,6 +27,9 @@ pub record Sensible (t : Table) (n : ℕ) (s : State) (rs : List Residual) : Typ
   -- "that many"
   pub counted : s .count ≡ length (slotsOf rs)
   pub agrees : Agrees (s .taken) rs (s .verdict)
+  -- 02, W1: "A record whose peak is below its count, or above the slots, is disturbed."
+  pub peak-low : s .count ≤ s .peak
+  pub peak-high : s .peak ≤ n
 
 -- "that many ascending valid slots (none after failure) and then zeros; .. the other area not zero"
 pub record Laid (t : Table) (n : ℕ) (m : Monitor) : Type 0 where

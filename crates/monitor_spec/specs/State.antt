@@ -7,7 +7,7 @@
 --     even, choose                     which area is present
 --     chunks, fill, laid               an area's slots; slots and then zeros; a record with its slots laid out
 -- The laws are in `State/`: `Records`, `Areas`. Assumes nothing.
-use Prim.Native.Nat.{ℕ, zero, suc, _-_, _*_, _/_, _%_}
+use Prim.Native.Nat.{ℕ, zero, suc, max, _-_, _*_, _/_, _%_}
 use mathlib.Core.Bool.{Bool, true, false, _&&_}
 use mathlib.Core.List.{List, [], _∷_, _++_, flatten}
 use lib.ListN.{length, take, drop}
@@ -21,10 +21,12 @@ pub data Verdict : Type 0 where
   running : Verdict
   failedAt : ℕ → Verdict
 
--- "The record holds taken, residual count, and running or failed at a place."
+-- "The record holds taken, residual count, and running or failed at a place."; 02, W1: "The state record gains the
+-- largest residual count since Start, the present one included"
 pub record State : Type 0 where
   pub taken : ℕ
   pub count : ℕ
+  pub peak : ℕ
   pub verdict : Verdict
 
 -- "An empty set means failed, at taken with that event counted (0 at Start)."; "Later events are taken; the place
@@ -36,15 +38,21 @@ nextVerdict running k (suc n) = running
 
 -- one event more is taken
 unfoldable pub counted : State → State
-counted s = record { taken = suc (s .taken); count = s .count; verdict = s .verdict }
+counted s = record { taken = suc (s .taken); count = s .count; peak = s .peak; verdict = s .verdict }
 
--- n residuals are held
+-- n residuals are held: 02, W1: "the largest .., the present one included"
 unfoldable pub holding : State → ℕ → State
-holding s n = record { taken = s .taken; count = n; verdict = nextVerdict (s .verdict) (s .taken) n }
+holding s n =
+    record {
+      taken = s .taken;
+      count = n;
+      peak = max (s .peak) n;
+      verdict = nextVerdict (s .verdict) (s .taken) n;
+    }
 
 -- "taken 0": with n residuals
 unfoldable pub freshState : ℕ → State
-freshState n = holding (record { taken = 0; count = 0; verdict = running }) n
+freshState n = holding (record { taken = 0; count = 0; peak = 0; verdict = running }) n
 
 -- one event more is taken, and leaves n residuals
 unfoldable pub stateAfter : State → ℕ → State

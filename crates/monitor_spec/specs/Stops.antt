@@ -2,7 +2,7 @@
 --     Stops         refusal 11, 12 or 13 is met at an event, after a list
 --     StoppedAt     so at a place of a call's events, and at none before it
 --     AnswersOne    the answers of a call along a history, exactly
---     JudgesOne     running, failed at n and capacity exceeded, exactly
+--     JudgesOne     running, failed at n and capacity exceeded, exactly; the peak
 -- Assumes nothing.
 use Prim.Native.Nat.{ℕ, _≤_, _<_}
 use mathlib.Core.Path.{_≡_}
@@ -16,7 +16,7 @@ use Rattle.meaning.specs.Figure2.{TraceSet}
 use Rattle.monitor_spec.specs.State.{running, failedAt, State, Monitor, given, refused, stopped, workMeasured}
 use Rattle.monitor_spec.specs.Feed.{counterMost, feedOf}
 use Rattle.monitor_spec.specs.Joined.{residualCount, extend}
-use Rattle.monitor_spec.specs.History.{slotsLent, start, ShortestOutside, Leaves}
+use Rattle.monitor_spec.specs.History.{slotsLent, start, ShortestOutside, GreatestOver, Leaves}
 
 -- after the joined events s, with n slots: "per event 11, 12, 13"
 pub data Stops (t : Table) (n : ℕ) (s : List ℕ) (e : ℕ) : ℕ → Type 0 where
@@ -64,6 +64,8 @@ pub record JudgesOne (l : List ℕ) (t : Table) (H : Term → TraceSet) (fresh :
   -- "and failed at n exactly when n is the length of its shortest beginning outside that set"
   pub fails : (r : State) → feedOf l fresh s work .answer ≡ given r → (p : ℕ)
       → (r .verdict ≡ failedAt p) ↔ ShortestOutside (H (start t)) s p
+  -- 02, W1: "the greatest count over all beginnings"
+  pub peaks : (r : State) → feedOf l fresh s work .answer ≡ given r → GreatestOver (residualCount t) s (r .peak)
   -- "Crowded is said exactly when, with nothing earlier in document 01's order to refuse, its residuals, .. after an
   -- event, outnumber the slots lent"
   pub exceeds : (place : ℕ) → ((r : State) × (feedOf l fresh s work .answer ≡ stopped 13 place r))

@@ -1,6 +1,6 @@
 // An answer and what a call leaves in the lent areas, held to what is stored (01, "Operations",
 // "When the monitor declines").
-//     judge            of Start and Feed: NUMBER PLACE HAS TAKEN COUNT FAILED AT DIGEST KEPT
+//     judge            of Start and Feed: NUMBER PLACE HAS TAKEN COUNT PEAK FAILED AT DIGEST KEPT
 //     judge_offered    of Offer: NUMBER PLACE MASK DIGEST KEPT
 //     judge_part       of View: AREA LENGTH
 use crate::areas;
@@ -59,7 +59,16 @@ fn next_lent(f: Fields, l: Lent) -> Lent {
 // The stored numbers begin with the answer's.
 fn answer_right(f: Fields, stored: &[u64]) -> bool {
     let r = f.record;
-    let answer = [f.number, f.place, f.has, r.taken, r.count, r.failed, r.at];
+    let answer = [
+        f.number,
+        f.place,
+        f.has,
+        r.taken,
+        r.count,
+        r.peak,
+        r.failed,
+        r.at,
+    ];
     areas::begins(stored, &answer)
 }
 
@@ -92,7 +101,7 @@ pub fn judge(
     l: Lent,
     stored: &[u64],
 ) -> Done {
-    if stored.len() != 9 {
+    if stored.len() != 10 {
         return malformed(l);
     }
     let f = fields_of(answer);
@@ -103,7 +112,7 @@ pub fn judge(
             lent,
         };
     }
-    let from = 7;
+    let from = 8;
     let right = lent_right(area0, area1, work, &stored[from..]);
     Done {
         outcome: outcome_of(right),

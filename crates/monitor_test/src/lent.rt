@@ -12,6 +12,7 @@ use monitor::Verdict;
 pub struct Record {
     pub taken: u64,
     pub count: u64,
+    pub peak: u64,
     pub failed: u64,
     pub at: u64,
 }
@@ -33,6 +34,7 @@ pub fn no_record() -> Record {
     Record {
         taken: 0,
         count: 0,
+        peak: 0,
         failed: 0,
         at: 0,
     }
@@ -59,6 +61,7 @@ pub fn state_of(l: Lent) -> State {
     State {
         taken: r.taken,
         count: r.count,
+        peak: r.peak,
         verdict: verdict_of(r),
     }
 }
@@ -69,12 +72,14 @@ pub fn record_of(s: State) -> Record {
         Verdict::Running => Record {
             taken: s.taken,
             count: s.count,
+            peak: s.peak,
             failed: 0,
             at: 0,
         },
         Verdict::Failed(place) => Record {
             taken: s.taken,
             count: s.count,
+            peak: s.peak,
             failed: 1,
             at: place,
         },
@@ -146,16 +151,17 @@ fn change_areas(numbers: &[u64], area0: &mut [u64], area1: &mut [u64], l: Lent) 
     })
 }
 
-// `r TAKEN COUNT FAILED AT`: the record.
+// `r TAKEN COUNT PEAK FAILED AT`: the record.
 fn change_record(numbers: &[u64], l: Lent) -> Done {
-    if numbers.len() != 4 {
+    if numbers.len() != 5 {
         return malformed(l);
     }
     let record = Record {
         taken: numbers[0],
         count: numbers[1],
-        failed: numbers[2],
-        at: numbers[3],
+        peak: numbers[2],
+        failed: numbers[3],
+        at: numbers[4],
     };
     changed(with_record(l, record))
 }

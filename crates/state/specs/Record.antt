@@ -21,7 +21,7 @@ verdictOf Running = running
 verdictOf (Failed p) = failedAt p
 
 abbrev pub stateOf : StateCode → State
-stateOf s = record { taken = s .taken; count = s .count; verdict = verdictOf (s .verdict) }
+stateOf s = record { taken = s .taken; count = s .count; peak = s .peak; verdict = verdictOf (s .verdict) }
 
 abbrev pub monitorOf : StateCode → List ℕ → List ℕ → Monitor
 monitorOf s a b = record { state = stateOf s; area0 = a; area1 = b }

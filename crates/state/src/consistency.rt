@@ -7,9 +7,10 @@ ghost use lib.ListN.{length};
 ghost use Rattle.table_index.specs.Index.{tableIn, Indexed};
 ghost use Rattle.monitor_spec.specs.State.{chunks};
 ghost use Rattle.monitor_spec.specs.Valid.{validSlot};
-ghost use Rattle.monitor_spec.specs.Consistent.{every, ascends, allZero, recordFits, areaFits};
+ghost use Rattle.monitor_spec.specs.Consistent.{every, ascends, allZero, verdictFits};
+ghost use Rattle.monitor_spec.specs.Consistent.{recordFits, areaFits};
 ghost use Rattle.monitor_spec.specs.Consistent.{consistent as agrees};
-ghost use Rattle.state.specs.Record.{stateOf, monitorOf};
+ghost use Rattle.state.specs.Record.{verdictOf, stateOf, monitorOf};
 use crate::record::State;
 use crate::record::Verdict;
 use crate::valid::all_zero;
@@ -82,9 +83,10 @@ fn areas_fit(list: &[u16], work: &[u64], present: &[u64], other: &[u64], count: 
     all_zero(other, 0)
 }
 
-// Whether the record can be one of a monitor with so many slots.
-fn record_fits(state: State, slots: u64) -> bool
-    ensures { λ r. ⌜ r ≡ recordFits (stateOf state) slots ⌝ }
+// Whether the verdict agrees with the events taken and the residuals held.
+fn verdict_fits(state: State, slots: u64) -> bool
+    ensures { λ r.
+        ⌜ r ≡ verdictFits (verdictOf (state .verdict)) (state .taken) (state .count) slots ⌝ }
 {
     let verdict = state.verdict;
     match verdict {
@@ -101,6 +103,19 @@ fn record_fits(state: State, slots: u64) -> bool
             state.count == 0
         }
     }
+}
+
+// Whether the record can be one of a monitor with so many slots.
+fn record_fits(state: State, slots: u64) -> bool
+    ensures { λ r. ⌜ r ≡ recordFits (stateOf state) slots ⌝ }
+{
+    if !verdict_fits(state, slots) {
+        return false;
+    }
+    if state.peak < state.count {
+        return false;
+    }
+    state.peak <= slots
 }
 
 // Whether state and areas agree: refusal 10 is not met.

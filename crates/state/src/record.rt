@@ -11,10 +11,11 @@ pub enum Verdict {
     Failed(u64),
 }
 
-// The events taken, the residuals held, and the verdict.
+// The events taken, the residuals held, the most that were held since Start, and the verdict.
 pub struct State {
     pub taken: u64,
     pub count: u64,
+    pub peak: u64,
     pub verdict: Verdict,
 }
 
@@ -28,6 +29,7 @@ impl State {
         State {
             taken: self.taken + 1,
             count: self.count,
+            peak: self.peak,
             verdict,
         }
     }
@@ -41,11 +43,13 @@ impl State {
             Verdict::Running => State {
                 taken: self.taken,
                 count: 0,
+                peak: self.peak,
                 verdict: Verdict::Failed(self.taken),
             },
             Verdict::Failed(place) => State {
                 taken: self.taken,
                 count: 0,
+                peak: self.peak,
                 verdict: Verdict::Failed(place),
             },
         }
@@ -59,6 +63,9 @@ impl State {
             return self.fail();
         }
         self.count = count;
+        if self.peak < count {
+            self.peak = count;
+        }
         self
     }
 
@@ -69,6 +76,7 @@ impl State {
         let state = State {
             taken: 0,
             count: 0,
+            peak: 0,
             verdict: Verdict::Running,
         };
         state.hold(count)

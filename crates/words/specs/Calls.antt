@@ -1,5 +1,5 @@
 -- `cspe_start`, `cspe_feed`, `cspe_offer` and `cspe_view`: what they return and what stands in the lent words
--- afterwards (01, "Operations"). The record is four lent words (`Words`).
+-- afterwards (01, "Operations"). The record is five lent words (`Words`).
 --     MonitorCall, Told, startCall, feedCall    of Start and Feed
 --     OfferCall, OfferTold, offerCall           of Offer
 --     ViewCall, viewCall                        of View
@@ -77,7 +77,7 @@ monitorCall r o =
 unfoldable pub monitorIn : List ℕ → List ℕ → List ℕ → Monitor
 monitorIn r a b = record { state = stateIn r; area0 = a; area1 = b }
 
--- a record that is not of four words: refusal 1, place 0, all kept
+-- a record that is not of five words: refusal 1, place 0, all kept
 unfoldable pub unmeasured : List ℕ → List ℕ → List ℕ → List ℕ → MonitorCall
 unmeasured r a b w = record { number = 1; place = 0; words = r; area0 = a; area1 = b; work = w }
 
@@ -159,7 +159,7 @@ viewSaid n k = record { count = n; area = k }
 unfoldable pub viewing : Part → ViewCall
 viewing p = record { count = p .words; area = elim (eqb (p .words) 0) [ true ↦ 0 | false ↦ p .area ] }
 
--- record, areas; View "never refuses", so a record that is not of four words has no words to show
+-- record, areas; View "never refuses", so a record that is not of five words has no words to show
 unfoldable pub viewCall : List ℕ → List ℕ → List ℕ → ViewCall
 viewCall r a b =
     elim (recordMeasured r) [

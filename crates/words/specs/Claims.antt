@@ -38,7 +38,7 @@ pub record CallsTell : Type 0 where
   pub offer : (l r a b w : List ℕ) → OfferWay r a b w (offerOf l (monitorIn r a b) w) (offerCall l r a b w)
   pub view : (r a b : List ℕ) → ViewWay r (viewOf (monitorIn r a b)) (viewCall r a b)
 
--- a record that is not of four words is a refusal too
+-- a record that is not of five words is a refusal too
 pub record ZeroExactly : Type 0 where
   pub read : (s out w : List ℕ) → Bytes s → eqb (readCall s out w .number) 0 ≡ isDone (readOf s out w .answer)
   pub write : (l out w : List ℕ) → eqb (writeCall l out w .number) 0 ≡ isDone (writeOf l out w .answer)

@@ -17,15 +17,15 @@ abbrev pub tableB : List ℕ
 tableB = 3 ∷ 2 ∷ 0 ∷ 1 ∷ 0 ∷ 0 ∷ 1 ∷ 1 ∷ 1 ∷ 0 ∷ 2 ∷ 0 ∷ 2 ∷ 1 ∷ 5 ∷ 0 ∷ []
 
 -- a record's words
-abbrev pub four : ℕ → ℕ → ℕ → ℕ → List ℕ
-four taken count failed place = taken ∷ count ∷ failed ∷ place ∷ []
+abbrev pub five : ℕ → ℕ → ℕ → ℕ → ℕ → List ℕ
+five taken count failed place peak = taken ∷ count ∷ failed ∷ place ∷ peak ∷ []
 
 -- two slots: a residual of one node, and none
 abbrev pub slot : ℕ → List ℕ
 slot term = 1 ∷ term ∷ zeros 30
 
 unfoldable pub started : MonitorCall
-started = startCall tableB (zeros 4) (zeros 32) (zeros 32) (zeros 8192)
+started = startCall tableB (zeros 5) (zeros 32) (zeros 32) (zeros 8192)
 
 unfoldable pub fed : List ℕ → MonitorCall
 fed es = feedCall tableB (started .words) (started .area0) (started .area1) es (zeros 8192)
@@ -47,16 +47,25 @@ RowsHold =
     × (writeCall tableB (zeros 17) (zeros 8192) ≡ said 0 16 (tableB ++ 0 ∷ []) (zeros 8192))
     × (writeCall tableB (zeros 15) (zeros 8192) ≡ said 1 0 (zeros 15) (zeros 8192))
     -- Start, and Feed on K3, K1, and on an event that is A
-    × (started ≡ left 0 0 (four 0 1 0 0) (slot 0) (zeros 32))
-    × (fed (0 ∷ 1 ∷ 0 ∷ []) ≡ left 0 0 (four 3 1 0 0) (zeros 32) (slot 16777216))
-    × (fed (0 ∷ 0 ∷ []) ≡ left 0 0 (four 2 0 1 2) (zeros 32) (zeros 32))
-    × (fed (0 ∷ 3 ∷ 1 ∷ []) ≡ left 11 1 (four 1 1 0 0) (zeros 32) (slot 16777216))
-    -- a record of three words, of five; one that the areas do not agree with
-    × (startCall tableB (zeros 3) (zeros 32) (zeros 32) (zeros 9)
-    ≡ calls.said 1 0 (zeros 3) (zeros 32) (zeros 32) (zeros 9))
-    × (feedCall tableB (zeros 5) (zeros 32) (zeros 32) [] (zeros 8192) ≡ left 1 0 (zeros 5) (zeros 32) (zeros 32))
-    × (feedCall tableB (four 0 1 0 0) (zeros 32) (zeros 32) [] (zeros 8192)
-    ≡ left 10 0 (four 0 1 0 0) (zeros 32) (zeros 32))
+    × (started ≡ left 0 0 (five 0 1 0 0 1) (slot 0) (zeros 32))
+    × (fed (0 ∷ 1 ∷ 0 ∷ []) ≡ left 0 0 (five 3 1 0 0 1) (zeros 32) (slot 16777216))
+    × (fed (0 ∷ 0 ∷ []) ≡ left 0 0 (five 2 0 1 2 1) (zeros 32) (zeros 32))
+    × (fed (0 ∷ 3 ∷ 1 ∷ []) ≡ left 11 1 (five 1 1 0 0 1) (zeros 32) (slot 16777216))
+    -- a record of four words, of six; one that the areas do not agree with
+    × (startCall tableB (zeros 4) (zeros 32) (zeros 32) (zeros 9)
+    ≡ calls.said 1 0 (zeros 4) (zeros 32) (zeros 32) (zeros 9))
+    × (feedCall tableB (zeros 6) (zeros 32) (zeros 32) [] (zeros 8192) ≡ left 1 0 (zeros 6) (zeros 32) (zeros 32))
+    × (feedCall tableB (five 0 1 0 0 1) (zeros 32) (zeros 32) [] (zeros 8192)
+    ≡ left 10 0 (five 0 1 0 0 1) (zeros 32) (zeros 32))
+    -- a peak above the count stays; one below it, one above the slots, and that after failure are refused
+    × (feedCall tableB (five 0 1 0 0 2) (slot 0) (zeros 32) (0 ∷ []) (zeros 8192)
+    ≡ left 0 0 (five 1 1 0 0 2) (zeros 32) (slot 16777216))
+    × (feedCall tableB (five 0 1 0 0 0) (slot 0) (zeros 32) [] (zeros 8192)
+    ≡ left 10 0 (five 0 1 0 0 0) (slot 0) (zeros 32))
+    × (feedCall tableB (five 0 1 0 0 3) (slot 0) (zeros 32) [] (zeros 8192)
+    ≡ left 10 0 (five 0 1 0 0 3) (slot 0) (zeros 32))
+    × (feedCall tableB (five 2 0 1 2 3) (zeros 32) (zeros 32) [] (zeros 8192)
+    ≡ left 10 0 (five 2 0 1 2 3) (zeros 32) (zeros 32))
     -- Offer and View after 0, after 0 and 1, after failure
     × (offered (fed (0 ∷ [])) .value ≡ 2)
     × (offered (fed (0 ∷ 1 ∷ [])) .value ≡ 1)
@@ -64,7 +73,9 @@ RowsHold =
     × (map viewed (fed (0 ∷ []) ∷ fed (0 ∷ 1 ∷ []) ∷ fed (0 ∷ 0 ∷ []) ∷ [])
     ≡ calls.viewSaid 16 1 ∷ calls.viewSaid 16 0 ∷ calls.viewSaid 0 0 ∷ [])
     -- ours: no words of area 1 are said of area 0
-    × (viewCall (four 1 0 0 0) (zeros 32) (zeros 32) ≡ calls.viewSaid 0 0)
+    × (viewCall (five 1 0 0 0 0) (zeros 32) (zeros 32) ≡ calls.viewSaid 0 0)
+    -- View does not read the peak
+    × (viewCall (five 0 1 0 0 9) (slot 0) (zeros 32) ≡ calls.viewSaid 16 0)
     -- a word above 1 is read as failed; the place of a running record is not read
-    × (stateIn (four 5 0 7 2) ≡ record { taken = 5; count = 0; verdict = failedAt 2 })
-    × (stateIn (four 5 1 0 9) ≡ record { taken = 5; count = 1; verdict = running })
+    × (stateIn (five 5 0 7 2 4) ≡ record { taken = 5; count = 0; peak = 4; verdict = failedAt 2 })
+    × (stateIn (five 5 1 0 9 1) ≡ record { taken = 5; count = 1; peak = 1; verdict = running })

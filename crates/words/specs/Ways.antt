@@ -19,11 +19,11 @@ use Rattle.words.specs.Calls.{MonitorCall, OfferCall, ViewCall}
 pub mod Laws
 
 pub data CallWay (r a b w : List ℕ) (o : Outcome) : MonitorCall → Type 0 where
-  -- a record that is not of four words (ours): "a lent length is not as above", 1 at place 0, all kept
-  recordUnfit : (length r ≡ 4 → ⊥)
+  -- a record that is not of five words (ours): "a lent length is not as above", 1 at place 0, all kept
+  recordUnfit : (length r ≡ 5 → ⊥)
       → CallWay r a b w o (record { number = 1; place = 0; words = r; area0 = a; area1 = b; work = w })
   -- a record
-  callGiven : (s : State) → length r ≡ 4 → o .answer ≡ given s
+  callGiven : (s : State) → length r ≡ 5 → o .answer ≡ given s
       → CallWay r a b w o (record {
         number = 0;
         place = 0;
@@ -33,7 +33,7 @@ pub data CallWay (r a b w : List ℕ) (o : Outcome) : MonitorCall → Type 0 whe
         work = o .work;
       })
   -- "After a refusal without a record, the record that went in stands"
-  callRefused : (n p : ℕ) → length r ≡ 4 → o .answer ≡ refused n p
+  callRefused : (n p : ℕ) → length r ≡ 5 → o .answer ≡ refused n p
       → CallWay r a b w o (record {
         number = n;
         place = p;
@@ -43,7 +43,7 @@ pub data CallWay (r a b w : List ℕ) (o : Outcome) : MonitorCall → Type 0 whe
         work = o .work;
       })
   -- the record after the events already taken
-  callStopped : (n p : ℕ) (s : State) → length r ≡ 4 → o .answer ≡ stopped n p s
+  callStopped : (n p : ℕ) (s : State) → length r ≡ 5 → o .answer ≡ stopped n p s
       → CallWay r a b w o (record {
         number = n;
         place = p;
@@ -54,9 +54,9 @@ pub data CallWay (r a b w : List ℕ) (o : Outcome) : MonitorCall → Type 0 whe
       })
 
 pub data OfferWay (r a b w : List ℕ) (o : OfferOutcome) : OfferCall → Type 0 where
-  offerUnfit : (length r ≡ 4 → ⊥)
+  offerUnfit : (length r ≡ 5 → ⊥)
       → OfferWay r a b w o (record { number = 1; value = 0; area0 = a; area1 = b; work = w })
-  offerGiven : (bits : ℕ) → length r ≡ 4 → o .answer ≡ offers bits
+  offerGiven : (bits : ℕ) → length r ≡ 5 → o .answer ≡ offers bits
       → OfferWay r a b w o (record {
         number = 0;
         value = bits;
@@ -64,7 +64,7 @@ pub data OfferWay (r a b w : List ℕ) (o : OfferOutcome) : OfferCall → Type 0
         area1 = o .area1;
         work = o .work;
       })
-  offerRefused : (n p : ℕ) → length r ≡ 4 → o .answer ≡ operation.refused n p
+  offerRefused : (n p : ℕ) → length r ≡ 5 → o .answer ≡ operation.refused n p
       → OfferWay r a b w o (record {
         number = n;
         value = p;
@@ -75,10 +75,10 @@ pub data OfferWay (r a b w : List ℕ) (o : OfferOutcome) : OfferCall → Type 0
 
 pub data ViewWay (r part : List ℕ) : ViewCall → Type 0 where
   -- View "never refuses": there are no words to show
-  viewUnfit : (length r ≡ 4 → ⊥) → ViewWay r part (record { count = 0; area = 0 })
-  viewNone : length r ≡ 4 → length part ≡ 0 → ViewWay r part (record { count = 0; area = 0 })
+  viewUnfit : (length r ≡ 5 → ⊥) → ViewWay r part (record { count = 0; area = 0 })
+  viewNone : length r ≡ 5 → length part ≡ 0 → ViewWay r part (record { count = 0; area = 0 })
   -- "The present area is taken mod 2"
-  viewSome : length r ≡ 4 → 0 < length part
+  viewSome : length r ≡ 5 → 0 < length part
       → ViewWay r part (record { count = length part; area = stateIn r .taken % 2 })
 
 pub data TableWay (o : table.Outcome) : TableCall → Type 0 where

@@ -10,7 +10,7 @@ use state::Offered;
 // Of Start and Feed. The number to return; the place goes into place, and the record, if there is
 // one, into record.
 pub fn tell(answer: Answer, record: &mut [u64], place: &mut u64) -> u32
-    requires { ⌜ length (now «record») ≡ 4 ⌝ }
+    requires { ⌜ length (now «record») ≡ 5 ⌝ }
     ensures { λ r.
         ⌜ Told (answerOf answer) (now («record» .entry)) r (now (place .exit))
         (now («record» .exit)) ⌝ }

@@ -1,7 +1,7 @@
 // What the functions for C take and give (crate `monitor_c`) in lent words: the record, and the
 // answers of Read, Write, Start, Feed and Offer. What a call returns and leaves is defined in
 // `specs/`; `specs/Lib.antt` lists the definitions in reading order.
-//     load, store                       a record from four words, and into them
+//     load, store                       a record from five words, and into them
 //     tell, tell_offer, tell_table      an answer as a number with a place or a value
 mod answers;
 mod record;

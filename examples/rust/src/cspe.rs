@@ -13,7 +13,7 @@ const NUMBERS: usize = 16_384;
 const TABLE_BYTES: usize = 16_384;
 const WORK_WORDS: usize = 8_192;
 pub const SLOT_WORDS: usize = 16;
-pub const RECORD_WORDS: usize = 4;
+pub const RECORD_WORDS: usize = 5;
 
 /// A refusal of document 01, by its number (1 to 13) and its place.
 #[derive(Clone, Copy, Debug, PartialEq, Eq)]
@@ -93,11 +93,12 @@ pub enum Verdict {
     Failed(u64),
 }
 
-/// The state record: events taken, residuals held, and the verdict.
+/// The state record: events taken, residuals held, the most that were held at a time since Start, and the verdict.
 #[derive(Clone, Copy, Debug, PartialEq, Eq)]
 pub struct State {
     pub taken: u64,
     pub residuals: u64,
+    pub peak: u64,
     pub verdict: Verdict,
 }
 
@@ -225,11 +226,11 @@ impl<'t> Monitor<'t> {
 
     /// What the record says.
     pub fn state(&self) -> State {
-        let [taken, residuals, failed, place] = self.parts.record;
+        let [taken, residuals, failed, place, peak] = self.parts.record;
         let verdict = match failed {
             0 => Verdict::Running,
             _ => Verdict::Failed(place),
         };
-        State { taken, residuals, verdict }
+        State { taken, residuals, peak, verdict }
     }
 }

@@ -1,6 +1,7 @@
 //! The monitor from Rust: table B of document 01 is read, a monitor is started and fed `0 1 0` in pieces, and each
-//! answer is checked. It prints a line for each call, the same as `../c/main.c`, and ends with status 1 at the first
-//! answer that is not the expected one. In the repository's root:
+//! answer is checked. Then areas are sized for another table: by the peak of a trial lot. It prints a line for each
+//! call, the same as `../c/main.c`, and ends with status 1 at the first answer that is not the expected one. In the
+//! repository's root:
 //!
 //!     rt staticlib monitor_c
 //!     cargo run --release --offline --manifest-path examples/rust/Cargo.toml
@@ -10,8 +11,12 @@ use cspe::{Monitor, Refusal, State, Table, Verdict, SLOT_WORDS};
 use std::process::exit;
 
 const SLOTS: usize = 4;
+const MOST_SLOTS: usize = 256;
 
 const TABLE_B: [u8; 16] = [3, 2, 0, 1, 0, 0, 1, 1, 1, 0, 2, 0, 2, 1, 5, 0];
+
+// drawing K8 of document 01: prefix {0} to STOP, twice, side by side
+const TABLE_K8: [u8; 20] = [3, 3, 0, 1, 0, 0, 1, 1, 0, 0, 1, 0, 4, 2, 2, 0, 0, 2, 0, 0];
 
 fn expect(holds: bool, what: &str) {
     if !holds {
@@ -29,13 +34,15 @@ fn given<T>(result: Result<T, Refusal>, what: &str) -> T {
 }
 
 /// Prints a state, which must be the one given.
-fn show(call: &str, state: State, taken: u64, residuals: u64, verdict: Verdict) {
-    expect(state == State { taken, residuals, verdict }, call);
-    match state.verdict {
+fn show(call: &str, state: State, taken: u64, residuals: u64, verdict: Verdict, peak: u64) {
+    expect(state == State { taken, residuals, peak, verdict }, call);
+    match verdict {
         Verdict::Running => {
-            println!("{call}: running, {} taken, {} held", state.taken, state.residuals)
+            println!("{call}: running, {taken} taken, {residuals} held, peak {peak}")
         }
-        Verdict::Failed(place) => println!("{call}: failed at {place}, {} taken", state.taken),
+        Verdict::Failed(place) => {
+            println!("{call}: failed at {place}, {taken} taken, peak {peak}")
+        }
     }
 }
 
@@ -74,15 +81,15 @@ fn read_and_write() -> Table {
 fn follow(table: &Table) -> Monitor<'_> {
     show_refusal("start without slots", Monitor::start(table, 0), 1, 0);
     let mut monitor = given(Monitor::start(table, SLOTS), "start");
-    show("start", monitor.state(), 0, 1, Verdict::Running);
+    show("start", monitor.state(), 0, 1, Verdict::Running, 1);
     show_offer(&mut monitor, 1);
 
     let events = [0, 1, 0];
     let state = given(monitor.feed(&events[..1]), "feed of the first piece");
-    show("feed 0", state, 1, 1, Verdict::Running);
+    show("feed 0", state, 1, 1, Verdict::Running, 1);
     show_offer(&mut monitor, 2);
     let state = given(monitor.feed(&events[1..]), "feed of the second piece");
-    show("feed 1 0", state, 3, 1, Verdict::Running);
+    show("feed 1 0", state, 3, 1, Verdict::Running, 1);
     show_offer(&mut monitor, 2);
     show_view(&monitor, SLOT_WORDS, 1);
     monitor
@@ -91,10 +98,10 @@ fn follow(table: &Table) -> Monitor<'_> {
 fn refuse_and_fail(table: &Table, mut monitor: Monitor) {
     // 3 is no event of an alphabet of 3: the event before it is taken, and the record is the one after it
     show_refusal("feed 1 3 0", monitor.feed(&[1, 3, 0]), 11, 1);
-    show("the record", monitor.state(), 4, 1, Verdict::Running);
+    show("the record", monitor.state(), 4, 1, Verdict::Running, 1);
 
     let state = given(monitor.feed(&[1]), "feed of an event that is not offered");
-    show("feed 1", state, 5, 0, Verdict::Failed(5));
+    show("feed 1", state, 5, 0, Verdict::Failed(5), 1);
     show_offer(&mut monitor, 0);
     show_view(&monitor, 0, 0);
 
@@ -107,9 +114,29 @@ fn refuse_and_fail(table: &Table, mut monitor: Monitor) {
     show_refusal("read without the last byte", Table::read(short), 3, short.len() as u64);
 }
 
+/// The areas of a table, sized by a trial lot: the largest areas, and then as many slots as the peak.
+fn size_areas() {
+    let lot = [0, 0];
+    let table = given(Table::read(&TABLE_K8), "read of another table");
+    let mut monitor = given(Monitor::start(&table, MOST_SLOTS), "start with 256 slots");
+    let state = given(monitor.feed(&lot), "feed of a trial lot");
+    show("trial lot with 256 slots", state, 2, 1, Verdict::Running, 2);
+    let slots = state.peak as usize;
+
+    let mut monitor = given(Monitor::start(&table, slots), "start with the peak's slots");
+    let state = given(monitor.feed(&lot), "feed of the same lot");
+    show("the same with 2 slots", state, 2, 1, Verdict::Running, 2);
+
+    // one slot less: an event is refused, which does not move the peak
+    let mut monitor = given(Monitor::start(&table, slots - 1), "start with a slot less");
+    show_refusal("the same with 1 slot", monitor.feed(&lot), 13, 0);
+    show("the record", monitor.state(), 0, 1, Verdict::Running, 1);
+}
+
 fn main() {
     let table = read_and_write();
     let monitor = follow(&table);
     refuse_and_fail(&table, monitor);
+    size_areas();
     println!("ok");
 }

@@ -7,6 +7,8 @@
 pub struct Record {
     pub taken: u64,
     pub count: u64,
+    // the largest count since Start, the present one included
+    pub peak: u64,
     // the place of failure; none while running
     pub failed: Option<u64>,
 }

@@ -18,8 +18,8 @@ impl Monitor for Naive {
 
     fn feed(&self, list: &[u16], record: Record, lent: Lent, events: &[u8]) -> Answer {
         let areas = [lent.area0.to_vec(), lent.area1.to_vec()];
-        let Record { taken, count, failed } = record;
-        let record = NaiveRecord { taken, count, failed };
+        let Record { taken, count, peak, failed } = record;
+        let record = NaiveRecord { taken, count, peak, failed };
         given(naive::feed(list, record, &areas, events, lent.work.len()), lent)
     }
 }
@@ -31,10 +31,9 @@ fn given(outcome: naive::Outcome<naive::Answer>, lent: Lent) -> Answer {
         lent.work.fill(0);
     }
     let refusal = outcome.answer.refusal.map(|r| Refusal { number: r.number, place: r.place });
-    let record = outcome.answer.record.map(|NaiveRecord { taken, count, failed }| Record {
-        taken,
-        count,
-        failed,
+    let record = outcome.answer.record.map(|record| {
+        let NaiveRecord { taken, count, peak, failed } = record;
+        Record { taken, count, peak, failed }
     });
     match (refusal, record) {
         (None, Some(record)) => Answer::Given(record),

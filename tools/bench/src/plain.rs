@@ -73,7 +73,7 @@ fn started(index: Index, area0: &mut [u64], area1: &mut [u64]) -> Answer {
         }
     }
     let count = slots.count as u64;
-    Answer::Given(Record { taken: 0, count, failed: (count == 0).then_some(0) })
+    Answer::Given(Record { taken: 0, count, peak: count, failed: (count == 0).then_some(0) })
 }
 
 pub fn feed(list: &[u16], record: Record, lent: Lent, events: &[u8]) -> Answer {
@@ -126,6 +126,7 @@ fn fed(
         }
         record.taken += 1;
         record.count = count as u64;
+        record.peak = record.peak.max(record.count);
         if record.count == 0 && record.failed.is_none() {
             record.failed = Some(record.taken);
         }

@@ -6,6 +6,9 @@ use crate::monitor::*;
 #[allow(dead_code)]
 mod library;
 
+// The words of a record.
+const WORDS: usize = 5;
+
 pub struct Proved;
 
 impl Monitor for Proved {
@@ -14,7 +17,7 @@ impl Monitor for Proved {
     }
 
     fn start(&self, list: &[u16], lent: Lent) -> Answer {
-        let mut record = [0; 4];
+        let mut record = [0; WORDS];
         let mut place = 0;
         // each pointer is that of a slice and goes with its length; no two slices overlap
         let number = unsafe {
@@ -36,8 +39,8 @@ impl Monitor for Proved {
     }
 
     fn feed(&self, list: &[u16], record: Record, lent: Lent, events: &[u8]) -> Answer {
-        let Record { taken, count, failed } = record;
-        let mut record = [taken, count, failed.is_some() as u64, failed.unwrap_or(0)];
+        let Record { taken, count, peak, failed } = record;
+        let mut record = [taken, count, failed.is_some() as u64, failed.unwrap_or(0), peak];
         let mut place = 0;
         // as above
         let number = unsafe {
@@ -62,9 +65,9 @@ impl Monitor for Proved {
 }
 
 // The answer by the refusal's number: 0 has a record; 11 to 13 of Feed have both.
-fn given(number: u32, place: u64, words: [u64; 4], feeding: bool) -> Answer {
-    let [taken, count, failed, at] = words;
-    let record = Record { taken, count, failed: (failed != 0).then_some(at) };
+fn given(number: u32, place: u64, words: [u64; WORDS], feeding: bool) -> Answer {
+    let [taken, count, failed, at, peak] = words;
+    let record = Record { taken, count, peak, failed: (failed != 0).then_some(at) };
     let refusal = Refusal { number: number as u8, place: place as usize };
     match number {
         0 => Answer::Given(record),

@@ -43,7 +43,7 @@ pub fn replay(monitor: &dyn Monitor, text: &str) -> Result<usize, String> {
     Ok(calls)
 }
 
-const ZERO: Record = Record { taken: 0, count: 0, failed: None };
+const ZERO: Record = Record { taken: 0, count: 0, peak: 0, failed: None };
 
 impl Replay<'_> {
     // Does what the line says; of a call, its answer as the line has it.
@@ -57,8 +57,11 @@ impl Replay<'_> {
             }
             "a" => self.lend(numbers[0] as usize, numbers[1] as usize, numbers[2]),
             "r" => {
-                let failed = (numbers[2] == 1).then_some(numbers[3]);
-                self.record = Record { taken: numbers[0], count: numbers[1], failed };
+                let [taken, count, peak, failed, at] = numbers[..] else {
+                    panic!("a record of five numbers")
+                };
+                let failed = (failed == 1).then_some(at);
+                self.record = Record { taken, count, peak, failed };
             }
             "x" => {
                 let words = &mut self.buffers[numbers[0] as usize][numbers[1] as usize..];
@@ -102,7 +105,7 @@ impl Replay<'_> {
         };
         self.record = record.unwrap_or(self.record);
         let (number, place) = refusal.map_or((0, 0), |r| (r.number, r.place));
-        let Record { taken, count, failed } = record.unwrap_or(ZERO);
+        let Record { taken, count, peak, failed } = record.unwrap_or(ZERO);
         let has = record.is_some() as u8;
         let (is, at) = (failed.is_some() as u8, failed.unwrap_or(0));
         let kept = match (work == filled, work.iter().all(|&w| w == 0)) {
@@ -112,7 +115,7 @@ impl Replay<'_> {
         };
         let digest =
             digest(&[&self.buffers[0][..self.lengths[0]], &self.buffers[1][..self.lengths[1]]]);
-        format!("{number} {place} {has} {taken} {count} {is} {at} {digest} {kept}")
+        format!("{number} {place} {has} {taken} {count} {peak} {is} {at} {digest} {kept}")
     }
 }
 

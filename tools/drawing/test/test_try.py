@@ -20,7 +20,13 @@ class Try(unittest.TestCase):
         self.assertEqual(status, 0)
         self.assertIn("    B = a -> b -> B\n", output)
         self.assertIn("input    10 03 02 00 01 00 00 01 01 01 00 02 00 02 01 05\n", output)
-        self.assertIn("         00 00 01 00\nline     running 3 1\n", output)
+        self.assertIn("         00 00 01 00\nline     running 3 1\npeak     1\n", output)
+
+    def test_peak(self):
+        """Of the residuals that were held, not of those held last; none where no monitor was started."""
+        status, output, _ = tried("--reference", "worked/k8", "0", "0")
+        self.assertEqual(status, 0)
+        self.assertIn("line     running 2 1\npeak     2\n", output)
 
     def test_events(self):
         status, output, _ = tried("--reference", "sent_lane", "send_1", "arrive_2")
@@ -44,6 +50,7 @@ class Try(unittest.TestCase):
             self.assertEqual(status, 0)
             about = f"{own}:2:5: refused 7 (wrong reference): this definition"
             self.assertIn(f"line     refused 7 5\n         {about}\n", output)
+            self.assertNotIn("peak", output)
             own.with_suffix(".runs").write_text("=> running 0 1\n")
             status, output, _ = tried("--reference", own)
             self.assertEqual(status, 1)

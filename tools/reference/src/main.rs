@@ -25,6 +25,10 @@ reference: another implementation of the CSP_E line monitor, for test answers
     reference line FILE
         Prints the line that the program prints of a file as its standard input.
 
+    reference peak FILE
+        Prints `peak N` of the same, the most residuals that were held at a time up to the last
+        event taken; or `no monitor` where none was started.
+
     reference lines --seed N --count M
         Writes test data of the program's line to standard output: the inputs worked by hand,
         and about M drawn at random. The same seed and count give the same file.
@@ -61,6 +65,8 @@ fn main() -> ExitCode {
         ["summary", ..] => Err("summary takes one file".to_string()),
         ["line", file] => line(file),
         ["line", ..] => Err("line takes one file".to_string()),
+        ["peak", file] => peak(file),
+        ["peak", ..] => Err("peak takes one file".to_string()),
         ["lines", options @ ..] => written("lines", options, reference::monitor::lines::file),
         ["lines-summary", file] => summary(file, reference::monitor::lines::summary),
         ["lines-summary", ..] => Err("lines-summary takes one file".to_string()),
@@ -103,6 +109,14 @@ fn check(file: &str) -> Result<ExitCode, String> {
 fn line(file: &str) -> Result<ExitCode, String> {
     let bytes = std::fs::read(file).map_err(|error| format!("cannot read {file}: {error}"))?;
     Ok(print(&(reference::monitor::program::line(&bytes) + "\n")))
+}
+
+fn peak(file: &str) -> Result<ExitCode, String> {
+    let bytes = std::fs::read(file).map_err(|error| format!("cannot read {file}: {error}"))?;
+    Ok(match reference::monitor::program::peak(&bytes) {
+        Some(peak) => print(&format!("peak {peak}\n")),
+        None => print("no monitor\n"),
+    })
 }
 
 fn summary(file: &str, summary: fn(&str) -> Result<String, String>) -> Result<ExitCode, String> {

@@ -21,6 +21,8 @@ pub mod tables;
 pub mod terms;
 
 #[cfg(test)]
+mod peaks;
+#[cfg(test)]
 mod properties;
 #[cfg(test)]
 mod traces;

@@ -21,6 +21,7 @@ use Rattle.monitor_spec.specs.State.Records.{next-some, next-none, next-
 use Rattle.monitor_spec.specs.Consistent.{consistent}
 use Rattle.monitor_spec.specs.Feed.{takeEvent}
 use Rattle.monitor_spec.specs.Expected.Verdicts.{none-length, some-length}
+use Rattle.monitor_spec.specs.Expected.Peaks.{max-least}
 use Rattle.monitor_spec.specs.Sensible.{Agrees, Sensible, Laid}
 use Rattle.monitor_spec.specs.Expected.Laid.{laid-consistent}
 use Rattle.monitor_spec.specs.Expected.Steps.{sift, laid-sift}
@@ -51,6 +52,8 @@ module _ (t : Table) (regular : Regular t) where
         room = room;
         counted = refl;
         agrees = next-agrees (s .verdict) (s .taken) rs (afterAll t e rs) (none-after e rs) (ok .agrees);
+        peak-low = omega arith;
+        peak-high = max-least (s .peak) (length (slotsOf (afterAll t e rs))) n (ok .peak-high) room;
       }
 
   sift-out : (a b c : Bool) (x y : Monitor) → sift a b c x ≡ went y → (a ≡ false) × (c ≡ false) × (x ≡ y)

@@ -22,8 +22,8 @@ use Rattle.monitor_spec.specs.Valid.Laws.{and-split, SlotOf, valid-prope
 use Rattle.monitor_spec.specs.State.{Verdict, running, failedAt, State, Monitor, areasMeasured, slotCount, even}
 use Rattle.monitor_spec.specs.State.{choose, chunks, fill, laid}
 use Rattle.table.specs.Operations.{zeros}
-use Rattle.monitor_spec.specs.Consistent.{every, allZero, ascendsFrom, ascends, verdictFits, recordFits, areaFits}
-use Rattle.monitor_spec.specs.Consistent.{consistent}
+use Rattle.monitor_spec.specs.Consistent.{every, allZero, ascendsFrom, ascends, verdictFits, peakFits, recordFits}
+use Rattle.monitor_spec.specs.Consistent.{areaFits, consistent}
 use Rattle.monitor_spec.specs.Expected.Verdicts.{none-length, some-length}
 use Rattle.monitor_spec.specs.Sensible.{Agrees, Laid}
 
@@ -147,12 +147,24 @@ verdict-agrees (failedAt p) k c n (r ∷ rs) e h =
 -- the record alone: "running with none or more than fit"
 pub record-room : (s : State) (n : ℕ) → recordFits s n ≡ true → s .count ≤ n
 unfolding recordFits
-record-room s n h = verdict-room (s .verdict) (s .taken) (s .count) n h
+record-room s n h =
+    verdict-room (s .verdict) (s .taken) (s .count) n
+    (and-split (verdictFits (s .verdict) (s .taken) (s .count) n) (peakFits (s .peak) (s .count) n) h .0)
+
+-- 02, W1: "A record whose peak is below its count, or above the slots, is disturbed."
+record-peaks : (s : State) (n : ℕ) → recordFits s n ≡ true → (s .count ≤ s .peak) × (s .peak ≤ n)
+unfolding recordFits peakFits
+record-peaks s n h =
+    let (v, p) = and-split (verdictFits (s .verdict) (s .taken) (s .count) n) (peakFits (s .peak) (s .count) n) h in
+    let (x, y) = and-split (not (ltb (s .peak) (s .count))) (not (ltb n (s .peak))) p in
+    (ltb-false (s .peak) (s .count) (not-split _ x), ltb-false n (s .peak) (not-split _ y))
 
 record-agrees : (s : State) (n : ℕ) (rs : List Residual) → s .count ≡ length (slotsOf rs) → recordFits s n ≡ true
     → Agrees (s .taken) rs (s .verdict)
 unfolding recordFits
-record-agrees s n rs e h = verdict-agrees (s .verdict) (s .taken) (s .count) n rs e h
+record-agrees s n rs e h =
+    verdict-agrees (s .verdict) (s .taken) (s .count) n rs e
+    (and-split (verdictFits (s .verdict) (s .taken) (s .count) n) (peakFits (s .peak) (s .count) n) h .0)
 
 choose-both : {A : Type 0} (b : Bool) (x y p o : A) → choose b x y ≡ p → choose b y x ≡ o
     → (x ≡ choose b p o) × (y ≡ choose b o p)
@@ -208,6 +220,8 @@ module _ (t : Table) (regular : Regular t) where
           room = subst (λ (i : ℕ). i ≤ n) j r;
           counted = j;
           agrees = record-agrees (m .state) n rs j x;
+          peak-low = record-peaks (m .state) n x .0;
+          peak-high = record-peaks (m .state) n x .1;
         };
         same = λ i. record {
           state = m .state;

@@ -20,8 +20,8 @@ use Rattle.monitor_spec.specs.Valid.Laws.{proper-valid}
 use Rattle.monitor_spec.specs.State.{Verdict, running, failedAt, State, counted, holding, stateAfter, Monitor}
 use Rattle.monitor_spec.specs.State.{slotCount, even, choose}
 use Rattle.monitor_spec.specs.State.{chunks, fill, laid}
-use Rattle.monitor_spec.specs.Consistent.{every, allZero, ascendsFrom, ascends, verdictFits, recordFits, areaFits}
-use Rattle.monitor_spec.specs.Consistent.{consistent}
+use Rattle.monitor_spec.specs.Consistent.{every, allZero, ascendsFrom, ascends, verdictFits, peakFits, recordFits}
+use Rattle.monitor_spec.specs.Consistent.{areaFits, consistent}
 use Rattle.monitor_spec.specs.Feed.{presentSlots, nextSlots, taking}
 use Rattle.monitor_spec.specs.State.Areas.{Sixteen, both-true, choose-twice, choose-flip, choose-same, choose-ap}
 use Rattle.monitor_spec.specs.State.Areas.{even-suc, length-fill, slotCount-fill, chunks-fill, zero-after}
@@ -65,9 +65,12 @@ module _ (t : Table) where
       both-true (not-less k p h) (eq-eqb (length (slotsOf rs)) 0 (none-length rs e))
 
   record-fits : (n : ℕ) (s : State) (rs : List Residual) → Sensible t n s rs → recordFits s n ≡ true
-  unfolding recordFits
+  unfolding recordFits peakFits
   record-fits n s rs ok =
-      rw (ok .counted) (verdict-fits n (s .taken) rs (ok .room) (s .verdict) (ok .agrees))
+      let v : verdictFits (s .verdict) (s .taken) (s .count) n ≡ true =
+      rw (ok .counted) (verdict-fits n (s .taken) rs (ok .room) (s .verdict) (ok .agrees)) in
+      both-true v
+      (both-true (not-less (s .peak) (s .count) (ok .peak-low)) (not-less n (s .peak) (ok .peak-high)))
 
   module _ (regular : Regular t) (n : ℕ) (s : State) (rs : List Residual) (ok : Sensible t n s rs) where
     pub all-sixteen : All Sixteen (slotsOf rs)

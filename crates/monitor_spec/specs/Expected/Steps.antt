@@ -24,14 +24,15 @@ use Rattle.monitor_spec.specs.Joined.{residualCount, halts}
 use Rattle.monitor_spec.specs.Expected.{verdictOf, recordOf, monitorAfter}
 use Rattle.monitor_spec.specs.Expected.Verdicts.{residuals-snoc, Says, verdictOf-says}
 use Rattle.monitor_spec.specs.Expected.Records.{length-snoc, record-taken, record-count, record-verdict}
-use Rattle.monitor_spec.specs.Expected.Records.{record-next}
+use Rattle.monitor_spec.specs.Expected.Records.{record-low, record-next, peak-next}
 use Rattle.monitor_spec.specs.Sensible.{Agrees, Sensible}
 use Rattle.monitor_spec.specs.Expected.Laid.{laid-count, laid-next, laid-taking}
 
--- what a list has that was joined: known events, and no more residuals than slots
+-- what a list has that was joined: known events, and no more residuals than slots, after any beginning
 pub record Fed (t : Table) (n : ℕ) (s : List ℕ) : Type 0 where
   pub known : All (λ e. e < t .alphabet) s
   pub room : length (slotsOf (residualsOf t s)) ≤ n
+  pub peak : recordOf t s .peak ≤ n
 
 -- the three tests of an event
 unfoldable pub sift : Bool → Bool → Bool → Monitor → Step Monitor
@@ -125,6 +126,8 @@ fed-sensible t regular n s fed =
       room = fed .room;
       counted = record-count t s;
       agrees = rw (record-taken t s, record-verdict t s) (says-agrees t s (verdictOf t s) (verdictOf-says t s));
+      peak-low = record-low t s;
+      peak-high = fed .peak;
     }
 
 next-monitor : (t : Table) (n : ℕ) (s : List ℕ) (e : ℕ)
@@ -178,4 +181,5 @@ module _ (t : Table) (regular : Regular t) (n : ℕ) (s : List ℕ) (fed : Fed t
         known = all-append (λ x. x < t .alphabet) s (e ∷ []) (fed .known)
             (leb-false (t .alphabet) e a, tt);
         room = ltb-false n _ c;
+        peak = peak-next t s e n (fed .peak) (ltb-false n _ c);
       }

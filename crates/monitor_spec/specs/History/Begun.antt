@@ -24,7 +24,7 @@ use Rattle.monitor_spec.specs.Entering.Laws.{entrance-unmeasured, entran
 use Rattle.monitor_spec.specs.Start.{startAccepted, startOf}
 use Rattle.monitor_spec.specs.Start.Laws.{start-shut, start-admits}
 use Rattle.monitor_spec.specs.Expected.{monitorAfter}
-use Rattle.monitor_spec.specs.Expected.Records.{record-first}
+use Rattle.monitor_spec.specs.Expected.Records.{record-first, first-peak}
 use Rattle.monitor_spec.specs.Expected.Steps.{Fed}
 use Rattle.monitor_spec.specs.History.{Fresh}
 
@@ -147,6 +147,10 @@ fresh-began l ns t says a b work fresh f =
         record {
           low = i;
           high = j;
-          fed = record { known = tt; room = ltb-false (slotCount a) _ g };
+          fed = record {
+            known = tt;
+            room = ltb-false (slotCount a) _ g;
+            peak = first-peak t (slotCount a) (ltb-false (slotCount a) _ g);
+          };
           same = began-same l t a b work fresh f (start-measured l ns t says a b work e ∙ start-room t a b work g);
         }

@@ -6,8 +6,9 @@ use native.Mathlib.Omega.{arith}
 use mathlib.Core.Path.{_≡_, refl}
 use Rattle.monitor_spec.specs.State.{running, failedAt, State, nextVerdict}
 
-pub state-path : (a b : State) → a .taken ≡ b .taken → a .count ≡ b .count → a .verdict ≡ b .verdict → a ≡ b
-state-path a b p q r i = record { taken = p i; count = q i; verdict = r i }
+pub state-path : (a b : State) → a .taken ≡ b .taken → a .count ≡ b .count → a .peak ≡ b .peak
+    → a .verdict ≡ b .verdict → a ≡ b
+state-path a b p q h r i = record { taken = p i; count = q i; peak = h i; verdict = r i }
 
 -- ---- the equations of nextVerdict
 

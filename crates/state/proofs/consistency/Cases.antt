@@ -10,11 +10,13 @@ use lib.Dec.{eqb, ltb, leb}
 use borrow.Author.Tests.{lt-ltb, le-ltb, le-leb, lt-leb}
 use Rattle.table.specs.Table.{Table}
 use Rattle.state.specs.declared.record.State.{State}
+use Rattle.state.specs.declared.record.Verdict.{Verdict as VerdictCode}
 use Rattle.state.specs.declared.record.Verdict.the-variants.{Running, Failed}
 use Rattle.monitor_spec.specs.State.{Verdict, slotCount, even, choose, chunks}
 use Rattle.monitor_spec.specs.State.Areas.{present-even, present-odd}
 use Rattle.monitor_spec.specs.Valid.{validSlot}
-use Rattle.monitor_spec.specs.Consistent.{every, ascends, allZero, verdictFits, recordFits, areaFits, consistent}
+use Rattle.monitor_spec.specs.Consistent.{every, ascends, allZero, verdictFits, peakFits, recordFits, areaFits}
+use Rattle.monitor_spec.specs.Consistent.{consistent}
 use Rattle.state.specs.Record.{verdictOf, stateOf, monitorOf}
 
 not-above : (c n : ℕ) → leb c n ≡ not (ltb n c)
@@ -26,34 +28,52 @@ not-above c n = by (decLt n c)
         let k : c ≤ n = omega arith in
         le-leb c n k ∙ ap not (sym (le-ltb n c k))
 
+-- ---- the verdict
+
+module _ (v : VerdictCode) (k c n : ℕ) where
+  abbrev fits : Verdict → Bool
+  fits x = verdictFits x k c n
+
+  pub running-none : v ≡ Running → c ≡ 0 → false ≡ fits (verdictOf v)
+  unfolding verdictFits
+  running-none e h =
+      let z : c ≤ 0 = omega arith in
+      sym (ap (λ x. fits (verdictOf x)) e ∙ ap (_&& not (ltb n c)) (le-ltb 0 c z))
+
+  pub running-some : v ≡ Running → (c ≡ 0 → ⊥) → leb c n ≡ fits (verdictOf v)
+  unfolding verdictFits
+  running-some e h =
+      let z : 0 < c = omega arith in
+      not-above c n ∙ sym (ap (λ x. fits (verdictOf x)) e ∙ ap (_&& not (ltb n c)) (lt-ltb 0 c z))
+
+  pub failed-later : (p : ℕ) → v ≡ Failed p → k < p → false ≡ fits (verdictOf v)
+  unfolding verdictFits
+  failed-later p e h =
+      sym (ap (λ x. fits (verdictOf x)) e ∙ ap (λ (b : Bool). not b && eqb c 0) (lt-ltb k p h))
+
+  pub failed-here : (p : ℕ) → v ≡ Failed p → p ≤ k → eqb c 0 ≡ fits (verdictOf v)
+  unfolding verdictFits
+  failed-here p e h =
+      sym (ap (λ x. fits (verdictOf x)) e ∙ ap (λ (b : Bool). not b && eqb c 0) (le-ltb k p h))
+
 -- ---- the record
 
 module _ (s : State) (n : ℕ) where
-  abbrev fits : Verdict → Bool
-  fits v = verdictFits v (s .taken) (s .count) n
+  abbrev agrees : Bool
+  agrees = verdictFits (verdictOf (s .verdict)) (s .taken) (s .count) n
 
-  pub running-none : s .verdict ≡ Running → s .count ≡ 0 → false ≡ recordFits (stateOf s) n
-  unfolding recordFits verdictFits
-  running-none v e =
-      let k : s .count ≤ 0 = omega arith in
-      sym (ap (λ x. fits (verdictOf x)) v ∙ ap (_&& not (ltb n (s .count))) (le-ltb 0 (s .count) k))
+  pub verdict-unfit : agrees ≡ false → false ≡ recordFits (stateOf s) n
+  unfolding recordFits
+  verdict-unfit h = rw h
 
-  pub running-some : s .verdict ≡ Running → (s .count ≡ 0 → ⊥) → leb (s .count) n ≡ recordFits (stateOf s) n
-  unfolding recordFits verdictFits
-  running-some v e =
-      let k : 0 < s .count = omega arith in
-      not-above (s .count) n
-      ∙ sym (ap (λ x. fits (verdictOf x)) v ∙ ap (_&& not (ltb n (s .count))) (lt-ltb 0 (s .count) k))
+  pub peak-below : agrees ≡ true → s .peak < s .count → false ≡ recordFits (stateOf s) n
+  unfolding recordFits peakFits
+  peak-below h k = rw (h, lt-ltb (s .peak) (s .count) k)
 
-  pub failed-later : (p : ℕ) → s .verdict ≡ Failed p → s .taken < p → false ≡ recordFits (stateOf s) n
-  unfolding recordFits verdictFits
-  failed-later p v h =
-      sym (ap (λ x. fits (verdictOf x)) v ∙ ap (λ (b : Bool). not b && eqb (s .count) 0) (lt-ltb (s .taken) p h))
-
-  pub failed-here : (p : ℕ) → s .verdict ≡ Failed p → p ≤ s .taken → eqb (s .count) 0 ≡ recordFits (stateOf s) n
-  unfolding recordFits verdictFits
-  failed-here p v h =
-      sym (ap (λ x. fits (verdictOf x)) v ∙ ap (λ (b : Bool). not b && eqb (s .count) 0) (le-ltb (s .taken) p h))
+  pub peak-within : agrees ≡ true → s .count ≤ s .peak
+      → leb (s .peak) n ≡ recordFits (stateOf s) n
+  unfolding recordFits peakFits
+  peak-within h k = rw (h, le-ltb (s .peak) (s .count) k) (not-above (s .peak) n)
 
 -- ---- an area
 

@@ -1,7 +1,7 @@
 -- Residuals held and the record after an event, case by case; lent lengths are those of the lists. Assumes nothing.
-use Prim.Native.Nat.{ℕ}
+use Prim.Native.Nat.{ℕ, suc, max}
 use native.Mathlib.Omega.{arith}
-use mathlib.Core.Path.{_≡_, refl, ap, sym, _∙_}
+use mathlib.Core.Path.{_≡_, refl, ap, ap₂, sym, _∙_}
 use mathlib.Core.List.{List}
 use lib.ListN.{length}
 use borrow.Author.Tests.{eq-eqb, ne-eqb}
@@ -17,19 +17,20 @@ use Rattle.state.specs.Record.{verdictOf, stateOf, succeeding, lengthsFi
 -- ---- residuals are held
 
 -- with none it fails
-pub none-running : (s : StateCode) → s .verdict ≡ Running
-    → stateOf (record { taken = s .taken; count = 0; verdict = Failed (s .taken) }) ≡ holding (stateOf s) 0
+abbrev failed : StateCode → ℕ → StateCode
+failed s p = record { taken = s .taken; count = 0; peak = s .peak; verdict = Failed p }
+
+pub none-running : (s : StateCode) → s .verdict ≡ Running → stateOf (failed s (s .taken)) ≡ holding (stateOf s) 0
 unfolding holding
 none-running s e =
-    state-path (stateOf (record { taken = s .taken; count = 0; verdict = Failed (s .taken) })) (holding (stateOf s) 0)
-    refl refl (sym (ap (λ (v : VerdictCode). nextVerdict (verdictOf v) (s .taken) 0) e ∙ next-none (s .taken)))
+    state-path (stateOf (failed s (s .taken))) (holding (stateOf s) 0) refl refl (omega arith)
+    (sym (ap (λ (v : VerdictCode). nextVerdict (verdictOf v) (s .taken) 0) e ∙ next-none (s .taken)))
 
-pub none-failed : (s : StateCode) (p : ℕ) → s .verdict ≡ Failed p
-    → stateOf (record { taken = s .taken; count = 0; verdict = Failed p }) ≡ holding (stateOf s) 0
+pub none-failed : (s : StateCode) (p : ℕ) → s .verdict ≡ Failed p → stateOf (failed s p) ≡ holding (stateOf s) 0
 unfolding holding
 none-failed s p e =
-    state-path (stateOf (record { taken = s .taken; count = 0; verdict = Failed p })) (holding (stateOf s) 0)
-    refl refl (sym (ap (λ (v : VerdictCode). nextVerdict (verdictOf v) (s .taken) 0) e ∙ next-failed p (s .taken) 0))
+    state-path (stateOf (failed s p)) (holding (stateOf s) 0) refl refl (omega arith)
+    (sym (ap (λ (v : VerdictCode). nextVerdict (verdictOf v) (s .taken) 0) e ∙ next-failed p (s .taken) 0))
 
 pub none-held : (s r : State) (n : ℕ) → n ≡ 0 → r ≡ holding s 0 → r ≡ holding s n
 none-held s r n z e = e ∙ ap (holding s) (sym z)
@@ -38,12 +39,15 @@ next-stays : (v : Verdict) (k n : ℕ) → (n ≡ 0 → ⊥) → v ≡ nextVerdi
 next-stays running k n z = sym (next-some k n (omega arith))
 next-stays (failedAt p) k n z = sym (next-failed p k n)
 
-pub some-held : (s : StateCode) (n : ℕ) → (n ≡ 0 → ⊥)
-    → stateOf (record { taken = s .taken; count = n; verdict = s .verdict }) ≡ holding (stateOf s) n
+abbrev held : StateCode → ℕ → ℕ → StateCode
+held s n p = record { taken = s .taken; count = n; peak = p; verdict = s .verdict }
+
+pub some-held : (s : StateCode) (n p : ℕ) → (n ≡ 0 → ⊥) → p ≡ max (s .peak) n
+    → stateOf (held s n p) ≡ holding (stateOf s) n
 unfolding holding
-some-held s n z =
-    state-path (stateOf (record { taken = s .taken; count = n; verdict = s .verdict })) (holding (stateOf s) n)
-    refl refl (next-stays (verdictOf (s .verdict)) (s .taken) n z)
+some-held s n p z h =
+    state-path (stateOf (held s n p)) (holding (stateOf s) n) refl refl h
+    (next-stays (verdictOf (s .verdict)) (s .taken) n z)
 
 -- ---- the record after an event
 
@@ -55,7 +59,7 @@ pub succeeding-counts : (s : State) (n : ℕ) → (s .taken ≡ counterMost → 
 unfolding succeeding
 succeeding-counts s n h = rw (ne-eqb (s .taken) counterMost h, succeeding)
 
-pub fresh-held : (r : State) (n : ℕ) → r ≡ holding (record { taken = 0; count = 0; verdict = running }) n
+pub fresh-held : (r : State) (n : ℕ) → r ≡ holding (record { taken = 0; count = 0; peak = 0; verdict = running }) n
     → r ≡ freshState n
 unfolding freshState
 fresh-held r n e = e

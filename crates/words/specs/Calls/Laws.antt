@@ -24,23 +24,23 @@ use Rattle.words.specs.Calls.{startCall, feedCall}
 use Rattle.words.specs.Calls.{offerNumber, offerValue, OfferTold, offerSaid, offering, offerCall}
 use Rattle.words.specs.Calls.{viewSaid, viewing, viewCall}
 
--- ---- a record that is not of four words
+-- ---- a record that is not of five words
 
-pub start-unmeasured : (l r a b w : List ℕ) → (length r ≡ 4 → ⊥) → said 1 0 r a b w ≡ startCall l r a b w
+pub start-unmeasured : (l r a b w : List ℕ) → (length r ≡ 5 → ⊥) → said 1 0 r a b w ≡ startCall l r a b w
 unfolding startCall recordMeasured unmeasured
-start-unmeasured l r a b w h = rw (ne-eqb (length r) 4 h, startCall) refl
+start-unmeasured l r a b w h = rw (ne-eqb (length r) 5 h, startCall) refl
 
-pub feed-unmeasured : (l r a b es w : List ℕ) → (length r ≡ 4 → ⊥) → said 1 0 r a b w ≡ feedCall l r a b es w
+pub feed-unmeasured : (l r a b es w : List ℕ) → (length r ≡ 5 → ⊥) → said 1 0 r a b w ≡ feedCall l r a b es w
 unfolding feedCall recordMeasured unmeasured
-feed-unmeasured l r a b es w h = rw (ne-eqb (length r) 4 h, feedCall) refl
+feed-unmeasured l r a b es w h = rw (ne-eqb (length r) 5 h, feedCall) refl
 
-pub offer-unmeasured : (l r a b w : List ℕ) → (length r ≡ 4 → ⊥) → offerSaid 1 0 a b w ≡ offerCall l r a b w
+pub offer-unmeasured : (l r a b w : List ℕ) → (length r ≡ 5 → ⊥) → offerSaid 1 0 a b w ≡ offerCall l r a b w
 unfolding offerCall recordMeasured
-offer-unmeasured l r a b w h = rw (ne-eqb (length r) 4 h, offerCall) refl
+offer-unmeasured l r a b w h = rw (ne-eqb (length r) 5 h, offerCall) refl
 
-pub view-unmeasured : (r a b : List ℕ) → (length r ≡ 4 → ⊥) → viewSaid 0 0 ≡ viewCall r a b
+pub view-unmeasured : (r a b : List ℕ) → (length r ≡ 5 → ⊥) → viewSaid 0 0 ≡ viewCall r a b
 unfolding viewCall recordMeasured
-view-unmeasured r a b h = rw (ne-eqb (length r) 4 h, viewCall) refl
+view-unmeasured r a b h = rw (ne-eqb (length r) 5 h, viewCall) refl
 
 -- ---- Start and Feed
 
@@ -67,16 +67,16 @@ module _ (x : code.Answer) (n p : ℕ) (r r' a b w : List ℕ) (t : Told (answer
       (λ i. record { number = t .number i; place = t .place i; words = t .words i; area0 = a; area1 = b; work = w })
       ∙ ap (monitorCall r) e
 
-  pub start-told : (l a₀ b₀ w₀ : List ℕ) → length r ≡ 4 → outcome x a b w ≡ startOf l a₀ b₀ w₀
+  pub start-told : (l a₀ b₀ w₀ : List ℕ) → length r ≡ 5 → outcome x a b w ≡ startOf l a₀ b₀ w₀
       → said n p r' a b w ≡ startCall l r a₀ b₀ w₀
   unfolding startCall recordMeasured
-  start-told l a₀ b₀ w₀ h e = rw (eq-eqb (length r) 4 h, startCall) (told _ e)
+  start-told l a₀ b₀ w₀ h e = rw (eq-eqb (length r) 5 h, startCall) (told _ e)
 
-  pub feed-told : (l a₀ b₀ es w₀ : List ℕ) (s : StateCode) → length r ≡ 4 → stateOf s ≡ stateIn r
+  pub feed-told : (l a₀ b₀ es w₀ : List ℕ) (s : StateCode) → length r ≡ 5 → stateOf s ≡ stateIn r
       → outcome x a b w ≡ feedOf l (monitorOf s a₀ b₀) es w₀ → said n p r' a b w ≡ feedCall l r a₀ b₀ es w₀
   unfolding feedCall recordMeasured monitorIn
   feed-told l a₀ b₀ es w₀ s h k e =
-      rw (eq-eqb (length r) 4 h, feedCall)
+      rw (eq-eqb (length r) 5 h, feedCall)
       (told _ (e ∙ ap (λ (y : State). feedOf l (record { state = y; area0 = a₀; area1 = b₀ }) es w₀) k))
 
 -- ---- Offer
@@ -92,11 +92,11 @@ unfolding offerNumber offerValue
 tell-declined x q e = rw e (record { number = refl; value = refl })
 
 pub offer-told : (x : offer.Offered) (n v : ℕ) (l r a b w w₀ : List ℕ) (s : StateCode)
-    → OfferTold (offeredOf x) n v → length r ≡ 4 → stateOf s ≡ stateIn r
+    → OfferTold (offeredOf x) n v → length r ≡ 5 → stateOf s ≡ stateIn r
     → offerOutcome x a b w ≡ offerOf l (monitorOf s a b) w₀ → offerSaid n v a b w ≡ offerCall l r a b w₀
 unfolding offerCall offering recordMeasured monitorIn
 offer-told x n v l r a b w w₀ s t h k e =
-    rw (eq-eqb (length r) 4 h, offerCall)
+    rw (eq-eqb (length r) 5 h, offerCall)
     ((λ i. record { number = t .number i; value = t .value i; area0 = a; area1 = b; work = w })
     ∙ ap offering (e ∙ ap (λ (y : State). offerOf l (record { state = y; area0 = a; area1 = b }) w₀) k))
 
@@ -112,7 +112,7 @@ unfolding viewing
 view-words p n k e z f =
     rw (ne-eqb (p .words) 0 (λ h. z (e ∙ h)), viewing) (λ i. record { count = e i; area = f i })
 
-module _ (s : StateCode) (r a b part : List ℕ) (h : length r ≡ 4) (k : stateOf s ≡ stateIn r)
+module _ (s : StateCode) (r a b part : List ℕ) (h : length r ≡ 5) (k : stateOf s ≡ stateIn r)
     (e : part ≡ viewOf (monitorOf s a b)) where
   abbrev shown : Part
   shown = viewPart (stateOf s) (length a) (length b)
@@ -123,7 +123,7 @@ module _ (s : StateCode) (r a b part : List ℕ) (h : length r ≡ 4) (k : state
   called : (n : ℕ) → viewSaid (length part) n ≡ viewing shown → viewSaid (length part) n ≡ viewCall r a b
   unfolding viewCall recordMeasured
   called n q =
-      rw (eq-eqb (length r) 4 h, viewCall)
+      rw (eq-eqb (length r) 5 h, viewCall)
       (q ∙ ap (λ (y : State). viewing (viewPart y (length a) (length b))) k)
 
   -- the empty part

@@ -30,7 +30,7 @@ use Rattle.words.specs.Ways.{tableDone, tableRefused}
 -- ---- Start and Feed
 
 module _ (r a b w : List ℕ) (o : Outcome) where
-  told : (x : Answer) → o .answer ≡ x → length r ≡ 4 → CallWay r a b w o (monitorCall r o)
+  told : (x : Answer) → o .answer ≡ x → length r ≡ 5 → CallWay r a b w o (monitorCall r o)
   unfolding monitorCall numberOf placeOf recordAfter
   told (given s) e h =
       subst (CallWay r a b w o) (sym (ap (λ (x : Answer). record {
@@ -60,8 +60,8 @@ module _ (r a b w : List ℕ) (o : Outcome) where
         work = o .work;
       }) e)) (callStopped n p s h e)
 
-  -- a call that is the operation's where the record is of four words
-  measured : (c : MonitorCall) → (x : Bool) → eqb (length r) 4 ≡ x
+  -- a call that is the operation's where the record is of five words
+  measured : (c : MonitorCall) → (x : Bool) → eqb (length r) 5 ≡ x
       → c ≡ elim x as (λ y. MonitorCall) [ true ↦ monitorCall r o | false ↦ unmeasured r a b w ] → CallWay r a b w o c
   unfolding unmeasured
   measured c true e k = subst (CallWay r a b w o) (sym k) (told (o .answer) refl (eqb-true _ _ e))
@@ -69,18 +69,18 @@ module _ (r a b w : List ℕ) (o : Outcome) where
 
 pub start-way : (l r a b w : List ℕ) → CallWay r a b w (startOf l a b w) (startCall l r a b w)
 unfolding startCall recordMeasured
-start-way l r a b w = measured r a b w (startOf l a b w) (startCall l r a b w) (eqb (length r) 4) refl refl
+start-way l r a b w = measured r a b w (startOf l a b w) (startCall l r a b w) (eqb (length r) 5) refl refl
 
 pub feed-way : (l r a b es w : List ℕ)
     → CallWay r a b w (feedOf l (monitorIn r a b) es w) (feedCall l r a b es w)
 unfolding feedCall recordMeasured
 feed-way l r a b es w =
-    measured r a b w (feedOf l (monitorIn r a b) es w) (feedCall l r a b es w) (eqb (length r) 4) refl refl
+    measured r a b w (feedOf l (monitorIn r a b) es w) (feedCall l r a b es w) (eqb (length r) 5) refl refl
 
 -- ---- Offer
 
 module _ (r a b w : List ℕ) (o : OfferOutcome) where
-  offered : (x : Offered) → o .answer ≡ x → length r ≡ 4 → OfferWay r a b w o (offering o)
+  offered : (x : Offered) → o .answer ≡ x → length r ≡ 5 → OfferWay r a b w o (offering o)
   unfolding offering offerNumber offerValue
   offered (offers bits) e h =
       subst (OfferWay r a b w o) (sym (ap (λ (x : Offered). record {
@@ -99,7 +99,7 @@ module _ (r a b w : List ℕ) (o : OfferOutcome) where
         work = o .work;
       }) e)) (offerRefused n p h e)
 
-  offer-measured : (c : OfferCall) → (x : Bool) → eqb (length r) 4 ≡ x
+  offer-measured : (c : OfferCall) → (x : Bool) → eqb (length r) 5 ≡ x
       → c ≡ elim x as (λ y. OfferCall) [
         | true ↦ offering o
         | false ↦ record { number = 1; value = 0; area0 = a; area1 = b; work = w }
@@ -111,7 +111,7 @@ module _ (r a b w : List ℕ) (o : OfferOutcome) where
 pub offer-way : (l r a b w : List ℕ) → OfferWay r a b w (offerOf l (monitorIn r a b) w) (offerCall l r a b w)
 unfolding offerCall recordMeasured
 offer-way l r a b w =
-    offer-measured r a b w (offerOf l (monitorIn r a b) w) (offerCall l r a b w) (eqb (length r) 4) refl refl
+    offer-measured r a b w (offerOf l (monitorIn r a b) w) (offerCall l r a b w) (eqb (length r) 5) refl refl
 
 -- ---- View
 
@@ -126,7 +126,7 @@ module _ (r a b : List ℕ) where
   unfolding monitorIn
   counted = view-length (monitorIn r a b)
 
-  viewed : length r ≡ 4 → (x : Bool) → eqb (length words) 0 ≡ x → ViewWay r words (viewing shown)
+  viewed : length r ≡ 5 → (x : Bool) → eqb (length words) 0 ≡ x → ViewWay r words (viewing shown)
   viewed h true e =
       let z = eqb-true (length words) 0 e in
       subst (ViewWay r words) (view-empty shown 0 (sym z ∙ counted) refl) (viewNone h z)
@@ -142,9 +142,9 @@ module _ (r a b : List ℕ) where
 
   pub view-way : ViewWay r (viewOf (monitorIn r a b)) (viewCall r a b)
   unfolding viewCall recordMeasured
-  view-way = by (eqb (length r) 4) refl
+  view-way = by (eqb (length r) 5) refl
     where
-      by : (x : Bool) → eqb (length r) 4 ≡ x → ViewWay r (viewOf (monitorIn r a b)) (viewCall r a b)
+      by : (x : Bool) → eqb (length r) 5 ≡ x → ViewWay r (viewOf (monitorIn r a b)) (viewCall r a b)
       by true e = rw (e, viewCall) (viewed (eqb-true _ _ e) (eqb (length words) 0) refl)
       by false e = rw (e, viewCall) (viewUnfit (eqb-false _ _ e))
 

@@ -7,9 +7,11 @@ pub fn agrees(index: Index, record: Record, area0: &[u64], area1: &[u64]) -> boo
     let (present, other) = if record.taken % 2 == 0 { (area0, area1) } else { (area1, area0) };
     let stands = match record.failed {
         Some(place) => place <= record.taken && record.count == 0,
-        None => record.count > 0 && record.count <= (present.len() / SLOT) as u64,
+        None => record.count > 0,
     };
-    if !stands {
+    // so the count is at most the slots
+    let peaks = record.count <= record.peak && record.peak <= (present.len() / SLOT) as u64;
+    if !stands || !peaks {
         return false;
     }
     let (held, rest) = present.split_at(record.count as usize * SLOT);

@@ -212,7 +212,7 @@ pub fn all() -> Vec<Example> {
 mod tests {
     use super::*;
     use crate::monitor::history::History;
-    use crate::monitor::program::line;
+    use crate::monitor::program::{line, peak};
     use crate::numbers::{bytes_of, bytes_of_list};
     use std::time::{Duration, Instant};
 
@@ -261,6 +261,16 @@ mod tests {
         assert_eq!(whole(&long), "refused 11 5000");
         for (input, expected) in HEADS {
             assert_eq!(line(&hex(input)), expected, "{input}");
+            assert_eq!(peak(&hex(input)), None, "{input}");
         }
+        // of the events taken: neither a strange one nor one that leaves 272 residuals
+        let peak_of = |parts: &[&str], events: &[u8]| {
+            let bytes = hex(&parts.join(" "));
+            peak(&[bytes_of(bytes.len() as u16), bytes, events.to_vec()].concat())
+        };
+        assert_eq!(peak_of(&[TABLE_B], &[0, 0, 1]), Some(1));
+        assert_eq!(peak_of(&K7, &[0, 1]), Some(2));
+        assert_eq!(peak_of(&K8, &[0, 0, 3]), Some(2));
+        assert_eq!(peak_of(&[ONE_SET, &two_leaves(16, 17)], &[0]), Some(1));
     }
 }

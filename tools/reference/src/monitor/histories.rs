@@ -6,6 +6,7 @@
 mod damaged;
 mod lengths;
 mod limits;
+mod peaks;
 mod states;
 pub(crate) mod walks;
 mod worked;
@@ -17,6 +18,7 @@ use crate::summary::head;
 use damaged::*;
 use lengths::*;
 use limits::*;
+use peaks::*;
 use states::*;
 use walks::*;
 use worked::*;
@@ -40,7 +42,7 @@ pub struct Group {
 type Make = fn(&mut Random, &mut History);
 
 // The groups that are drawn: a hundred parts, each group so many.
-const DRAWN: [(&str, usize, Make); 36] = [
+const DRAWN: [(&str, usize, Make); 43] = [
     ("wrong_lengths_start", 2, wrong_lengths_start),
     ("wrong_lengths_midway", 3, wrong_lengths_midway),
     ("garbage_before_start", 2, garbage_before_start),
@@ -64,14 +66,21 @@ const DRAWN: [(&str, usize, Make); 36] = [
     ("disturbed_words_after_count", 2, words_after_count),
     ("disturbed_other_area", 2, other_area),
     ("disturbed_parity", 2, wrong_parity),
+    ("disturbed_peak_below_count", 2, peak_below_count),
+    ("disturbed_peak_above_slots", 3, peak_above_slots),
+    ("disturbed_peak_and_more", 3, peak_and_more),
     ("odd_sides_swapped", 2, sides_swapped),
     ("odd_any_trees", 6, any_trees),
+    ("odd_peaks", 5, odd_peaks),
     ("random_words", 4, random_words),
     ("other_table", 3, other_table),
     ("counter", 4, counter),
     ("crowded_start", 3, crowded_start),
     ("crowded_midway", 4, crowded_midway),
     ("strange_events", 3, strange_events),
+    ("peaks", 6, peaks),
+    ("peaks_at_slots", 3, peaks_at_slots),
+    ("peaks_after_failure", 3, peaks_after_failure),
     ("pieces_and_at_once", 6, pieces_and_at_once),
     ("alphabet_64", 3, alphabet_64),
     ("memory_0_to_3", 6, memory_0_to_3),
@@ -80,12 +89,13 @@ const DRAWN: [(&str, usize, Make); 36] = [
 ];
 
 // The groups of answers that are wrong on purpose.
-const WRONG: [(&str, Field); 12] = [
+const WRONG: [(&str, Field); 13] = [
     ("stored_number", Field::Number),
     ("stored_place", Field::Place),
     ("stored_has", Field::Has),
     ("stored_taken", Field::Taken),
     ("stored_count", Field::Count),
+    ("stored_peak", Field::Peak),
     ("stored_failed", Field::Failed),
     ("stored_at", Field::At),
     ("stored_mask", Field::Mask),
@@ -109,6 +119,7 @@ pub fn groups(seed: u64, count: usize) -> Vec<Group> {
     add("worked_slots", &|_, history| worked_slots(history));
     add("worked_view", &|_, history| worked_view(history));
     add("worked_lengths", &|_, history| worked_lengths(history));
+    add("worked_peaks", &|_, history| worked_peaks(history));
     add("long_tables", &long_tables);
     add("long_calls", &|_, history| long_calls(history));
     for (name, parts, make) in DRAWN {

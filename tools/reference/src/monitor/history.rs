@@ -12,23 +12,25 @@ use crate::refusal::Refusal;
 pub const FORMAT: &str = "\
 # One line each, fields separated by one space, numbers in decimal and below 2^64:
 #     t n n ..                    a history begins: this number list is lent as the table, and
-#                                 the record is 0 0 0 0
+#                                 the record is 0 0 0 0 0
 #     u n n ..                    this number list is lent from here on; all else stands
 #     a LENGTH0 LENGTH1 FILL      areas 0 and 1 of so many words are lent from here on, each the
 #                                 beginning of a buffer of 4,160 words. FILL 0: all words of both
 #                                 buffers become 0; 1: word j of buffer i becomes
 #                                 2^64 - 1 - j - 8192 i; 2: they stay
-#     r TAKEN COUNT FAILED AT     the record: FAILED 0 is running (AT is then 0), 1 failed at AT
+#     r TAKEN COUNT PEAK FAILED AT
+#                                 the record: FAILED 0 is running (AT is then 0), 1 failed at AT
 #     x AREA INDEX w w ..         the words of buffer AREA from INDEX on become these
-#     s WORK = NUMBER PLACE HAS TAKEN COUNT FAILED AT DIGEST KEPT             Start
-#     f WORK e e .. = NUMBER PLACE HAS TAKEN COUNT FAILED AT DIGEST KEPT      Feed of these events
+#     s WORK = NUMBER PLACE HAS TAKEN COUNT PEAK FAILED AT DIGEST KEPT        Start
+#     f WORK e e .. = NUMBER PLACE HAS TAKEN COUNT PEAK FAILED AT DIGEST KEPT Feed of these events
 #     o WORK = NUMBER PLACE MASK DIGEST KEPT                                  Offer
 #     v = AREA LENGTH                                                         View
 # A list may have no number. WORK is the length of the lent work area; fill it with what is not 0.
 # NUMBER and PLACE are 0 0 for a result, else the refusal's. HAS is 1 if a record is handed back,
-# which is the record of the next call; else it is 0, so are the four numbers after it, and the
-# record that went in stands. MASK is 0 on a refusal. DIGEST is of the lent words of area 0 and
-# then of area 1 after the call: from 1, for each word w
+# which is the record of the next call; else it is 0, so are the five numbers after it, and the
+# record that went in stands. PEAK is the largest COUNT since Start, the present one included. MASK
+# is 0 on a refusal. DIGEST is of the lent words of area 0 and then of area 1 after the call: from
+# 1, for each word w
 #     d := (d * 16777619 + w mod 2^32) mod 4294967291
 #     d := (d * 16777619 + w div 2^32) mod 4294967291
 # KEPT is 1 if the work area must stand as it was, 0 if all its words must be 0. What View hands
@@ -73,15 +75,15 @@ fn junk(area: usize, index: usize) -> u64 {
 }
 
 fn record_fields(record: Record) -> String {
-    let Record { taken, count, failed } = record;
-    format!("{taken} {count} {} {}", failed.is_some() as u8, failed.unwrap_or(0))
+    let Record { taken, count, peak, failed } = record;
+    format!("{taken} {count} {peak} {} {}", failed.is_some() as u8, failed.unwrap_or(0))
 }
 
 fn numbered(refusal: Option<Refusal>) -> (u8, usize) {
     refusal.map_or((0, 0), |refusal| (refusal.number, refusal.place))
 }
 
-const ZERO: Record = Record { taken: 0, count: 0, failed: None };
+const ZERO: Record = Record { taken: 0, count: 0, peak: 0, failed: None };
 
 impl History {
     pub fn new() -> History {
@@ -280,9 +282,9 @@ impl History {
         }
     }
 
-    pub fn known_record(&mut self, taken: u64, count: u64, failed: Option<u64>) {
-        if self.record != (Record { taken, count, failed }) {
-            self.report(format!("known record {taken} {count} {failed:?}"));
+    pub fn known_record(&mut self, taken: u64, count: u64, peak: u64, failed: Option<u64>) {
+        if self.record != (Record { taken, count, peak, failed }) {
+            self.report(format!("known record {taken} {count} {peak} {failed:?}"));
         }
     }
 

@@ -1,5 +1,5 @@
-// Start, Feed, Offer and View (01, "Operations", "When the monitor declines"): for every input
-// the whole outcome: the answer, both areas, and whether the work area is kept.
+// Start, Feed, Offer and View (01, "Operations", "When the monitor declines"; the record's peak:
+// 02, W1): for every input the whole outcome: the answer, both areas, and whether the work area is kept.
 //     Answer      a record; a refusal; a refusal with a record
 //     Outcome     an answer and what stands in the lent areas afterwards
 
@@ -83,7 +83,8 @@ pub fn start(list: &[u16], areas: &Areas, work_len: usize) -> Outcome<Answer> {
         },
         Results::Few(residuals) => {
             let failed = residuals.is_empty().then_some(0);
-            let record = Record { taken: 0, count: residuals.len() as u64, failed };
+            let count = residuals.len() as u64;
+            let record = Record { taken: 0, count, peak: count, failed };
             Outcome {
                 answer: Answer { refusal: None, record: Some(record) },
                 areas: [area(&residuals, length), zero],
@@ -143,7 +144,10 @@ fn take(
             // "An empty set means failed, at taken with that event counted"; "Later events are
             // taken; the place stays."
             let failed = record.failed.or(next.is_empty().then_some(taken));
-            Ok((Record { taken, count: next.len() as u64, failed }, next))
+            let count = next.len() as u64;
+            // "the largest residual count since Start, the present one included"
+            let peak = record.peak.max(count);
+            Ok((Record { taken, count, peak, failed }, next))
         }
     }
 }

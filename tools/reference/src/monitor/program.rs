@@ -1,7 +1,9 @@
 // The program and its line (01, "The program and its lines"): "a number, that many table bytes,
 // then events, one byte each. 256 slots."
+//     line        what the program prints
+//     peak        the record's peak after the events taken, which the line does not have
 
-use super::operations::{feed, start, MOST_AREA};
+use super::operations::{feed, start, Answer, MOST_AREA};
 use crate::numbers::{number_at, Reading};
 use crate::operations::{read, READ_OUTPUT, WORK};
 use crate::refusal::*;
@@ -38,7 +40,14 @@ pub fn parts(input: &[u8]) -> Result<(&[u8], &[u8]), Refusal> {
     Ok(rest.split_at(length))
 }
 
-fn judged(input: &[u8], area_len: usize) -> Result<String, Refusal> {
+// None where no monitor was started.
+pub fn peak(input: &[u8]) -> Option<u64> {
+    let answer = fed(input, MOST_AREA).ok()?;
+    answer.record.map(|record| record.peak)
+}
+
+// What Feed answers, or a refusal before it.
+fn fed(input: &[u8], area_len: usize) -> Result<Answer, Refusal> {
     let (bytes, events) = parts(input)?;
     let table = read(bytes, READ_OUTPUT, WORK);
     let list = &table.output[..table.answer?];
@@ -47,11 +56,15 @@ fn judged(input: &[u8], area_len: usize) -> Result<String, Refusal> {
         return Err(refusal);
     }
     let record = started.answer.record.expect("a record without a refusal");
-    let fed = feed(list, record, &started.areas, events, WORK);
-    if let Some(refusal) = fed.answer.refusal {
+    Ok(feed(list, record, &started.areas, events, WORK).answer)
+}
+
+fn judged(input: &[u8], area_len: usize) -> Result<String, Refusal> {
+    let answer = fed(input, area_len)?;
+    if let Some(refusal) = answer.refusal {
         return Err(refusal);
     }
-    let record = fed.answer.record.expect("a record without a refusal");
+    let record = answer.record.expect("a record without a refusal");
     Ok(match record.failed {
         Some(place) => format!("failed {place} {}", record.taken),
         None => format!("running {} {}", record.taken, record.count),

@@ -14,11 +14,11 @@ use crate::refusal::*;
 use crate::table::Table;
 use std::collections::BTreeSet;
 
-fn zero_areas(slots: usize) -> Areas {
+pub(super) fn zero_areas(slots: usize) -> Areas {
     [vec![0; 16 * slots], vec![0; 16 * slots]]
 }
 
-fn any_table(random: &mut Random) -> Table {
+pub(super) fn any_table(random: &mut Random) -> Table {
     match random.below(8) {
         0..=2 => small(random, SMALL),
         3 => small(random, MIDDLE),
@@ -29,12 +29,12 @@ fn any_table(random: &mut Random) -> Table {
     }
 }
 
-fn any_events(random: &mut Random, alphabet: u16, most: usize) -> Vec<u8> {
+pub(super) fn any_events(random: &mut Random, alphabet: u16, most: usize) -> Vec<u8> {
     (0..random.between(0, most)).map(|_| random.below(alphabet as usize) as u8).collect()
 }
 
 // Events that keep the monitor running where there are any, mostly.
-fn guided_events(random: &mut Random, table: &Table, most: usize) -> Vec<u8> {
+pub(super) fn guided_events(random: &mut Random, table: &Table, most: usize) -> Vec<u8> {
     let terms = Terms::of(table);
     let mut residuals = resolve_last(&terms);
     let mut events = Vec::new();
@@ -186,7 +186,11 @@ fn verdicts_are_those_of_traces() {
 
 const MOST_REPEATS: usize = 3_000;
 
-fn resolve_plainly(terms: &Terms, term: usize, memory: Memory) -> Option<Vec<Residual>> {
+pub(super) fn resolve_plainly(
+    terms: &Terms,
+    term: usize,
+    memory: Memory,
+) -> Option<Vec<Residual>> {
     let node = Node { term, memory };
     let made = match *terms.kind(term) {
         Kind::Stop | Kind::Prefix { .. } => vec![Residual::Leaf(node)],
@@ -223,7 +227,11 @@ fn pairs_plainly(
     Some(made)
 }
 
-fn after_plainly(terms: &Terms, residual: &Residual, event: u16) -> Option<Vec<Residual>> {
+pub(super) fn after_plainly(
+    terms: &Terms,
+    residual: &Residual,
+    event: u16,
+) -> Option<Vec<Residual>> {
     match residual {
         Residual::Leaf(Node { term, memory }) => match terms.kind(*term) {
             Kind::Prefix { set, follower } if terms.holds(set, *memory, event) => {

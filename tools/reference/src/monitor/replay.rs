@@ -41,8 +41,9 @@ fn again(history: &mut History, line: &str) -> Option<()> {
             history.lend(length(0)?, length(1)?, fill);
         }
         "r" => {
-            let [taken, count, failed, at] = numbers[..] else { return None };
-            history.set_record(Record { taken, count, failed: (failed == 1).then_some(at) });
+            let [taken, count, peak, failed, at] = numbers[..] else { return None };
+            let failed = (failed == 1).then_some(at);
+            history.set_record(Record { taken, count, peak, failed });
         }
         "x" => history.set_words(length(0)?, length(1)?, &numbers[2..]),
         "s" => {

@@ -1,6 +1,6 @@
 // The state record, and whether it agrees with the areas (01, "When the monitor declines":
-// "Disturbed").
-//     Record      taken, residual count, running or failed at a place
+// "Disturbed"; 02, W1).
+//     Record      taken, residual count, its peak, running or failed at a place
 //     held        the residuals that a state holds, unless it is disturbed
 
 use super::residual::*;
@@ -11,6 +11,8 @@ use std::rc::Rc;
 pub struct Record {
     pub taken: u64,
     pub count: u64,
+    // "the largest residual count since Start, the present one included" (02, W1)
+    pub peak: u64,
     // the place of failure; none while running
     pub failed: Option<u64>,
 }
@@ -41,7 +43,9 @@ pub fn held(terms: &Terms, record: Record, areas: &Areas) -> Option<Residuals> {
         Some(place) => place <= record.taken && record.count == 0,
         None => record.count > 0 && record.count <= slots as u64,
     };
-    if !stands || !zeros(other) {
+    // "A record whose peak is below its count, or above the slots, is disturbed." (02, W1)
+    let peaks = record.count <= record.peak && record.peak <= slots as u64;
+    if !stands || !peaks || !zeros(other) {
         return None;
     }
     // "a present area that is not that many ascending valid slots (none after failure) and then

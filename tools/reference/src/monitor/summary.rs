@@ -13,8 +13,8 @@ fn kind_of(line: &str) -> Option<bool> {
     let parts: Vec<Vec<&str>> = rest.split(" =").map(spaced).collect::<Option<_>>()?;
     let lengths: Vec<usize> = parts.iter().map(|part| part.len()).collect();
     match (letter, lengths.as_slice()) {
-        ("t" | "u", [_]) | ("a", [3]) | ("r", [4]) | ("x", [(2..)]) => Some(false),
-        ("s", [1, 9]) | ("f", [(1..), 9]) | ("o", [1, 5]) | ("v", [0, 2]) => Some(true),
+        ("t" | "u", [_]) | ("a", [3]) | ("r", [5]) | ("x", [(2..)]) => Some(false),
+        ("s", [1, 10]) | ("f", [(1..), 10]) | ("o", [1, 5]) | ("v", [0, 2]) => Some(true),
         _ => None,
     }
 }
@@ -25,14 +25,15 @@ mod tests {
 
     #[test]
     fn calls_are_counted() {
-        let text = "# head\n# group a\nt 3 0\na 16 16 1\ns 8192 = 0 0 1 0 1 0 0 5 0\nv = 0 16\n\
+        let text =
+            "# head\n# group a\nt 3 0\na 16 16 1\ns 8192 = 0 0 1 0 1 1 0 0 5 0\nv = 0 16\n\
                     # group b\nt\n# wrong c\nv = 0 32\n";
         assert_eq!(summary(text), Ok("a 2\nb 0\nc 1 of 1 wrong, first 1\nok\n".to_string()));
     }
 
     #[test]
     fn other_lines_are_refused() {
-        for line in ["", "y 1", "s 1 = 0", "v = 0", "x 1", "f = 0 0 1 0 1 0 0 5 0", "t 1  2"] {
+        for line in ["", "y 1", "s 1 = 0", "v = 0", "x 1", "f = 0 0 1 0 1 1 0 0 5 0", "t 1  2"] {
             assert!(summary(&format!("# group a\n{line}\n")).is_err(), "{line}");
         }
         assert!(summary("v = 0 0\n# group a\n").is_err());

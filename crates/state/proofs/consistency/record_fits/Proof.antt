@@ -1,34 +1,36 @@
--- `state::consistency::record_fits` meets its contract: the verdict and the first test say which case holds. Assumes
--- nothing.
-use Rattle.state.proofs.consistency.Cases.{running-none, running-some, failed-later, failed-here}
+-- `state::consistency::record_fits` meets its contract: the verdict decides, and then the peak beside the count and the
+-- slots. Assumes nothing.
+use mathlib.Core.Path.{sym, _∙_}
+use borrow.Author.Tests.{not-true, not-false}
+use Rattle.state.proofs.consistency.Cases.{verdict-unfit, peak-below, peak-within}
 use borrow.Author.Needs.{needs}
 use Rattle.state.proofs.consistency.record_fits.Statement.{statement}
 use Rattle.state.proofs.consistency.record_fits.Tie as tie
 
-enum-told : tie.Need-enum-told
-enum-told c = search needs
+verdict-fits-requires : tie.Need-verdict-fits-requires
+verdict-fits-requires c κs = search needs
 
 returns : tie.Need-returns
-returns c = running-none _ _ (c .before .before .enum-told .given .1) (c .if1 .taken)
+returns c =
+    let verdict-fits = c .before .verdict-fits in
+    let at-start = c .before .before in
+    verdict-unfit (at-start .args .state) _ (sym (verdict-fits .ensures) ∙ not-true _ (c .if1 .taken))
 
-enum-known-verdict : tie.Need-enum-known-verdict
-enum-known-verdict c = search needs
-
+-- the peak is below the count
 returns-2 : tie.Need-returns-2
-returns-2 c = failed-later _ _ _ (c .before .before .before .verdict .given .1) (c .if2 .taken)
+returns-2 c =
+    let if1 = c .before .before .if1 in
+    let verdict-fits = c .before .before .before .verdict-fits in
+    let at-start = c .before .before .before .before in
+    peak-below (at-start .args .state) _ (sym (verdict-fits .ensures) ∙ not-false _ (if1 .left)) (c .if2 .taken)
 
 returns-3 : tie.Need-returns-3
 returns-3 c =
-    let if1 = c .before .if1 in
-    let enum-told = c .before .before .before .enum-told in
-    running-some _ _ (enum-told .given .1) (if1 .left)
-
-returns-4 : tie.Need-returns-4
-returns-4 c =
     let if2 = c .before .if2 in
-    let verdict = c .before .before .before .before .verdict in
-    failed-here _ _ _ (verdict .given .1) (if2 .left)
+    let if1 = c .before .before .before .if1 in
+    let verdict-fits = c .before .before .before .before .verdict-fits in
+    let at-start = c .before .before .before .before .before in
+    peak-within (at-start .args .state) _ (sym (verdict-fits .ensures) ∙ not-false _ (if1 .left)) (if2 .left)
 
 pub record-fits-spec : {M : Type 1} → statement M
-record-fits-spec =
-    tie.close (tie.spec enum-told returns enum-known-verdict returns-2 returns-3 returns-4)
+record-fits-spec = tie.close (tie.spec verdict-fits-requires returns returns-2 returns-3)

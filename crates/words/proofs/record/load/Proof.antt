@@ -1,4 +1,4 @@
--- `words::record::load` meets its contract: `stateIn` reads the same four words. Assumes nothing.
+-- `words::record::load` meets its contract: `stateIn` reads the same five words. Assumes nothing.
 use borrow.Author.Needs.{needs}
 use Rattle.words.specs.Words.Laws.{loaded}
 use Rattle.words.proofs.record.load.Statement.{statement}
@@ -19,8 +19,13 @@ shared-slice-read-t4 c = search needs
 shared-slice-read-t6 : tie.Need-shared-slice-read-t6
 shared-slice-read-t6 c = search needs
 
+shared-slice-read-t10 : tie.Need-shared-slice-read-t10
+shared-slice-read-t10 c = search needs
+
 returns : tie.Need-returns
-returns c = loaded (c .before .before .verdict-in .result) _ (c .before .before .verdict-in .ensures)
+returns c =
+    let verdict-in = c .before .before .before .verdict-in in
+    loaded (verdict-in .result) _ (verdict-in .ensures)
 
 pub load-spec : {M : Type 1} → statement M
 load-spec =
@@ -31,4 +36,5 @@ load-spec =
     verdict-in-requires
     shared-slice-read-t4
     shared-slice-read-t6
+    shared-slice-read-t10
     returns)

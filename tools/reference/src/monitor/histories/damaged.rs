@@ -11,18 +11,18 @@ use crate::monitor::terms::{Kind, Terms};
 use crate::random::Random;
 use crate::refusal::INCONSISTENT;
 
-struct State {
-    made: Prepared,
-    record: Record,
-    areas: Areas,
+pub(super) struct State {
+    pub made: Prepared,
+    pub record: Record,
+    pub areas: Areas,
 }
 
-fn any(_: &Terms, _: &Residuals) -> bool {
+pub(super) fn any(_: &Terms, _: &Residuals) -> bool {
     true
 }
 
 // A running state for which `want` holds.
-fn state(
+pub(super) fn state(
     random: &mut Random,
     history: &mut History,
     want: impl Fn(&Terms, &Residuals) -> bool,
@@ -33,7 +33,7 @@ fn state(
 }
 
 // Every call says 10; View shows what the record says; put back, it goes on.
-fn disturbed(random: &mut Random, history: &mut History, state: &State) {
+pub(super) fn disturbed(random: &mut Random, history: &mut History, state: &State) {
     if random.once_in(2) {
         history.feed(&[]);
         history.known(INCONSISTENT, 0);
@@ -54,7 +54,7 @@ fn disturbed(random: &mut Random, history: &mut History, state: &State) {
 // ---- the record
 
 // A number above n, often just above it.
-fn above(random: &mut Random, n: u64) -> u64 {
+pub(super) fn above(random: &mut Random, n: u64) -> u64 {
     match random.below(4) {
         0 => u64::MAX,
         1 => (n + 1).max(random.next() >> random.below(60)),
@@ -62,8 +62,8 @@ fn above(random: &mut Random, n: u64) -> u64 {
     }
 }
 
-// A failed state: areas zero.
-fn failed(random: &mut Random, history: &mut History) -> State {
+// A failed state: areas zero, and any peak up to the slots.
+pub(super) fn failed(random: &mut Random, history: &mut History) -> State {
     let made = prepared(random, any);
     let length = 16 * made.slots;
     history.table(&made.list);
@@ -74,9 +74,14 @@ fn failed(random: &mut Random, history: &mut History) -> State {
         1 => taken,
         _ => random.next() % (taken + 1),
     };
-    history.set_record(Record { taken, count: 0, failed: Some(place) });
+    let peak = match random.below(3) {
+        0 => 0,
+        1 => made.slots as u64,
+        _ => random.between(0, made.slots) as u64,
+    };
+    history.set_record(Record { taken, count: 0, peak, failed: Some(place) });
     history.feed(&[random.below(made.terms.alphabet as usize) as u8]);
-    history.known_record(taken + 1, 0, Some(place));
+    history.known_record(taken + 1, 0, peak, Some(place));
     let areas = history.areas();
     State { made, record: history.record, areas }
 }
@@ -88,7 +93,7 @@ pub fn place_above_taken(random: &mut Random, history: &mut History) {
     disturbed(random, history, &state);
     // and at 0, where a Start that fails has it
     if random.once_in(4) {
-        history.set_record(Record { taken: 0, count: 0, failed: Some(1) });
+        history.set_record(Record { taken: 0, failed: Some(1), ..state.record });
         disturbed(random, history, &state);
     }
 }
@@ -98,7 +103,7 @@ pub fn held_after_failure(random: &mut Random, history: &mut History) {
         // a count and no slots
         let state = failed(random, history);
         let count = if random.once_in(2) { 1 } else { above(random, 0) };
-        history.set_record(Record { count, ..state.record });
+        history.set_record(counted(state.record, count));
         disturbed(random, history, &state);
         return;
     }
@@ -129,7 +134,7 @@ pub fn count_above_slots(random: &mut Random, history: &mut History) {
         2 => 1 << 32,
         _ => above(random, state.made.slots as u64),
     };
-    history.set_record(Record { count, ..state.record });
+    history.set_record(counted(state.record, count));
     disturbed(random, history, &state);
 }
 
@@ -138,7 +143,7 @@ pub fn count_beside_slots(random: &mut Random, history: &mut History) {
     let state = state(random, history, any);
     let count = state.record.count;
     let count = if count > 1 && random.once_in(2) { count - 1 } else { count + 1 };
-    history.set_record(Record { count, ..state.record });
+    history.set_record(counted(state.record, count));
     disturbed(random, history, &state);
 }
 
@@ -159,7 +164,7 @@ fn put(history: &mut History, state: &State, slots: &[Vec<u64>], count: u64) {
     let mut area = slots.concat();
     area.resize(16 * state.made.slots, 0);
     areas[state.record.present()] = area;
-    history.restore(Record { count, ..state.record }, &areas);
+    history.restore(counted(state.record, count), &areas);
 }
 
 pub fn not_ascending(random: &mut Random, history: &mut History) {

@@ -21,7 +21,7 @@ pub fn long_tables(random: &mut Random, history: &mut History) {
         (long(MOST_BYTES, 0), long(MOST_BYTES + 1, 0), long(MOST_BYTES + 1, 1));
     history.begin(&stands, 2);
     history.start();
-    history.known_record(0, 1, None);
+    history.known_record(0, 1, 1, None);
     history.offer();
     history.feed(&[0, 63]);
     history.known(0, 0);
@@ -45,12 +45,12 @@ pub fn long_calls(history: &mut History) {
     events.push(3);
     history.feed(&events);
     history.known(UNKNOWN_EVENT, 5_000);
-    history.known_record(5_000, 1, None);
+    history.known_record(5_000, 1, 1, None);
     history.feed(&[1, 3]);
     history.known(UNKNOWN_EVENT, 1);
-    history.known_record(5_001, 0, Some(5_001));
+    history.known_record(5_001, 0, 1, Some(5_001));
     history.feed(&[2; 300]);
-    history.known_record(5_301, 0, Some(5_001));
+    history.known_record(5_301, 0, 1, Some(5_001));
 }
 
 // A state whose taken is raised to the end, parity kept.
@@ -89,7 +89,8 @@ pub fn counter(random: &mut Random, history: &mut History) {
         history.lend(length, length, Fill::Zeros);
         let taken = u64::MAX - random.below(3) as u64;
         let failed = Some(taken - random.below(9) as u64);
-        history.set_record(Record { taken, count: 0, failed });
+        let peak = random.between(0, made.slots) as u64;
+        history.set_record(Record { taken, count: 0, peak, failed });
         let events = vec![0; random.between(0, 4)];
         let left = (u64::MAX - taken) as usize;
         history.feed(&events);
@@ -100,6 +101,7 @@ pub fn counter(random: &mut Random, history: &mut History) {
         }
         history.feed(&[255]);
         history.known(UNKNOWN_EVENT, 0);
+        history.known_true(history.record.peak == peak, "the peak stays");
         history.offer();
     }
 }

@@ -12,16 +12,21 @@ use crate::refusal::INCONSISTENT;
 use crate::table::*;
 use std::rc::Rc;
 
+// The record with another count, its peak raised where it would be below.
+pub fn counted(record: Record, count: u64) -> Record {
+    Record { count, peak: record.peak.max(count), ..record }
+}
+
 pub fn is_pair(residual: &Residual) -> bool {
     matches!(residual, Residual::Pair(..))
 }
 
-// These residuals instead of those that the present area holds.
+// These residuals instead of those that the present area holds, with a peak that stands.
 pub fn hold(history: &mut History, residuals: &Residuals) {
     let length = history.lengths[0];
     let mut areas = history.areas();
     areas[history.record.present()] = area(residuals, length);
-    let record = Record { count: residuals.len() as u64, ..history.record };
+    let record = counted(history.record, residuals.len() as u64);
     history.restore(record, &areas);
 }
 

@@ -20,6 +20,8 @@ pub struct Prepared {
     pub slots: usize,
     pub events: Vec<u8>,
     pub residuals: Residuals,
+    // the most residuals on the way there, these included
+    pub peak: u64,
 }
 
 pub fn permitted(terms: &Terms, residuals: &Residuals) -> Vec<u8> {
@@ -83,7 +85,8 @@ pub fn prepared_of(
             let enough = !several || residuals.len() > 1;
             if enough && want(&terms, &residuals) && !random.once_in(3) {
                 let slots = most + random.between(1, 3);
-                return Prepared { list: table.list(), terms, slots, events, residuals };
+                let (list, peak) = (table.list(), most as u64);
+                return Prepared { list, terms, slots, events, residuals, peak };
             }
             let event = event(random, &terms, &residuals);
             let Results::Few(next) = after_all(&terms, &residuals, event as u16, 12) else {
@@ -108,7 +111,8 @@ pub fn enter(history: &mut History, prepared: &Prepared) {
     if !prepared.events.is_empty() {
         history.feed(&prepared.events);
     }
-    history.known_record(prepared.events.len() as u64, prepared.residuals.len() as u64, None);
+    let (taken, count) = (prepared.events.len() as u64, prepared.residuals.len() as u64);
+    history.known_record(taken, count, prepared.peak, None);
 }
 
 fn slots_for(random: &mut Random, table: &Table) -> usize {
@@ -277,7 +281,8 @@ pub fn crowded_start(random: &mut Random, history: &mut History) {
     let few = if random.once_in(2) { count - 1 } else { random.between(1, count - 1) };
     history.begin(&table.list(), few);
     if random.once_in(3) {
-        history.set_record(Record { taken: random.below(9) as u64, count: 3, failed: Some(1) });
+        let (taken, peak) = (random.below(9) as u64, random.below(9) as u64);
+        history.set_record(Record { taken, count: 3, peak, failed: Some(1) });
     }
     let record = history.record;
     history.start();
@@ -288,7 +293,7 @@ pub fn crowded_start(random: &mut Random, history: &mut History) {
     history.view();
     history.lend(16 * count, 16 * count, Fill::Kept);
     history.start();
-    history.known_record(0, count as u64, None);
+    history.known_record(0, count as u64, count as u64, None);
     history.view();
     history.feed(&[random.below(table.alphabet as usize) as u8]);
     history.offer();
@@ -314,6 +319,7 @@ pub fn crowded_midway(random: &mut Random, history: &mut History) {
             .filter(|&e| after_all(terms, &residuals, e, slots) == Results::Many)
             .map(|e| e as u8)
             .collect();
+        let peak = way.iter().copied().max().expect("the start") as u64;
         if !way.into_iter().all(fits) || crowding.is_empty() {
             continue;
         }
@@ -324,11 +330,13 @@ pub fn crowded_midway(random: &mut Random, history: &mut History) {
         events.push(random.below(256) as u8);
         history.feed(&events);
         history.known(CAPACITY_EXCEEDED, made.events.len());
-        history.known_record(made.events.len() as u64, residuals.len() as u64, None);
+        let (taken, count) = (made.events.len() as u64, residuals.len() as u64);
+        history.known_record(taken, count, peak, None);
         history.offer();
         history.view();
         history.feed(&[*random.pick(&crowding)]);
         history.known(CAPACITY_EXCEEDED, 0);
+        history.known_record(taken, count, peak, None);
         for _ in 0..random.between(1, 4) {
             let residuals = residuals_of(terms, history);
             let next = event(random, terms, &residuals);

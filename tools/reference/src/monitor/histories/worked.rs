@@ -1,5 +1,6 @@
 // Histories worked by hand from 01: each answer that is checked here stands in the source.
 
+use super::states::counted;
 use crate::monitor::examples::*;
 use crate::monitor::history::{Fill, History};
 use crate::monitor::residual::{node_word, Node};
@@ -48,10 +49,10 @@ pub fn worked_readings(history: &mut History) {
     history.begin(&list_of(&[TABLE_B]), 1);
     history.start();
     history.feed(&[0, 1, 0, 1, 0]);
-    history.known_record(5, 1, None);
+    history.known_record(5, 1, 1, None);
     history.feed(&[0, 9]);
     history.known(11, 1);
-    history.known_record(6, 0, Some(6));
+    history.known_record(6, 0, 1, Some(6));
     // K8 with one slot: crowded by 0, failed by 1, and 0 is offered all the same
     history.begin(&list_of(&K8), 1);
     history.start();
@@ -59,9 +60,9 @@ pub fn worked_readings(history: &mut History) {
     history.known_true(mask == 1, "event 0 alone is offered");
     history.feed(&[0]);
     history.known(13, 0);
-    history.known_record(0, 1, None);
+    history.known_record(0, 1, 1, None);
     history.feed(&[1, 0]);
-    history.known_record(2, 0, Some(1));
+    history.known_record(2, 0, 1, Some(1));
 }
 
 pub fn worked_stress(history: &mut History) {
@@ -85,7 +86,7 @@ pub fn worked_counter(history: &mut History) {
             history.set_record(Record { taken, ..history.record });
             history.feed(events);
             history.known(known.0, known.1);
-            history.known_record(after.0, after.1, after.2);
+            history.known_record(after.0, after.1, 1, after.2);
             history.offer();
             history.view();
         };
@@ -133,7 +134,7 @@ pub fn worked_slots(history: &mut History) {
         for (i, slot) in slots.iter().enumerate() {
             history.set_words(0, 16 * i, slot);
         }
-        history.set_record(Record { count, ..history.record });
+        history.set_record(counted(history.record, count));
         history.feed(&[]);
         history.known(known, 0);
         history.feed(&[0]);
@@ -203,7 +204,7 @@ pub fn worked_slots(history: &mut History) {
     ] {
         history.begin(&reach, 1);
         history.start();
-        history.known_record(0, 1, None);
+        history.known_record(0, 1, 1, None);
         history.set_words(0, 0, &slot);
         history.feed(&[]);
         history.known(known, 0);
@@ -222,7 +223,7 @@ pub fn worked_slots(history: &mut History) {
         history.known(10, 0);
         history.set_words(0, 1, &[of(2)]);
         history.feed(&[0]);
-        history.known_record(1, 1, None);
+        history.known_record(1, 1, 1, None);
     }
     history.begin(&list_of(&[TABLE_B]), 1);
     history.start();
@@ -242,7 +243,7 @@ pub fn worked_slots(history: &mut History) {
     ] {
         history.table(&list_of(&[TABLE_B]));
         history.lend(32, 32, Fill::Zeros);
-        history.set_record(Record { taken, count, failed: Some(at) });
+        history.set_record(Record { taken, count, peak: count, failed: Some(at) });
         history.feed(&[]);
         history.known(known, 0);
         history.offer();
@@ -263,9 +264,12 @@ pub fn worked_view(history: &mut History) {
     let mut at = |lengths: [usize; 2], record: (u64, u64, Option<u64>), known: (usize, usize)| {
         history.lend(lengths[0], lengths[1], Fill::Junk);
         let (taken, count, failed) = record;
-        history.set_record(Record { taken, count, failed });
-        let viewed = history.view();
-        history.known_true(viewed == known, &format!("view {known:?}"));
+        // View takes no notice of the peak
+        for peak in [count, 0, LAST] {
+            history.set_record(Record { taken, count, peak, failed });
+            let viewed = history.view();
+            history.known_true(viewed == known, &format!("view {known:?}"));
+        }
     };
     at([16, 16], (0, 1, None), (0, 16));
     at([16, 16], (1, 1, None), (1, 16));
@@ -327,20 +331,20 @@ pub fn worked_lengths(history: &mut History) {
         history.start_work(work_len);
         history.known(1, 0);
         history.start();
-        history.known_record(0, 1, None);
+        history.known_record(0, 1, 1, None);
         history.feed_work(&[0], work_len);
         history.known(1, 0);
         history.offer_work(work_len);
         history.known(1, 0);
         history.feed_work(&[0], WORK);
-        history.known_record(1, 1, None);
+        history.known_record(1, 1, 1, None);
     }
     for slots in [1, 2, 255, 256] {
         history.begin(&b, slots);
         history.start();
-        history.known_record(0, 1, None);
+        history.known_record(0, 1, 1, None);
         history.feed(&[0, 1, 0]);
-        history.known_record(3, 1, None);
+        history.known_record(3, 1, 1, None);
         history.view();
     }
 }

@@ -16,6 +16,7 @@ pub enum Field {
     Has,
     Taken,
     Count,
+    Peak,
     Failed,
     At,
     Mask,
@@ -41,10 +42,11 @@ fn index(field: Field, letter: char) -> Option<usize> {
         (_, Has) => Some(2),
         (_, Taken) => Some(3),
         (_, Count) => Some(4),
-        (_, Failed) => Some(5),
-        (_, At) => Some(6),
-        (_, Digest) => Some(7),
-        (_, Kept) => Some(8),
+        (_, Peak) => Some(5),
+        (_, Failed) => Some(6),
+        (_, At) => Some(7),
+        (_, Digest) => Some(8),
+        (_, Kept) => Some(9),
     }
 }
 
@@ -62,15 +64,19 @@ fn others(field: Field, given: u64) -> Vec<u64> {
     }
 }
 
-// A monitor after these events.
-fn enter(history: &mut History, list: &[u16], events: &[u8]) {
+// A monitor with so many slots after these events.
+fn enter_lent(history: &mut History, slots: usize, list: &[u16], events: &[u8]) {
     let mut made = History::new();
-    made.begin(list, 1);
+    made.begin(list, slots);
     made.start();
     made.feed(events);
     history.table(list);
-    history.lend(16, 16, Fill::Zeros);
+    history.lend(16 * slots, 16 * slots, Fill::Zeros);
     history.restore(made.record, &made.areas());
+}
+
+fn enter(history: &mut History, list: &[u16], events: &[u8]) {
+    enter_lent(history, 1, list, events);
 }
 
 fn table_b() -> Vec<u16> {
@@ -81,11 +87,15 @@ fn disturb(history: &mut History) {
     history.set_record(Record { count: 2, ..history.record });
 }
 
+fn disturb_peak(history: &mut History) {
+    history.set_record(Record { peak: 2, ..history.record });
+}
+
 // ---- each call with each kind of answer
 
 type Call = fn(&mut History);
 
-const CALLS: [Call; 20] = [
+const CALLS: [Call; 24] = [
     // Start: running, failed, a wrong length, a refused table, crowded
     |history| {
         history.begin(&table_b(), 1);
@@ -107,8 +117,8 @@ const CALLS: [Call; 20] = [
         history.begin(&list_of(&K7), 1);
         history.start();
     },
-    // Feed: running, failed, a wrong length, a refused table, disturbed, and stopped: strange,
-    // strange after failure, crowded
+    // Feed: running, failed, each with a peak above the last count; a wrong length, a refused table,
+    // disturbed, by the peak too, and stopped: strange, strange after failure, crowded
     |history| {
         enter(history, &table_b(), &[0]);
         history.feed(&[1, 0]);
@@ -116,6 +126,14 @@ const CALLS: [Call; 20] = [
     |history| {
         enter(history, &table_b(), &[0]);
         history.feed(&[0, 1]);
+    },
+    |history| {
+        enter_lent(history, 2, &list_of(&K7), &[0]);
+        history.feed(&[1]);
+    },
+    |history| {
+        enter_lent(history, 3, &list_of(&K8), &[0]);
+        history.feed(&[0, 0]);
     },
     |history| {
         enter(history, &table_b(), &[0]);
@@ -132,6 +150,11 @@ const CALLS: [Call; 20] = [
         history.feed(&[1]);
     },
     |history| {
+        enter(history, &table_b(), &[0]);
+        disturb_peak(history);
+        history.feed(&[1]);
+    },
+    |history| {
         enter(history, &table_b(), &[]);
         history.feed(&[0, 1, 3]);
     },
@@ -143,7 +166,7 @@ const CALLS: [Call; 20] = [
         enter(history, &list_of(&K8), &[]);
         history.feed(&[0]);
     },
-    // Offer: running, failed, a wrong length, disturbed
+    // Offer: running, failed, a wrong length, disturbed, by the peak too
     |history| {
         enter(history, &table_b(), &[0]);
         history.offer();
@@ -159,6 +182,11 @@ const CALLS: [Call; 20] = [
     |history| {
         enter(history, &table_b(), &[0]);
         disturb(history);
+        history.offer();
+    },
+    |history| {
+        enter(history, &table_b(), &[0]);
+        disturb_peak(history);
         history.offer();
     },
     // View: area 0, area 1, nothing
