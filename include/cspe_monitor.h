@@ -1,8 +1,9 @@
 /*
  * A runtime monitor for tables in the process algebra CSP_E, as a static library for C: the six operations of
- * document 01 (Read, Write, Start, Feed, Offer, View). `rt staticlib monitor_c` proves and writes it
- * (target/staticlib/libmonitor_c.a, for x86-64 Linux). Each function is proved to return, and to leave in every word
- * that it is lent, what crates/words/specs defines, on every input: no call has a condition but those below.
+ * document 01 (Read, Write, Start, Feed, Offer, View), and the office's lot sheet (document 02, W2). `rt staticlib
+ * monitor_c` proves and writes it (target/staticlib/libmonitor_c.a, for x86-64 Linux). Each function is proved to
+ * return, and to leave in every word that it is lent, what crates/words/specs defines, on every input: no call has a
+ * condition but those below.
  *
  * What is lent. Every buffer is the caller's, and is lent for one call: a pointer, and after it how many elements it
  * points to. A pointer is aligned for its type and is never NULL, also where its length is 0. A buffer that a call may
@@ -40,7 +41,7 @@ extern "C" {
 #endif
 
 /* It goes up by one where the library changes for a caller; docs/CHANGELOG.md says how. */
-#define CSPE_VERSION 2
+#define CSPE_VERSION 3
 
 /* A table has at most so many bytes. */
 #define CSPE_TABLE_BYTES 16384
@@ -60,11 +61,13 @@ extern "C" {
 #define CSPE_FAILED 2
 #define CSPE_PLACE 3
 #define CSPE_PEAK 4
+/* The bytes of a line of a sheet: 48 characters and a line feed. */
+#define CSPE_SHEET_LINE_BYTES 49
 
 /*
  * The refusals, with document 01's words and their places. They are tried in this order: 1; 2; 3 to 5 at each number
  * from the left; 6; 7 from the left; 8; 9; 10; at each event 11, 12, 13. On a number list (all functions but
- * cspe_read) 4 is never met, and 2 is tried right after 9.
+ * cspe_read) 4 is never met, and 2 is tried right after 9. cspe_sheet alone gives 14 and 15, and in another order.
  */
 enum cspe_refusal {
     CSPE_NONE = 0,
@@ -80,7 +83,9 @@ enum cspe_refusal {
     CSPE_INCONSISTENT = 10,      /* disturbed: record and areas disagree, the peak and the slots too; place 0 */
     CSPE_UNKNOWN_EVENT = 11,     /* strange event: it is not below the alphabet's size; place: events taken by this call */
     CSPE_COUNTER_FULL = 12,      /* counter full: 2^64 - 1 events were taken; place: the same */
-    CSPE_CAPACITY_EXCEEDED = 13  /* crowded: more residuals than the areas have room for; place: the same, 0 at Start */
+    CSPE_CAPACITY_EXCEEDED = 13, /* crowded: more residuals than the areas have room for; place: the same, 0 at Start */
+    CSPE_BAD_BOOK = 14,          /* bad book: a record of a lot book is not as it must be; place: its index, from 0 */
+    CSPE_TOTAL_TOO_LARGE = 15    /* total over 2^64 - 1: the sum of what a lot book's records took; place 0 */
 };
 
 /*
@@ -168,6 +173,29 @@ uint32_t cspe_offer(const uint16_t *list, size_t list_length, const uint64_t *re
  */
 size_t cspe_view(const uint64_t *record, size_t record_length, const uint64_t *area0, size_t area0_length,
                  const uint64_t *area1, size_t area1_length, uint64_t *area);
+
+/*
+ * Sheet: the lot sheet of the office, a lot book as text. It takes no table and no work area.
+ *     book    the lot book, any length: one record for each lot, four numbers each:
+ *                 lot      ascending strictly from record to record, below 10^10
+ *                 taken    how many events were taken, at most 2^64 - 1
+ *                 mark     0 running, 1 failed
+ *                 place    where it failed, at most taken and below 10^8; 0 while running
+ *             A number is written in seven-bit groups, the lowest first, in its fewest bytes, at most ten; a byte's top
+ *             bit is set where another group follows
+ *     text    the output, any length
+ * 0           text begins with the sheet, and the rest is kept; *value is how many bytes the sheet has:
+ *             CSPE_SHEET_LINE_BYTES for each record, and as many for the last line
+ * 14          a record is cut short or breaks a rule above; *value is the first such record's index, from 0
+ * 15          the sum of taken is above 2^64 - 1; *value is 0
+ * 1           the sheet has more bytes than text has room for; *value is 0
+ * They are tried in this order: 14 at each record from the first, then 15, then 1. A refusal writes nothing to text.
+ * A line has 48 characters and a line feed. Of a record it has the lot in columns 1 to 10, taken in 12 to 31, `running`
+ * or `failed` in 33 to 39 and the place in 41 to 48; numbers stand at the right of their columns, words at the left,
+ * spaces elsewhere. The last line has `TOTAL` in 1 to 5 and the sum of taken in 12 to 31. An empty book has the last
+ * line alone.
+ */
+uint32_t cspe_sheet(const uint8_t *book, size_t book_length, uint8_t *text, size_t text_length, uint64_t *value);
 
 #ifdef __cplusplus
 }

@@ -1,6 +1,7 @@
 -- What `specs/Claims.antt` says, proved by computing. Assumes nothing.
 use mathlib.Core.Path.{refl}
-use Rattle.format.specs.Text.{decimalWithin, decimal, spelled, textOf}
+use Rattle.decimal.specs.Decimal.{decimalWithin, decimal}
+use Rattle.format.specs.Text.{spelled, textOf}
 use Rattle.format.specs.Claims.{Rows}
 
 pub rows : Rows

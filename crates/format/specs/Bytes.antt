@@ -10,7 +10,7 @@ use mathlib.Core.List.{List, _∷_, _++_}
 use lib.ListN.{length, take}
 use Rattle.io.specs.Counts.{Counts}
 use Rattle.format.specs.declared.text.Text.{Text}
-use Rattle.format.specs.Text.{decimal}
+use Rattle.decimal.specs.Decimal.{decimal}
 pub mod Laws
 
 abbrev pub shown : Text → List ℕ

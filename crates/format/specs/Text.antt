@@ -1,28 +1,13 @@
 -- The text of a line (01, "The program and its lines": "One line: `running TAKEN RESIDUALS`, `failed PLACE TAKEN`, or
 -- `refused NUMBER PLACE`"): bytes in ASCII.
---     decimal     a number in decimal, with no zero in front
 --     spelled     a word and two numbers, each after a space, and a line feed
 --     textOf      the text of a line
--- The laws are in `Text/Laws.antt`. Assumes nothing.
-use Prim.Native.Nat.{ℕ, zero, suc, _+_, _/_, _%_}
-use mathlib.Core.Bool.{true, false}
+-- A number's digits are those of crate `decimal`. The laws are in `Text/Laws.antt`. Assumes nothing.
+use Prim.Native.Nat.{ℕ}
 use mathlib.Core.List.{List, [], _∷_, _++_}
-use lib.Dec.{ltb}
+use Rattle.decimal.specs.Decimal.{decimal}
 use Rattle.line_spec.specs.Line.{Line, runs, fails, refused}
 pub mod Laws
-
--- of at most so many digits; `0` is 48
-unfoldable pub decimalWithin : ℕ → ℕ → List ℕ
-decimalWithin zero n = []
-decimalWithin (suc k) n =
-    elim (ltb n 10) [
-      | true ↦ (48 + n) ∷ []
-      | false ↦ decimalWithin k (n / 10) ++ ((48 + n % 10) ∷ [])
-    ]
-
--- a number below 10^20, as every u64 is
-unfoldable pub decimal : ℕ → List ℕ
-decimal n = decimalWithin 20 n
 
 unfoldable pub spelled : List ℕ → ℕ → ℕ → List ℕ
 spelled word a b = word ++ ((32 ∷ decimal a) ++ ((32 ∷ decimal b) ++ (10 ∷ [])))

@@ -3,6 +3,7 @@
 //!     Table      the numbers of a table: Read and Write
 //!     Monitor    a monitor with its buffers: Start, Feed, Offer, View
 //!     Refusal    a refusal's number and place
+//!     sheet      the lot sheet of a lot book
 //!
 //! The library asks of a caller that pointers are valid for the lengths beside them and aligned, and that what it writes
 //! overlaps nothing else; slices that Rust lends are so. It asks nothing else.
@@ -14,8 +15,9 @@ const TABLE_BYTES: usize = 16_384;
 const WORK_WORDS: usize = 8_192;
 pub const SLOT_WORDS: usize = 16;
 pub const RECORD_WORDS: usize = 5;
+pub const SHEET_LINE_BYTES: usize = 49;
 
-/// A refusal of document 01, by its number (1 to 13) and its place.
+/// A refusal of document 01, by its number (1 to 13) and its place; of the lot sheet, 1, 14 or 15.
 #[derive(Clone, Copy, Debug, PartialEq, Eq)]
 pub struct Refusal {
     pub number: u32,
@@ -28,6 +30,17 @@ fn result(number: u32, value: u64) -> Result<u64, Refusal> {
         0 => Ok(value),
         _ => Err(Refusal { number, place: value }),
     }
+}
+
+/// Sheet: writes the sheet of a lot book to the beginning of a text, and gives its count of bytes. On a refusal nothing
+/// is written.
+pub fn sheet(book: &[u8], text: &mut [u8]) -> Result<usize, Refusal> {
+    let mut value = 0;
+    // SAFETY: as in `Table::read`
+    let number = unsafe {
+        library::cspe_sheet(book.as_ptr(), book.len(), text.as_mut_ptr(), text.len(), &mut value)
+    };
+    Ok(result(number, value)? as usize)
 }
 
 /// The numbers of a table that was read.

@@ -1,11 +1,13 @@
 //! The monitor from Rust: table B of document 01 is read, a monitor is started and fed `0 1 0` in pieces, and each
 //! answer is checked. Then areas are sized for another table: by the peak of a trial lot. It prints a line for each
-//! call, the same as `../c/main.c`, and ends with status 1 at the first answer that is not the expected one. In the
-//! repository's root:
+//! call, the same as `../c/main.c`, and ends with status 1 at the first answer that is not the expected one. With the
+//! word `lots` it prints a lot sheet, as `../c/sheet.c` does. In the repository's root:
 //!
 //!     rt staticlib monitor_c
 //!     cargo run --release --offline --manifest-path examples/rust/Cargo.toml
+//!     cargo run --release --offline --manifest-path examples/rust/Cargo.toml -- lots
 mod cspe;
+mod lots;
 
 use cspe::{Monitor, Refusal, State, Table, Verdict, SLOT_WORDS};
 use std::process::exit;
@@ -134,9 +136,13 @@ fn size_areas() {
 }
 
 fn main() {
-    let table = read_and_write();
-    let monitor = follow(&table);
-    refuse_and_fail(&table, monitor);
-    size_areas();
+    if std::env::args().nth(1).as_deref() == Some("lots") {
+        lots::print();
+    } else {
+        let table = read_and_write();
+        let monitor = follow(&table);
+        refuse_and_fail(&table, monitor);
+        size_areas();
+    }
     println!("ok");
 }

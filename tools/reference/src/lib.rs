@@ -1,5 +1,5 @@
-// Another implementation of document 01 (the CSP_E line monitor), naive and in the order of its
-// words, which writes the stored answers of the test programs. It shares nothing with the
+// Another implementation of documents 01 and 02 (the CSP_E line monitor), naive and in the order
+// of their words, which writes the stored answers of the test programs. It shares nothing with the
 // crates.
 //
 //     numbers      the written form of a number            refusal     numbers, places, words
@@ -10,6 +10,7 @@
 //     worked       cases worked by hand                    case        a case of test data
 //     cases        the test data file                      summary     what its test prints
 //     monitor      residuals, Start, Feed, Offer, View, and the test data of histories
+//     sheet        the lot sheet (02, W2), and its test data
 
 pub mod case;
 pub mod cases;
@@ -23,6 +24,7 @@ pub mod random;
 pub mod reader;
 pub mod refusal;
 pub mod role;
+pub mod sheet;
 pub mod summary;
 pub mod table;
 pub mod worked;

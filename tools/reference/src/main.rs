@@ -1,8 +1,9 @@
-// The command line of the reference: judge a file of table bytes or of the program's input, write
-// test data, or say what the test programs print of it.
+// The command line of the reference: judge a file of table bytes, of the program's input or of a lot
+// book, write test data, or say what the test programs print of it.
 
 use reference::operations::table_of_bytes;
-use reference::refusal::word;
+use reference::refusal::{word, Refusal};
+use reference::sheet::print::Outcome;
 use std::io::Write;
 use std::process::ExitCode;
 
@@ -47,6 +48,17 @@ reference: another implementation of the CSP_E line monitor, for test answers
         Makes the calls of a file of histories again. Prints the same as monitor-summary, or the
         first answer that is not the stored one.
 
+    reference sheet FILE
+        Prints the sheet of a file as a lot book, or `refused NUMBER PLACE (WORD)`, with exit
+        status 1.
+
+    reference sheets --seed N --count M
+        Writes test data of the lot sheet to standard output: the books worked by hand, those at
+        each limit, and about M drawn at random. The same seed and count give the same file.
+
+    reference sheets-summary FILE
+        Prints the same of a file of lot books.
+
     reference --help
         Prints this text.
 ";
@@ -77,6 +89,11 @@ fn main() -> ExitCode {
         ["replay", file] => summary(file, reference::monitor::replay::replay),
         ["replay", ..] => Err("replay takes one file".to_string()),
         ["monitor-summary", ..] => Err("monitor-summary takes one file".to_string()),
+        ["sheet", file] => sheet(file),
+        ["sheet", ..] => Err("sheet takes one file".to_string()),
+        ["sheets", options @ ..] => written("sheets", options, reference::sheet::cases::file),
+        ["sheets-summary", file] => summary(file, reference::sheet::cases::summary),
+        ["sheets-summary", ..] => Err("sheets-summary takes one file".to_string()),
         [] => Err("a command is missing".to_string()),
         [command, ..] => Err(format!("`{command}` is not a command")),
     };
@@ -94,28 +111,42 @@ fn print(text: &str) -> ExitCode {
     }
 }
 
+fn bytes_of_file(file: &str) -> Result<Vec<u8>, String> {
+    std::fs::read(file).map_err(|error| format!("cannot read {file}: {error}"))
+}
+
+fn refused(refusal: Refusal) -> ExitCode {
+    let word = word(refusal.number);
+    print(&format!("refused {} {} ({word})\n", refusal.number, refusal.place));
+    ExitCode::from(1)
+}
+
 fn check(file: &str) -> Result<ExitCode, String> {
-    let bytes = std::fs::read(file).map_err(|error| format!("cannot read {file}: {error}"))?;
-    Ok(match table_of_bytes(&bytes) {
+    Ok(match table_of_bytes(&bytes_of_file(file)?) {
         Ok(table) => print(&format!("accepted {} {}\n", table.list().len(), table.term_count())),
-        Err(refusal) => {
-            let word = word(refusal.number);
-            print(&format!("refused {} {} ({word})\n", refusal.number, refusal.place));
-            ExitCode::from(1)
-        }
+        Err(refusal) => refused(refusal),
     })
 }
 
 fn line(file: &str) -> Result<ExitCode, String> {
-    let bytes = std::fs::read(file).map_err(|error| format!("cannot read {file}: {error}"))?;
+    let bytes = bytes_of_file(file)?;
     Ok(print(&(reference::monitor::program::line(&bytes) + "\n")))
 }
 
 fn peak(file: &str) -> Result<ExitCode, String> {
-    let bytes = std::fs::read(file).map_err(|error| format!("cannot read {file}: {error}"))?;
+    let bytes = bytes_of_file(file)?;
     Ok(match reference::monitor::program::peak(&bytes) {
         Some(peak) => print(&format!("peak {peak}\n")),
         None => print("no monitor\n"),
+    })
+}
+
+fn sheet(file: &str) -> Result<ExitCode, String> {
+    let Outcome { answer, output } =
+        reference::sheet::print::sheet(&bytes_of_file(file)?, usize::MAX);
+    Ok(match answer {
+        Ok(_) => print(&String::from_utf8_lossy(&output)),
+        Err(refusal) => refused(refusal),
     })
 }
 

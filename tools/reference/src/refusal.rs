@@ -1,5 +1,5 @@
-// Refusals (01, "When the monitor declines"): a number and a place. The constants have plain
-// names; `word` gives 01's.
+// Refusals (01, "When the monitor declines"; 02): a number and a place. The constants have plain
+// names; `word` gives 01's and 02's.
 
 #[derive(Clone, Copy, Debug, PartialEq, Eq)]
 pub struct Refusal {
@@ -20,13 +20,15 @@ pub const INCONSISTENT: u8 = 10;
 pub const UNKNOWN_EVENT: u8 = 11;
 pub const COUNTER_FULL: u8 = 12;
 pub const CAPACITY_EXCEEDED: u8 = 13;
+pub const BAD_BOOK: u8 = 14; // 02, W2
+pub const TOTAL_TOO_LARGE: u8 = 15;
 
 // The refusal of this number, as the answer of an operation.
 pub fn refuse<T>(number: u8, place: usize) -> Result<T, Refusal> {
     Err(Refusal { number, place })
 }
 
-// 01's word for a refusal.
+// 01's or 02's word for a refusal.
 pub fn word(number: u8) -> &'static str {
     match number {
         WRONG_LENGTH => "wrong measure",
@@ -42,6 +44,8 @@ pub fn word(number: u8) -> &'static str {
         UNKNOWN_EVENT => "strange event",
         COUNTER_FULL => "counter full",
         CAPACITY_EXCEEDED => "crowded",
+        BAD_BOOK => "bad book",
+        TOTAL_TOO_LARGE => "total over 2^64-1",
         _ => "not a refusal",
     }
 }

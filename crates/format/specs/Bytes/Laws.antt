@@ -10,7 +10,8 @@ use mathlib.Core.List.{List, [], _∷_, _++_, append-assoc, append-nil}
 use lib.ListN.{length, getD, set, take, length-append}
 use lib.Seq.{take-suc, take-suc-set, take-all}
 use Rattle.format.specs.declared.text.Text.{Text}
-use Rattle.format.specs.Text.{decimal, spelled}
+use Rattle.decimal.specs.Decimal.{decimal}
+use Rattle.format.specs.Text.{spelled}
 use Rattle.format.specs.Bytes.{shown, Shows, Added, AddedNumber}
 
 -- ---- the loop of `add`

@@ -7,10 +7,10 @@ use native.Mathlib.Omega.{arith}
 use native.Mathlib.Decide.{decLt}
 use native.Mathlib.Nat.{pow-suc}
 use mathlib.Core.Path.{_≡_, sym}
-use mathlib.Core.List.{[], _∷_, _++_}
-use borrow.Author.Tests.{lt-ltb, le-ltb}
+use borrow.Author.Tests.{lt-ltb}
 use Rattle.io.specs.Digits.{glyph, digits, Fewest}
-use Rattle.format.specs.Text.{decimalWithin, decimal}
+use Rattle.decimal.specs.Decimal.{decimalWithin, decimal}
+use Rattle.decimal.specs.Decimal.Laws.{within-one, within-more}
 
 pow-positive : (k : ℕ) → 1 ≤ 10 ^ k
 pow-positive zero = omega arith
@@ -30,24 +30,15 @@ shorter n k f =
     let e : suc k - 1 ≡ k = omega arith in
     (omega arith, omega (arith, f .1, pow-suc 10 (suc k)), λ z. rw e (omega (arith, least n k f)))
 
-module _ (n : ℕ) (m : ℕ) where
-  within-one : n < 10 → decimalWithin (suc m) n ≡ (48 + n) ∷ []
-  unfolding decimalWithin
-  within-one h = rw (lt-ltb n 10 h, decimalWithin)
-
-  within-more : 10 ≤ n → decimalWithin (suc m) n ≡ decimalWithin m (n / 10) ++ ((48 + n % 10) ∷ [])
-  unfolding decimalWithin
-  within-more h = rw (le-ltb n 10 h, decimalWithin)
-
 fewest : (k m n : ℕ) → k ≤ m → Fewest 10 1 n k → digits 10 k n ≡ decimalWithin m n
 fewest zero m n h f = absurd (omega (arith, f .0))
 fewest (suc k) zero n h f = absurd (omega arith)
 fewest (suc zero) (suc m) n h f =
     let z : n % 10 ≡ n = omega (arith, f .1) in
-    rw (z, glyph-digit n (omega (arith, f .1))) (sym (within-one n m (omega (arith, f .1))))
+    rw (z, glyph-digit n (omega (arith, f .1))) (sym (within-one m n (omega (arith, f .1))))
 fewest (suc (suc k)) (suc m) n h f =
     rw (
-      within-more n m (omega (arith, least n k f, pow-positive k)),
+      within-more m n (omega (arith, least n k f, pow-positive k)),
       ← (fewest (suc k) m (n / 10) (omega arith) (shorter n k f)),
       glyph-digit (n % 10) (omega arith),
     )

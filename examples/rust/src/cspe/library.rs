@@ -69,4 +69,11 @@ extern "C" {
         area1_length: usize,
         area: *mut u64,
     ) -> usize;
+    pub fn cspe_sheet(
+        book: *const u8,
+        book_length: usize,
+        text: *mut u8,
+        text_length: usize,
+        value: *mut u64,
+    ) -> u32;
 }

@@ -1,0 +1,60 @@
+-- What the office's program tells of a lot book, and the text that it then prints (ours; 02, W2 has the sheet).
+--     TellOutcome, said    what is told, with the text's bytes
+--     tellOf               of the bytes that were read, and whether they are all of the book
+--     Fits                 a sheet's bytes stand in the text
+--     ToldWay              what is told of a book, by what it is
+-- The laws are in `Told/Laws.antt`. Assumes nothing.
+use Prim.Native.Nat.{ℕ, _≤_, _<_}
+use mathlib.Core.Path.{_≡_}
+use mathlib.Core.Bool.{Bool, true, false, cond}
+use mathlib.Core.List.{List, _++_}
+use lib.Dec.{eqb}
+use lib.ListN.{length, drop}
+use Rattle.lot_book.specs.declared.entry.Lot.{Lot}
+use Rattle.lot_book.specs.Book.{lots, bad, bookOf, takenSum}
+use Rattle.sheet.specs.Sheet.{Outcome, given, refused, sheetText, sheetSize, sheetOf}
+use Rattle.lot_sheet.specs.declared.office.Told.{Told}
+use Rattle.lot_sheet.specs.declared.office.Told.the-variants.{Sheet, BadRecord, TotalOver, TooLong}
+pub mod Laws
+
+pub record TellOutcome : Type 0 where
+  pub told : Told
+  pub text : List ℕ
+
+abbrev pub said : Told → List ℕ → TellOutcome
+said x text = record { told = x; text = text }
+
+-- "14 bad book, placed at the record's index"; else "15 total over 2^64-1" (1 is not met: claim ToldExactly)
+unfoldable pub refusedAs : ℕ → ℕ → Told
+refusedAs n at = cond (eqb n 14) (BadRecord at) TotalOver
+
+-- "the byte count given", or the refusal
+unfoldable pub tellBook : Outcome → TellOutcome
+tellBook (given n text) = said (Sheet n) text
+tellBook (refused n at text) = said (refusedAs n at) text
+
+-- the whole book, or bytes that fill the buffer and so are more than a book may have
+unfoldable pub tellOf : Bool → List ℕ → List ℕ → TellOutcome
+tellOf true book text = tellBook (sheetOf book text)
+tellOf false bytes text = said TooLong text
+
+-- the promise that `say` asks for
+abbrev pub Fits : Told → List ℕ → Type 0
+Fits (Sheet n) text = n ≤ length text
+Fits (BadRecord i) text = Unit
+Fits TotalOver text = Unit
+Fits TooLong text = Unit
+
+-- what is told of a book, by what it is
+pub data ToldWay (book text : List ℕ) : TellOutcome → Type 0 where
+  -- "14 bad book, placed at the record's index"; "a refusal writes nothing"
+  toldBad : (i : ℕ) → bookOf book ≡ bad i → ToldWay book text (record { told = BadRecord i; text = text })
+  -- "15 total over 2^64-1"
+  toldOver : (rs : List Lot) → bookOf book ≡ lots rs → 18446744073709551615 < takenSum rs
+      → ToldWay book text (record { told = TotalOver; text = text })
+  -- the sheet, from the beginning of the text
+  toldSheet : (rs : List Lot) → bookOf book ≡ lots rs → takenSum rs ≤ 18446744073709551615
+      → ToldWay book text (record {
+        told = Sheet (sheetSize rs);
+        text = sheetText rs ++ drop (sheetSize rs) text;
+      })
