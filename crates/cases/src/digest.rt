@@ -2,10 +2,18 @@
 // (d * 16777619 + half) mod 4294967291. A number and a byte are a half by themselves.
 //     digest_words       of words after others, each with its lower half first
 //     digest_numbers, digest_bytes
+ghost use Prim.Native.Nat.{_<_};
+
+// The lower half of a word.
+fn lower(w: u64) -> u64
+    ensures { λ r. ⌜ r < 4294967296 ⌝ }
+{
+    w & 4294967295
+}
 
 // A digest with half a word more.
 fn digest_half(d: u64, half: u64) -> u64 {
-    (d % 4294967291 * 16777619 + half % 4294967296) % 4294967291
+    (d % 4294967291 * 16777619 + lower(half)) % 4294967291
 }
 
 fn wide_number(n: u16) -> u64 {
@@ -22,7 +30,7 @@ pub fn digest_words(first: u64, area: &[u64]) -> u64 {
     let mut i = 0;
     while i < area.len() {
         let w = area[i];
-        d = digest_half(digest_half(d, w), w / 4294967296);
+        d = digest_half(digest_half(d, w), w >> 32);
         i += 1;
     }
     d

@@ -4,7 +4,7 @@
 use crate::descent::resolve_at;
 use slots::store;
 ghost use mathlib.Core.Path.{_≡_};
-ghost use Prim.Native.Nat.{_+_, _*_, _<_, _≤_};
+ghost use Prim.Native.Nat.{_%_, _+_, _*_, _<_, _≤_};
 ghost use lib.ListN.{length};
 ghost use Rattle.table_index.specs.Index.{tableIn, Indexed};
 ghost use Rattle.node_word.specs.Word.{memoryBound, memoryOf};
@@ -27,6 +27,16 @@ fn same_at(words: &[u64], p: usize, slot: &[u64]) -> bool
     true
 }
 
+// The bits of a word that a slot's key reads, all set.
+const KEY_MASK: u64 = (1 << 58) - 1;
+
+// The lower 58 bits of a word.
+fn lower(w: u64) -> u64
+    ensures { λ r. ⌜ (r ≡ w % 288230376151711744) × (r < 288230376151711744) ⌝ }
+{
+    w & KEY_MASK
+}
+
 // A slot's key: equal slots have equal keys.
 fn key_of(slot: &[u64]) -> u64
     requires { ⌜ length (now slot) ≡ 16 ⌝ }
@@ -35,7 +45,7 @@ fn key_of(slot: &[u64]) -> u64
     let mut key = 0;
     let mut j = 0;
     while j < 16 {
-        key = key % 288230376151711744 * 31 + slot[j] % 288230376151711744;
+        key = lower(key) * 31 + lower(slot[j]);
         j += 1;
     }
     key

@@ -8,10 +8,11 @@
 --     node-word, memory-word, remember-word        what code reckons with: a memory as a word of term 0
 --     digit-0, -1, -2, -3                          the events of a word, one after the other
 -- Assumes nothing.
-use Prim.Native.Nat.{ℕ, zero, suc, _+_, _*_, _/_, _%_, _^_, _<_, _≤_}
+use Prim.Native.Nat.{ℕ, zero, suc, _+_, _*_, _/_, _-_, _%_, _^_, _<_, _≤_}
 use native.Mathlib.Omega.{arith}
 use native.Mathlib.Nat.{div-div-eq-div-mul}
 use mathlib.Core.Path.{_≡_, refl, ap, sym, _∙_}
+use lib.Bits.{bitAnd, and-mask}
 use Rattle.table.specs.Memory.{Memory, noMemory, digit, remember}
 use Rattle.node_word.specs.Word.{digitBits, digitBound, memoryBound, pack, termOfWord, memoryOf, Digits}
 
@@ -120,9 +121,18 @@ node-word n m h =
     let z : 0 ≡ termOfWord m = omega arith in
     ap (n * memoryBound +_) (sym (ap (λ (k : ℕ). pack k (memoryOf m)) z ∙ word-pack m)) ∙ pack-number n (memoryOf m)
 
-pub memory-word : (w : ℕ) → (memoryOf (w % memoryBound) ≡ memoryOf w) × (w % memoryBound < memoryBound)
+-- a mask is a remainder: of an event's bits, of a memory's
+masked : (n : ℕ) → bitAnd n (digitBound - 1) ≡ n % digitBound
+unfolding digitBound
+masked n = and-mask n digitBits
+
+memory-masked : (n : ℕ) → bitAnd n (memoryBound - 1) ≡ n % memoryBound
+unfolding memoryBound
+memory-masked n = and-mask n (4 * digitBits)
+
+memory-left : (w : ℕ) → (memoryOf (w % memoryBound) ≡ memoryOf w) × (w % memoryBound < memoryBound)
 unfolding memoryOf memoryBound digitBound digitBits
-memory-word w =
+memory-left w =
     let a = second w in
     let b = third w in
     let c = fourth w in
@@ -130,6 +140,10 @@ memory-word w =
     let d = second v in
     let e = third v in
     (memory-path (memoryOf v) (memoryOf w) (omega arith) (omega arith) (omega arith) (omega arith), omega arith)
+
+pub memory-word : (w : ℕ)
+    → (memoryOf (bitAnd w (memoryBound - 1)) ≡ memoryOf w) × (bitAnd w (memoryBound - 1) < memoryBound)
+memory-word w = rw (memory-masked w) (memory-left w)
 
 pub remember-word : (e m : ℕ) → e < digitBound → m < memoryBound
     → (memoryOf (e * firstUnit + m / digitBound) ≡ remember e (memoryOf m)) × (e * firstUnit + m / digitBound < memoryBound)
@@ -151,19 +165,23 @@ last m (suc zero) h = absurd (omega arith)
 last m (suc (suc zero)) h = absurd (omega arith)
 last m (suc (suc (suc i))) h = refl
 
+mod-small : (n : ℕ) → n % digitBound < digitBound
+unfolding digitBound digitBits
+mod-small n = omega arith
+
 module _ (w i : ℕ) where
-  pub digit-0 : i ≡ 0 → (w / firstUnit % digitBound ≡ digit (memoryOf w) i) × (w / firstUnit % digitBound < digitBound)
-  unfolding digit memoryOf firstUnit digitBound digitBits
-  digit-0 e = (rw e, omega arith)
+  pub digit-0 : i ≡ 0 → (bitAnd (w / firstUnit) (digitBound - 1) ≡ digit (memoryOf w) i) × (bitAnd (w / firstUnit) (digitBound - 1) < digitBound)
+  unfolding digit memoryOf firstUnit digitBits
+  digit-0 e = rw (masked (w / firstUnit)) (rw e, mod-small (w / firstUnit))
 
-  pub digit-1 : i ≡ 1 → (w / secondUnit % digitBound ≡ digit (memoryOf w) i) × (w / secondUnit % digitBound < digitBound)
-  unfolding digit memoryOf secondUnit digitBound digitBits
-  digit-1 e = (rw e, omega arith)
+  pub digit-1 : i ≡ 1 → (bitAnd (w / secondUnit) (digitBound - 1) ≡ digit (memoryOf w) i) × (bitAnd (w / secondUnit) (digitBound - 1) < digitBound)
+  unfolding digit memoryOf secondUnit digitBits
+  digit-1 e = rw (masked (w / secondUnit)) (rw e, mod-small (w / secondUnit))
 
-  pub digit-2 : i ≡ 2 → (w / digitBound % digitBound ≡ digit (memoryOf w) i) × (w / digitBound % digitBound < digitBound)
-  unfolding digit memoryOf digitBound digitBits
-  digit-2 e = (rw e, omega arith)
+  pub digit-2 : i ≡ 2 → (bitAnd (w / digitBound) (digitBound - 1) ≡ digit (memoryOf w) i) × (bitAnd (w / digitBound) (digitBound - 1) < digitBound)
+  unfolding digit memoryOf digitBound
+  digit-2 e = rw (masked (w / digitBound)) (rw e, mod-small (w / digitBound))
 
-  pub digit-3 : 3 ≤ i → (w % digitBound ≡ digit (memoryOf w) i) × (w % digitBound < digitBound)
-  unfolding memoryOf digitBound digitBits
-  digit-3 h = (last (memoryOf w) i h, omega arith)
+  pub digit-3 : 3 ≤ i → (bitAnd w (digitBound - 1) ≡ digit (memoryOf w) i) × (bitAnd w (digitBound - 1) < digitBound)
+  unfolding memoryOf
+  digit-3 h = rw (masked w) (last (memoryOf w) i h, mod-small w)
