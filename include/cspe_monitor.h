@@ -2,8 +2,8 @@
  * A runtime monitor for tables in the process algebra CSP_E, as a static library for C: the six operations of
  * document 01 (Read, Write, Start, Feed, Offer, View), and the office's lot sheet (document 02, W2). `rt staticlib
  * monitor_c` proves and writes it (target/staticlib/libmonitor_c.a, for x86-64 Linux). Each function is proved to
- * return, and to leave in every word that it is lent, what crates/words/specs defines, on every input: no call has a
- * condition but those below.
+ * return, and to leave in every word that it is lent, what crates/words/specs defines (of cspe_sheet
+ * crates/sheet_words/specs), on every input: no call has a condition but those below.
  *
  * What is lent. Every buffer is the caller's, and is lent for one call: a pointer, and after it how many elements it
  * points to. A pointer is aligned for its type and is never NULL, also where its length is 0. A buffer that a call may
@@ -26,7 +26,8 @@
  *                       read
  *     CSPE_PEAK         the most residuals that were held at a time since Start, those held now included. An event that
  *                       is refused, and those after a failure, do not move it; Start begins it anew. Areas are sized
- *                       by it: so many slots would have done for the events taken (docs/USING.md). It is at least
+ *                       by it: so many slots, and at least one, would have done for the events taken
+ *                       (docs/USING.md). It is at least
  *                       CSPE_RESIDUALS and at most the slots, else the record is refused (10)
  * A monitor is its record and areas 0 and 1. Between calls only the calls below write them.
  */

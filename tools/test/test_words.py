@@ -25,15 +25,26 @@ class Small(unittest.TestCase):
             return list(check.faults(root, {NAME: listed}))
 
     def test_listed(self):
-        self.assertEqual(self.faults(CODE, {"n / 2": "a number"}), [])
+        self.assertEqual(self.faults(CODE, {"n / 2": (1, "a number")}), [])
 
     def test_not_listed(self):
         found = self.faults(CODE.replace("n / 2\n}", "n % 64\n}"), {})
         self.assertEqual(len(found), 1)
         self.assertIn(f"crates/{NAME}:5: `n % 64` divides", found[0])
 
+    def test_once_more(self):
+        found = self.faults(CODE + "pub fn also(n: u64) -> u64 {\n    n / 2\n}\n", {"n / 2": (1, "a number")})
+        self.assertEqual(len(found), 1)
+        self.assertIn(f"crates/{NAME}:8: `n / 2` divides", found[0])
+
+    def test_new_crate(self):
+        with tempfile.TemporaryDirectory() as folder:
+            root = Path(folder)
+            write(root, {"crates.txt": "fresh:\n", "crates/fresh/src/lib.rt": CODE})
+            self.assertEqual(len(list(check.faults(root, {}))), 1)
+
     def test_gone(self):
-        found = self.faults(CODE.replace("    n / 2\n", "    n >> 1\n"), {"n / 2": "a number"})
+        found = self.faults(CODE.replace("    n / 2\n", "    n >> 1\n"), {"n / 2": (1, "a number")})
         self.assertEqual(len(found), 1)
         self.assertIn("is not there", found[0])
 
