@@ -1,8 +1,8 @@
 /*
  * A runtime monitor for tables in the process algebra CSP_E, as a static library for C: the six operations of
- * document 01 (Read, Write, Start, Feed, Offer, View), and the office's lot sheet (document 02, W2). `rt staticlib
- * monitor_c` proves and writes it (target/staticlib/libmonitor_c.a, for x86-64 Linux). Each function is proved to
- * return, and to leave in every word that it is lent, what crates/words/specs defines (of cspe_sheet
+ * document 01 (Read, Write, Start, Feed, Offer, View), and of document 02 the office's lot sheet (W2) and Try (W4).
+ * `rt staticlib monitor_c` proves and writes it (target/staticlib/libmonitor_c.a, for x86-64 Linux). Each function is
+ * proved to return, and to leave in every word that it is lent, what crates/words/specs defines (of cspe_sheet
  * crates/sheet_words/specs), on every input: no call has a condition but those below.
  *
  * What is lent. Every buffer is the caller's, and is lent for one call: a pointer, and after it how many elements it
@@ -42,7 +42,7 @@ extern "C" {
 #endif
 
 /* It goes up by one where the library changes for a caller; docs/CHANGELOG.md says how. */
-#define CSPE_VERSION 3
+#define CSPE_VERSION 4
 
 /* A table has at most so many bytes. */
 #define CSPE_TABLE_BYTES 16384
@@ -150,6 +150,28 @@ uint32_t cspe_feed(const uint16_t *list, size_t list_length, uint64_t *record, s
                    uint64_t *area0, size_t area0_length, uint64_t *area1, size_t area1_length,
                    const uint8_t *events, size_t events_length, uint64_t *work, size_t work_length,
                    uint64_t *place);
+
+/*
+ * Try: what cspe_feed would make of events, without feeding them.
+ *     list                         the number list that the monitor was started with
+ *     record, area0, area1         the monitor, which is only read
+ *     further_record               CSPE_RECORD_WORDS words, of any content
+ *     further0, further1           as long as area0 and area1, of any content
+ *     events                       any number of events, or none
+ *     work                         CSPE_WORK_WORDS words, of any content
+ * It returns what cspe_feed would, and *place is the place that cspe_feed would write.
+ * 0           further_record, further0 and further1 are the monitor that cspe_feed would leave
+ * 1 to 10     further_record, further0 and further1 are kept
+ * 11 to 13    they are the monitor after the events before the refused one
+ * A further record or area of another length is 1 at place 0, before all others. The work area is zeroed, but kept on
+ * 1. After 0, and after 11 to 13, the further ones are a monitor: it can be fed on in place of the first, or tried
+ * again.
+ */
+uint32_t cspe_try(const uint16_t *list, size_t list_length, const uint64_t *record, size_t record_length,
+                  const uint64_t *area0, size_t area0_length, const uint64_t *area1, size_t area1_length,
+                  uint64_t *further_record, size_t further_record_length, uint64_t *further0, size_t further0_length,
+                  uint64_t *further1, size_t further1_length, const uint8_t *events, size_t events_length,
+                  uint64_t *work, size_t work_length, uint64_t *place);
 
 /*
  * Offer: which events may come next.

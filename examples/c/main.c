@@ -1,8 +1,8 @@
 /*
  * The monitor from C: table B of document 01 (an alphabet of 3; prefix {0}, prefix {1}, call 0) is read, a monitor is
- * started and fed `0 1 0` in pieces, and each answer is checked. Then areas are sized for another table: by the peak of
- * a trial lot. It prints a line for each call, and ends with status 1 at the first answer that is not the expected one.
- * In the repository's root:
+ * started and fed `0 1 0` in pieces, then asked what events would do, and each answer is checked. Then areas are sized
+ * for another table: by the peak of a trial lot. It prints a line for each call, and ends with status 1 at the first
+ * answer that is not the expected one. In the repository's root:
  *
  *     rt staticlib monitor_c
  *     cc -std=c99 -O2 -Iinclude -o target/example examples/c/main.c target/staticlib/libmonitor_c.a
@@ -29,6 +29,8 @@ static size_t list_length;
 static uint64_t record[CSPE_RECORD_WORDS];
 static uint64_t area[2][CSPE_AREA_WORDS_MOST];
 static size_t area_words = AREA_WORDS;
+static uint64_t further_record[CSPE_RECORD_WORDS];
+static uint64_t further[2][CSPE_AREA_WORDS_MOST];
 static uint64_t work[CSPE_WORK_WORDS];
 
 static void expect(int holds, const char *what) {
@@ -47,6 +49,12 @@ static uint32_t start(size_t words, uint64_t *place) {
 static uint32_t feed(const uint8_t *events, size_t events_length, uint64_t *place) {
     return cspe_feed(list, list_length, record, CSPE_RECORD_WORDS, area[0], area_words, area[1], area_words, events,
                      events_length, work, CSPE_WORK_WORDS, place);
+}
+
+static uint32_t try_events(const uint8_t *events, size_t events_length, uint64_t *place) {
+    return cspe_try(list, list_length, record, CSPE_RECORD_WORDS, area[0], area_words, area[1], area_words,
+                    further_record, CSPE_RECORD_WORDS, further[0], area_words, further[1], area_words, events,
+                    events_length, work, CSPE_WORK_WORDS, place);
 }
 
 static uint32_t offer(uint64_t *value) {
@@ -122,6 +130,25 @@ static void follow(void) {
     show_view(CSPE_SLOT_WORDS, 1);
 }
 
+/* What events would do, before they are fed: the answer and what Feed would leave; the monitor stays as it is. */
+static void ask_first(void) {
+    uint64_t place;
+    const uint8_t bad[] = {1, 1};
+    expect(try_events(bad, sizeof bad, &place) == CSPE_NONE, "try of events that are not permitted");
+    expect(further_record[CSPE_FAILED] == 1 && further_record[CSPE_PLACE] == 5, "where they fail");
+    printf("try 1 1: would fail at %" PRIu64 "\n", further_record[CSPE_PLACE]);
+
+    const uint8_t good[] = {1, 0};
+    expect(try_events(good, sizeof good, &place) == CSPE_NONE, "try of events that are permitted");
+    expect(further_record[CSPE_FAILED] == 0 && further_record[CSPE_TAKEN] == 5, "how many would be taken");
+    printf("try 1 0: would run, %" PRIu64 " taken\n", further_record[CSPE_TAKEN]);
+
+    const uint8_t strange[] = {3};
+    uint32_t number = try_events(strange, sizeof strange, &place);
+    show_refusal("try 3", number, place, CSPE_UNKNOWN_EVENT, 0);
+    expect(record[CSPE_TAKEN] == 3, "the monitor is as it was");
+}
+
 static void refuse_and_fail(void) {
     uint64_t place;
     /* 3 is no event of an alphabet of 3: the event before it is taken, and the record is the one after it */
@@ -174,6 +201,7 @@ static void size_areas(void) {
 int main(void) {
     read_and_write();
     follow();
+    ask_first();
     refuse_and_fail();
     size_areas();
     printf("ok\n");

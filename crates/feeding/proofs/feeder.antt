@@ -1,6 +1,5 @@
--- What the proofs on Feed share, on plain values, one law for each way out.
+-- What the proof on `take_all` needs, on plain values, one law for each way out; the laws of `feed` are in
+-- `specs/Feeding/Laws.antt`.
 --     Turn        of the loop of `take_all`
---     Outcomes    of `feed`
 -- Assumes nothing.
 pub mod Turn
-pub mod Outcomes

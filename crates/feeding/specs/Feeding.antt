@@ -5,7 +5,8 @@
 --     Advanced, Moved      the same, from the present area to the other; of a monitor's
 --     TakenBy              one event
 --     EndedBy              all events
--- The laws are with the proofs, in `proofs/event/` and `proofs/feeder/`. Assumes nothing.
+-- The laws of a whole call are in `Feeding/Laws.antt`; the others are with the proofs, in `proofs/event/` and
+-- `proofs/feeder/`. Assumes nothing.
 use Prim.Native.Nat.{ℕ}
 use mathlib.Core.Path.{_≡_}
 use mathlib.Core.List.{List, []}
@@ -28,6 +29,7 @@ use Rattle.state.specs.declared.answer.Answer.{Answer}
 use Rattle.state.specs.Record.{monitorOf}
 use Rattle.state.specs.Answers.{outcome}
 use Rattle.step_laws.specs.Holds.{AreaHolds, heldIn}
+pub mod Laws
 
 -- area p holds the slots of c proper residuals and then zeros, area o zeros
 pub record Holding (t : Table) (p o : List ℕ) (c : ℕ) : Type 0 where

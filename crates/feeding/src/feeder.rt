@@ -15,8 +15,9 @@ use state::clear_all;
 use table::Judged;
 use table::Refusal;
 
-// Takes the events from the first, until one is refused.
-fn take_all(
+// Takes the events from the first, until one is refused, where the table's index stands in the work
+// area: the run of an operation that is entered, without a judging.
+pub fn take_all(
     list: &[u16],
     work: &[u64],
     state: State,

@@ -10,3 +10,4 @@ pub use event::advance_present;
 pub use event::next_set;
 pub use event::take_event;
 pub use feeder::feed;
+pub use feeder::take_all;

@@ -1,6 +1,6 @@
 // The monitor of CSP_E tables: Start, Feed, Offer, View, the record and the answers (document 01,
-// "Operations"). Each operation is a crate of its own, proved equal to its definition in crate
-// monitor_spec; this one brings them together.
+// "Operations"), and Try (document 02, W4). Each operation is a crate of its own, proved equal to
+// its definition in crate monitor_spec; this one brings them together.
 pub use feeding::feed;
 pub use offering::offer;
 pub use starting::start;
@@ -9,3 +9,4 @@ pub use state::Offered;
 pub use state::State;
 pub use state::Verdict;
 pub use state::view;
+pub use trying::try_feed;

@@ -14,4 +14,5 @@ pub mod Feeds
 pub mod Onward
 pub mod Offering
 pub mod Keeps
+pub mod Tries
 pub mod Rows

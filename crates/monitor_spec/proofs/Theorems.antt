@@ -2,7 +2,7 @@
 use Prim.Native.Nat.{ℕ, _≤_}
 use native.Mathlib.Omega.{arith}
 use mathlib.Core.Path.{_≡_, ap, sym, subst, _∙_}
-use mathlib.Core.List.{List, []}
+use mathlib.Core.List.{List, [], _∷_, _++_}
 use mathlib.Core.Bool.{true}
 use mathlib.Core.Option.{some}
 use Rattle.table.specs.Table.{Table}
@@ -28,12 +28,15 @@ use Rattle.monitor_spec.specs.Consistent.{consistent}
 use Rattle.monitor_spec.specs.Consistent.Reading.{consistent-laid}
 use Rattle.monitor_spec.specs.Consistent.Laws.{laid-still}
 use Rattle.monitor_spec.specs.Views.Laws.{part-way}
-use Rattle.monitor_spec.specs.Joined.{residualCount, joined}
+use Rattle.monitor_spec.specs.Joined.{Call, residualCount, joined}
 use Rattle.monitor_spec.specs.Expected.{recordOnward, monitorOnward, monitorAfter}
 use Rattle.monitor_spec.specs.Expected.Peaks.{peak-grows, peak-over, peak-stands}
 use Rattle.monitor_spec.specs.Stops.{JudgesOne}
 use Rattle.monitor_spec.specs.Expected.Steps.{Fed}
+use Rattle.monitor_spec.specs.History.{callOn, history, slotsLent, AfterCalls}
 use Rattle.monitor_spec.specs.History.Laws.{fed-joined}
+use Rattle.monitor_spec.specs.Try.{tryOf}
+use Rattle.monitor_spec.specs.Tried.{tried}
 use Rattle.monitor_spec.specs.History.Begun.{start-never}
 use Rattle.monitor_spec.specs.Claims.{ResidualsAreTraces, DefinitionsAreTraces, LastIsTraces, ResolvesBranches}
 use Rattle.monitor_spec.specs.Claims.{CallsResolve, ResolvesReach}
@@ -42,6 +45,8 @@ use Rattle.monitor_spec.specs.Claims.{StartRefusedExactly, StartGives, S
 use Rattle.monitor_spec.specs.Claims.{FeedRefusedExactly, FeedStopsExactly, FeedGivesExactly, FeedBuffers}
 use Rattle.monitor_spec.specs.Claims.{StartFits, FeedPeaks, OfferRefusedExactly, OfferBits, OfferBuffers, ViewsPart}
 use Rattle.monitor_spec.specs.Claims.{Judges, Answers, Histories, OffersTraces, ViewsResiduals, FeedKeeps}
+use Rattle.monitor_spec.specs.Claims.{TryIsFeed, TryUnlike, TryRefusedExactly, TryStopsExactly, TryGivesExactly}
+use Rattle.monitor_spec.specs.Claims.{TryBuffers, TryForetells, TryJudges}
 use Rattle.monitor_spec.specs.Claims.{Examples, Cases, Buffers}
 use Rattle.monitor_spec.proofs.Endings.{T-true, true-T}
 use Rattle.monitor_spec.proofs.Starts.{start-refused, start-gives as started, start-work, start-keeps}
@@ -55,6 +60,7 @@ use Rattle.monitor_spec.proofs.Verdicts.{held-some}
 use Rattle.monitor_spec.proofs.Answers.{answers-one, judges-one}
 use Rattle.monitor_spec.proofs.Offers.{offers-after, views-after}
 use Rattle.monitor_spec.proofs.Keeps.{call-keeps}
+use Rattle.monitor_spec.proofs.Tries as tries
 use Rattle.monitor_spec.proofs.Rows.{marked, further, outcomes-stand}
 
 -- an accepted list is a table that keeps the rules
@@ -235,6 +241,57 @@ views-residuals l ns t says a b work fresh f calls =
 pub feed-keeps : FeedKeeps
 unfolding FeedKeeps
 feed-keeps l ns t says m c h = true-T _ (call-keeps l ns t says (accepts l ns t says) m c (T-true (consistent t m) h))
+
+pub try-is-feed : TryIsFeed
+unfolding TryIsFeed
+try-is-feed l m c d es w h = (tries.same-answer l m c d es w h, tries.same-work l m c d es w h)
+
+pub try-unlike : TryUnlike
+unfolding TryUnlike
+try-unlike l m c d es w h = tries.is-unlike l m c d es w h
+
+pub try-refused-exactly : TryRefusedExactly
+unfolding TryRefusedExactly
+try-refused-exactly l m c d es w = tries.try-refused l m c d es w
+
+pub try-stops-exactly : TryStopsExactly
+unfolding TryStopsExactly
+try-stops-exactly l m c d es w = tries.try-stops l m c d es w
+
+pub try-gives-exactly : TryGivesExactly
+unfolding TryGivesExactly
+try-gives-exactly l m c d es w = tries.try-gives l m c d es w
+
+pub try-buffers : TryBuffers
+unfolding TryBuffers
+try-buffers l m c d es w = (tries.try-work l m c d es w, tries.try-keeps l m c d es w)
+
+pub try-foretells : TryForetells
+unfolding TryForetells joined
+try-foretells l ns t says a b work fresh f calls c d es w work′ h e e′ =
+    let reg = accepts l ns t says in
+    let g = reached l ns t says reg a b work fresh f calls in
+    let n : ℕ = slotCount a in
+    rw (g .after)
+    (tries.foretells l ns t says reg n (g .low) (g .high) (joined t n calls) (fed-joined t reg n calls [] (g .fed)) c d
+    es w (rw (g .after) at h) (T-true (workMeasured w) e) work′ (T-true (workMeasured work′) e′))
+
+pub try-judges : TryJudges
+unfolding TryJudges joined
+try-judges l ns t says a b work fresh f calls c d es w h e H model =
+    let reg = accepts l ns t says in
+    let g = reached l ns t says reg a b work fresh f calls in
+    let n : ℕ = slotCount a in
+    let k : Call = record { events = es; work = w } in
+    let s : List ℕ = joined t n calls in
+    let x : tried (history l fresh calls) (tryOf l (history l fresh calls) c d es w)
+    ≡ callOn l (history l fresh calls) k =
+    rw (g .after)
+    (tries.tried-call l ns t says reg n (g .low) (g .high) s (fed-joined t reg n calls [] (g .fed)) c d es w
+    (rw (g .after) at h) (T-true (workMeasured w) e)) in
+    subst (λ (m : Monitor). AfterCalls l t H (slotsLent fresh) fresh (joined t (slotsLent fresh) (calls ++ k ∷ [])) m)
+    (tries.history-more l fresh calls k ∙ sym x)
+    (history-holds l ns t says reg a b work fresh f (calls ++ k ∷ []) H model .1)
 
 pub examples : Examples
 unfolding Examples

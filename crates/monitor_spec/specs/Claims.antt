@@ -20,11 +20,14 @@
 --     Histories               demand 3: one claim over the whole list of calls
 --     OffersTraces            Offer's bits along a history;  ViewsResiduals: what View hands back there
 --     FeedKeeps               no call makes a consistent monitor inconsistent
+--     TryIsFeed, TryUnlike    Try gives Feed's answer and work words;  1 where a further area has another length
+--     TryRefusedExactly, TryStopsExactly, TryGivesExactly, TryBuffers   Try by conditions, on every input
+--     TryForetells            along a history, what Try says is what a feeding call then does;  TryJudges: by demand 3
 --     Examples                K1 to K12;  Cases: further cases;  Buffers: whole outcomes with every lent word
 -- Every claim along a history is about a number list l that the table layer accepts as the table t. Assumes nothing.
 use Prim.Native.Nat.{ℕ, _≤_, _<_}
 use mathlib.Core.Path.{_≡_}
-use mathlib.Core.List.{List, [], _++_, flatten}
+use mathlib.Core.List.{List, [], _∷_, _++_, flatten}
 use mathlib.Core.Option.{some}
 use mathlib.Core.Logic.{_↔_}
 use lib.ListN.{length}
@@ -51,6 +54,7 @@ use Rattle.monitor_spec.specs.Feed.{feedOf}
 use Rattle.monitor_spec.specs.Offer as Offer
 use Rattle.monitor_spec.specs.Offer.{offers, offerOf}
 use Rattle.monitor_spec.specs.View.{viewPart, viewOf}
+use Rattle.monitor_spec.specs.Try.{tryOf}
 use Rattle.monitor_spec.specs.Joined.{Call, residualCount, joined}
 use Rattle.monitor_spec.specs.Meaning.{denote, Sound, Some}
 use Rattle.monitor_spec.specs.Proper.{Remembers, Proper}
@@ -62,6 +66,7 @@ use Rattle.monitor_spec.specs.History.{callOn, history, Fresh, slotsLent
 use Rattle.monitor_spec.specs.Stops.{AnswersOne, JudgesOne}
 use Rattle.monitor_spec.specs.Offers.{OffersJust}
 use Rattle.monitor_spec.specs.Views.{PartWay}
+use Rattle.monitor_spec.specs.Tried.{Alike, TryRefused, tried, Foretells}
 use Rattle.monitor_spec.specs.Examples.{rows, saysAll}
 use Rattle.monitor_spec.specs.Cases.{cases, casesHold}
 use Rattle.monitor_spec.specs.PeakCases.{peakCases}
@@ -262,6 +267,65 @@ unfoldable pub FeedKeeps : Type 0
 FeedKeeps =
     (l ns : List ℕ) (t : Table) → judgeList l ≡ accepted ns t
     → (m : Monitor) (c : Call) → T (consistent t m) → T (consistent t (callOn l m c))
+
+-- 02, W4: "gives Feed's answer, refusals included"; the work area is as Feed leaves it
+unfoldable pub TryIsFeed : Type 0
+TryIsFeed =
+    (l : List ℕ) (m : Monitor) (c d es w : List ℕ) → Alike m c d
+    → (tryOf l m c d es w .answer ≡ feedOf l m es w .answer) × (tryOf l m c d es w .work ≡ feedOf l m es w .work)
+
+-- "two further areas of the same length": else 1 at place 0, before all others, and all is kept
+unfoldable pub TryUnlike : Type 0
+TryUnlike =
+    (l : List ℕ) (m : Monitor) (c d es w : List ℕ) → (Alike m c d → ⊥)
+    → tryOf l m c d es w ≡ record { answer = refused 1 0; area0 = c; area1 = d; work = w }
+
+unfoldable pub TryRefusedExactly : Type 0
+TryRefusedExactly =
+    (l : List ℕ) (m : Monitor) (c d es w : List ℕ) (n p : ℕ)
+    → (tryOf l m c d es w .answer ≡ refused n p) ↔ TryRefused l m c d w n p
+
+-- "The further areas end as Feed would leave a copy of the first two": 11 to 13
+unfoldable pub TryStopsExactly : Type 0
+TryStopsExactly =
+    (l : List ℕ) (m : Monitor) (c d es w : List ℕ) (n p : ℕ) (left : Monitor)
+    → LeavesAt (tryOf l m c d es w) n p left ↔ (Alike m c d × FeedStops l m es w n p left)
+
+-- and where no event is refused
+unfoldable pub TryGivesExactly : Type 0
+TryGivesExactly =
+    (l : List ℕ) (m : Monitor) (c d es w : List ℕ) (left : Monitor)
+    → Leaves (tryOf l m c d es w) left ↔ (Alike m c d × FeedGives l m es w left)
+
+-- "On refusals 1 to 10 the further areas are kept too."
+unfoldable pub TryBuffers : Type 0
+TryBuffers =
+    (l : List ℕ) (m : Monitor) (c d es w : List ℕ)
+    → (Alike m c d → WorkLeft (m .area0) (m .area1) w (tryOf l m c d es w .work))
+    × ((n p : ℕ) → tryOf l m c d es w .answer ≡ refused n p
+    → (tryOf l m c d es w .area0 ≡ c) × (tryOf l m c d es w .area1 ≡ d))
+
+-- "Operators want to know what events would do.": the monitor is as it was, and fed the same events it gives what Try
+-- said, whatever stood in the further areas and stands in the work areas
+unfoldable pub TryForetells : Type 0
+TryForetells =
+    (l ns : List ℕ) (t : Table) → judgeList l ≡ accepted ns t
+    → (a b work : List ℕ) (fresh : Monitor) → Fresh l a b work fresh
+    → (calls : List Call) (c d es w work′ : List ℕ)
+    → Alike (history l fresh calls) c d → T (workMeasured w) → T (workMeasured work′)
+    → Foretells (tryOf l (history l fresh calls) c d es w) (feedOf l (history l fresh calls) es work′)
+
+-- so the copy is what demand 3 says of the calls with one more of these events, and can stand for the monitor
+unfoldable pub TryJudges : Type 1
+TryJudges =
+    (l ns : List ℕ) (t : Table) → judgeList l ≡ accepted ns t
+    → (a b work : List ℕ) (fresh : Monitor) → Fresh l a b work fresh
+    → (calls : List Call) (c d es w : List ℕ)
+    → Alike (history l fresh calls) c d → T (workMeasured w)
+    → (H : Term → TraceSet) → Model t H
+    → AfterCalls l t H (slotsLent fresh) fresh
+    (joined t (slotsLent fresh) (calls ++ record { events = es; work = w } ∷ []))
+    (tried (history l fresh calls) (tryOf l (history l fresh calls) c d es w))
 
 -- 01, "Strength of the statements": "K1 to K12 are proved together, as rows under one theorem on the definitions"
 unfoldable pub Examples : Type 0

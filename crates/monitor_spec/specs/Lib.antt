@@ -10,6 +10,7 @@ pub mod Feed
 pub mod Start
 pub mod Offer
 pub mod View
+pub mod Try
 pub mod Joined
 pub mod Meaning
 pub mod Proper
@@ -21,6 +22,7 @@ pub mod History
 pub mod Stops
 pub mod Offers
 pub mod Views
+pub mod Tried
 pub mod Examples
 pub mod Cases
 pub mod PeakCases

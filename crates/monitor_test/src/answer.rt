@@ -1,6 +1,7 @@
 // An answer and what a call leaves in the lent areas, held to what is stored (01, "Operations",
 // "When the monitor declines").
 //     judge            of Start and Feed: NUMBER PLACE HAS TAKEN COUNT PEAK FAILED AT DIGEST KEPT
+//     judge_trial      of Try: the same with FURTHER, a digest, before KEPT
 //     judge_offered    of Offer: NUMBER PLACE MASK DIGEST KEPT
 //     judge_part       of View: AREA LENGTH
 use crate::areas;
@@ -118,6 +119,29 @@ pub fn judge(
         outcome: outcome_of(right),
         lent,
     }
+}
+
+// `FURTHER KEPT` after `DIGEST`: the further areas, and the work area.
+pub fn judge_trial(
+    answer: Answer,
+    area0: &[u64],
+    area1: &[u64],
+    further0: &[u64],
+    further1: &[u64],
+    work: &[u64],
+    stored: &[u64],
+) -> Outcome {
+    if stored.len() != 11 {
+        return Outcome::Malformed;
+    }
+    if !answer_right(fields_of(answer), stored) {
+        return Outcome::Wrong;
+    }
+    if digest_words(digest_words(1, area0), area1) != stored[8] {
+        return Outcome::Wrong;
+    }
+    let from = 9;
+    outcome_of(lent_right(further0, further1, work, &stored[from..]))
 }
 
 pub fn judge_offered(

@@ -2,6 +2,7 @@
 //     long_numbers .. events              buffers as long as any that the file asks for
 //     clear, fill                         zeros; junk, no word of it 0
 //     put_words                           words put at an area's beginning, where they fit
+//     length_up_to                        a lent length, of a number in the file
 //     begins                              whether an area begins with these words
 ghost use mathlib.Core.Path.{_≡_};
 ghost use lib.ListN.{length};
@@ -40,6 +41,14 @@ pub fn events() -> [u8; 5100]
     ensures { λ r. ⌜ 5100 ≡ length r ⌝ }
 {
     [0; 5100]
+}
+
+// A length that is at most `most`; where the number is above it, so is what stands for it.
+pub fn length_up_to(number: u64, most: u64) -> usize {
+    if most < number {
+        return 1000000;
+    }
+    number as usize
 }
 
 // Word i of junk that counts down from a word.

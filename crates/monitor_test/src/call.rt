@@ -8,6 +8,7 @@ use crate::lent::Done;
 use crate::lent::Lent;
 use crate::lent::malformed;
 use crate::lent::state_of;
+use crate::trial::try_trial;
 
 // The length of the work area; none is above 8,300, so 8,301 stands for all above.
 fn work_length(numbers: &[u64]) -> usize {
@@ -184,6 +185,7 @@ pub fn call(
     match kind {
         b's' => try_start(numbers, list, area0, area1, l, stored),
         b'f' => try_feed(numbers, list, area0, area1, l, stored),
+        b'd' => try_trial(numbers, list, area0, area1, l, stored),
         b'o' => try_offer(numbers, list, area0, area1, l, stored),
         b'v' => try_view(numbers, area0, area1, l, stored),
         _ => malformed(l),

@@ -56,7 +56,7 @@ fn take_call(
     area1: &mut [u64],
     l: Lent,
 ) -> Done {
-    let mut stored = [0u64; 10];
+    let mut stored = [0u64; 11];
     let s = take_numbers(line, from, &mut stored);
     if !s.right {
         return malformed(l);

@@ -1,8 +1,9 @@
-// Makes the calls of the histories in `histories.txt` with Start, Feed, Offer and View of crate
-// `monitor`, and prints a line for each group of histories, then `ok` if all was as stored.
+// Makes the calls of the histories in `histories.txt` with Start, Feed, Try, Offer and View of
+// crate `monitor`, and prints a line for each group of histories, then `ok` if all was as stored.
 //     file      the file, piece by piece         groups    its groups
 //     line      a line: a change, or a call
 //     lent      what the calls are lent          call      one call
+//     trial     one call of Try
 //     answer    an answer held to the stored     areas     words in lent areas
 // The file's head says how a line is read, and where the answers come from.
 mod answer;
@@ -12,6 +13,7 @@ mod file;
 mod groups;
 mod lent;
 mod line;
+mod trial;
 
 fn main() {
     let path = b"histories.txt";

@@ -37,6 +37,7 @@ use Rattle.monitor_spec.specs.Entering.{measuring, judging, entrance, agreeing,
 use Rattle.monitor_spec.specs.Fold.{through}
 use Rattle.monitor_spec.specs.Feed.{presentSlots, nextSlots, taking, eventRefused, takeEvent, endingOf}
 use Rattle.monitor_spec.specs.Feed.{feedOf}
+use Rattle.monitor_spec.specs.Try.{furtherMeasured, leftIn, onCopy, tryOf}
 use Rattle.monitor_spec.specs.Start.{startAccepted, startOf}
 use Rattle.monitor_spec.specs.Offer.{bitOf, bitsBelow, offerBits, offering, offerOf}
 use Rattle.monitor_spec.specs.View.{partBy, viewPart}
@@ -46,9 +47,9 @@ use Rattle.words.specs.Tables as tables
 use Rattle.words.specs.Tables.{valueOf, tableCall, readCall, writeCall}
 use Rattle.words.specs.Calls as calls
 use Rattle.words.specs.Calls.{numberOf, recordAfter, monitorCall, monitorIn, unmeasured}
-use Rattle.words.specs.Calls.{startCall, feedCall, offerNumber, offerValue, offerCall}
+use Rattle.words.specs.Calls.{startCall, feedCall, tryCall, offerNumber, offerValue, offerCall}
 use Rattle.words.specs.Calls.{viewing, viewCall}
-use Rattle.words.specs.Examples.{started, fed, offered, viewed, RowsHold}
+use Rattle.words.specs.Examples.{started, fed, tried, offered, viewed, RowsHold}
 
 pub rows-hold : RowsHold
 unfolding flatMap size sizes bodyOf bodyNumber termIn termOfDefs termAt prefixesIn enclosingIn enclosing
@@ -71,9 +72,15 @@ unfolding flatMap size sizes bodyOf bodyNumber termIn termOfDefs termAt prefixes
     measured readJudged readOf writeJudged writeOf bitOf bitsBelow offerBits offering offerOf
     partBy viewPart
     recordMeasured verdictIn stateIn failureWords wordsOf tables.numberOf valueOf tableCall readCall writeCall
-    numberOf calls.placeOf recordAfter monitorCall monitorIn unmeasured startCall feedCall
+    numberOf calls.placeOf recordAfter monitorCall monitorIn unmeasured startCall feedCall tryCall
+    furtherMeasured leftIn onCopy tryOf tried
     offerNumber offerValue calls.offering offerCall viewing viewCall started fed offered viewed RowsHold
 rows-hold = (
+  refl,
+  refl,
+  refl,
+  refl,
+  refl,
   refl,
   refl,
   refl,

@@ -1,8 +1,9 @@
 -- A proof of each claim of `specs/Claims.antt`. Assumes nothing.
 use Rattle.words.specs.Words.Laws.{read-back}
-use Rattle.words.specs.Ways.Laws.{read-way, write-way, start-way, feed-way, offer-way, view-way}
+use Rattle.words.specs.Ways.Laws.{read-way, write-way, start-way, feed-way, try-way, offer-way}
+use Rattle.words.specs.Ways.Laws.{view-way}
 use Rattle.words.specs.Claims.{RecordReadsBack, CallsTell, ZeroExactly, ViewShows, Rows}
-use Rattle.words.proofs.Zero.{read-zero, write-zero, start-zero, feed-zero, offer-zero}
+use Rattle.words.proofs.Zero.{read-zero, write-zero, start-zero, feed-zero, try-zero, offer-zero}
 use Rattle.words.proofs.Shows.{shows}
 use Rattle.words.proofs.Rows.{rows-hold}
 
@@ -17,13 +18,21 @@ calls-tell =
       write = write-way;
       start = start-way;
       feed = feed-way;
+      trial = try-way;
       offer = offer-way;
       view = view-way;
     }
 
 pub zero-exactly : ZeroExactly
 zero-exactly =
-    record { read = read-zero; write = write-zero; start = start-zero; feed = feed-zero; offer = offer-zero }
+    record {
+      read = read-zero;
+      write = write-zero;
+      start = start-zero;
+      feed = feed-zero;
+      trial = try-zero;
+      offer = offer-zero;
+    }
 
 pub view-shows : ViewShows
 unfolding ViewShows

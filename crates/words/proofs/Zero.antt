@@ -22,6 +22,8 @@ use Rattle.monitor_spec.specs.Start.Laws.{start-shut, start-admits}
 use Rattle.monitor_spec.specs.Feed.{takeEvent, endingOf, feedOf}
 use Rattle.monitor_spec.specs.Feed.Laws.{EventCase, meets, passes, event-case, metBy, take-refused}
 use Rattle.monitor_spec.specs.Feed.Laws.{take-passes, feed-shut, feed-admits}
+use Rattle.monitor_spec.specs.Try.{furtherMeasured, onCopy, tryOf}
+use Rattle.monitor_spec.specs.Try.Laws.{try-alike, try-unlike}
 use Rattle.monitor_spec.specs.Entering.{Entrance, shut, admits, entrance, entranceOn, refusing}
 use Rattle.monitor_spec.specs.Entering.Laws.{shut-all, on-all}
 use Rattle.monitor_spec.specs.Offer.{OfferOutcome, offering, offerOf}
@@ -31,6 +33,7 @@ use Rattle.words.specs.Words.{recordMeasured}
 use Rattle.words.specs.Tables as tables
 use Rattle.words.specs.Tables.{isDone, tableCall, readCall, writeCall}
 use Rattle.words.specs.Calls.{numberOf, isGiven, monitorCall, monitorIn, unmeasured, startCall, feedCall}
+use Rattle.words.specs.Calls.{tryCall}
 use Rattle.words.specs.Calls.{offerNumber, isOffered, offerCall}
 use Rattle.words.specs.Calls as calls
 use Rattle.words.proofs.Declined.{list-some, bytes-some}
@@ -181,6 +184,28 @@ feed-zero l r a b es w = go (recordMeasured r) refl
         ≡ (recordMeasured r && isGiven (feedOf l (monitorIn r a b) es w .answer))
     go true e = rw (e, feedCall) (feed-said l (monitorIn r a b) es w)
     go false e = rw (e, feedCall)
+
+-- ---- Try
+
+try-said : (l : List ℕ) (m : Monitor) (c d es w : List ℕ) → Said (tryOf l m c d es w)
+unfolding onCopy refusing numberOf isGiven
+try-said l m c d es w = go (furtherMeasured m c d) refl
+  where
+    go : (x : Bool) → furtherMeasured m c d ≡ x → Said (tryOf l m c d es w)
+    go true e = rw (try-alike l m c d es w e) (feed-said l m es w)
+    go false e = rw (try-unlike l m c d es w e) refl
+
+pub try-zero : (l r a b r′ c d es w : List ℕ)
+    → eqb (tryCall l r a b r′ c d es w .number) 0
+    ≡ ((recordMeasured r && recordMeasured r′) && isGiven (tryOf l (monitorIn r a b) c d es w .answer))
+unfolding tryCall monitorCall unmeasured
+try-zero l r a b r′ c d es w = go (recordMeasured r && recordMeasured r′) refl
+  where
+    go : (x : Bool) → (recordMeasured r && recordMeasured r′) ≡ x
+        → eqb (tryCall l r a b r′ c d es w .number) 0
+        ≡ ((recordMeasured r && recordMeasured r′) && isGiven (tryOf l (monitorIn r a b) c d es w .answer))
+    go true e = rw (e, tryCall) (try-said l (monitorIn r a b) c d es w)
+    go false e = rw (e, tryCall)
 
 -- ---- Offer
 

@@ -1,18 +1,20 @@
--- `cspe_start`, `cspe_feed`, `cspe_offer` and `cspe_view`: what they return and what stands in the lent words
--- afterwards (01, "Operations"). The record is five lent words (`Words`).
+-- `cspe_start`, `cspe_feed`, `cspe_try`, `cspe_offer` and `cspe_view`: what they return and what stands in the lent
+-- words afterwards (01, "Operations"; 02, W4). The record is five lent words (`Words`).
 --     MonitorCall, Told, startCall, feedCall    of Start and Feed
+--     tryCall                                   of Try, in the further record and areas
 --     OfferCall, OfferTold, offerCall           of Offer
 --     ViewCall, viewCall                        of View
 -- The laws are in `Calls/Laws.antt`. Assumes nothing.
 use Prim.Native.Nat.{ℕ}
 use mathlib.Core.Path.{_≡_}
-use mathlib.Core.Bool.{Bool, true, false}
+use mathlib.Core.Bool.{Bool, true, false, _&&_}
 use mathlib.Core.List.{List}
 use lib.ListN.{length}
 use lib.Dec.{eqb}
 use Rattle.monitor_spec.specs.State.{State, Monitor, Answer, given, refused, stopped, Outcome}
 use Rattle.monitor_spec.specs.Start.{startOf}
 use Rattle.monitor_spec.specs.Feed.{feedOf}
+use Rattle.monitor_spec.specs.Try.{tryOf}
 use Rattle.monitor_spec.specs.Offer.{Offered, offers, OfferOutcome, offerOf}
 use Rattle.monitor_spec.specs.Offer as operation
 use Rattle.monitor_spec.specs.View.{Part, viewPart}
@@ -95,6 +97,17 @@ feedCall l r a b es w =
     elim (recordMeasured r) [
       | true ↦ monitorCall r (feedOf l (monitorIn r a b) es w)
       | false ↦ unmeasured r a b w
+    ]
+
+-- ---- Try
+
+-- number list, record, areas, further record and areas, events, work words: what stands in the further ones; a record
+-- or further record that is not of five words is refusal 1, place 0, all kept
+unfoldable pub tryCall : List ℕ → List ℕ → List ℕ → List ℕ → List ℕ → List ℕ → List ℕ → List ℕ → List ℕ → MonitorCall
+tryCall l r a b r′ c d es w =
+    elim (recordMeasured r && recordMeasured r′) [
+      | true ↦ monitorCall r′ (tryOf l (monitorIn r a b) c d es w)
+      | false ↦ unmeasured r′ c d w
     ]
 
 -- ---- Offer

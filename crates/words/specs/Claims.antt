@@ -17,12 +17,14 @@ use Rattle.table.specs.Operations.{readOf, writeOf}
 use Rattle.monitor_spec.specs.State.{State, choose}
 use Rattle.monitor_spec.specs.Start.{startOf}
 use Rattle.monitor_spec.specs.Feed.{feedOf}
+use Rattle.monitor_spec.specs.Try.{tryOf}
 use Rattle.monitor_spec.specs.Offer.{offerOf}
 use Rattle.monitor_spec.specs.View.{viewOf}
 use Rattle.words.specs.Words.{recordMeasured, stateIn, wordsOf}
 use Rattle.words.specs.Tables.{isDone, readCall, writeCall}
-use Rattle.words.specs.Calls.{isGiven, isOffered, monitorIn, startCall, feedCall, offerCall, viewCall}
-use Rattle.words.specs.Ways.{CallWay, OfferWay, ViewWay, TableWay}
+use Rattle.words.specs.Calls.{isGiven, isOffered, monitorIn, startCall, feedCall, tryCall, offerCall}
+use Rattle.words.specs.Calls.{viewCall}
+use Rattle.words.specs.Ways.{CallWay, TryWay, OfferWay, ViewWay, TableWay}
 use Rattle.words.specs.Examples.{RowsHold}
 
 unfoldable pub RecordReadsBack : Type 0
@@ -35,6 +37,8 @@ pub record CallsTell : Type 0 where
   pub start : (l r a b w : List ℕ) → CallWay r a b w (startOf l a b w) (startCall l r a b w)
   pub feed : (l r a b es w : List ℕ)
       → CallWay r a b w (feedOf l (monitorIn r a b) es w) (feedCall l r a b es w)
+  pub trial : (l r a b r′ c d es w : List ℕ)
+      → TryWay r r′ c d w (tryOf l (monitorIn r a b) c d es w) (tryCall l r a b r′ c d es w)
   pub offer : (l r a b w : List ℕ) → OfferWay r a b w (offerOf l (monitorIn r a b) w) (offerCall l r a b w)
   pub view : (r a b : List ℕ) → ViewWay r (viewOf (monitorIn r a b)) (viewCall r a b)
 
@@ -47,6 +51,9 @@ pub record ZeroExactly : Type 0 where
   pub feed : (l r a b es w : List ℕ)
       → eqb (feedCall l r a b es w .number) 0
       ≡ (recordMeasured r && isGiven (feedOf l (monitorIn r a b) es w .answer))
+  pub trial : (l r a b r′ c d es w : List ℕ)
+      → eqb (tryCall l r a b r′ c d es w .number) 0
+      ≡ ((recordMeasured r && recordMeasured r′) && isGiven (tryOf l (monitorIn r a b) c d es w .answer))
   pub offer : (l r a b w : List ℕ)
       → eqb (offerCall l r a b w .number) 0
       ≡ (recordMeasured r && isOffered (offerOf l (monitorIn r a b) w .answer))

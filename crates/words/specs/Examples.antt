@@ -1,15 +1,17 @@
 -- Calls on table B of 01 as C makes them, with two slots, as computed rows.
---     started, fed       the words that a Start leaves; a Feed on them
+--     started, fed       the words that a Start leaves; a Feed on them;  tried: a Try on them
 --     RowsHold           what is returned and left
 -- Assumes nothing.
 use Prim.Native.Nat.{ℕ}
 use mathlib.Core.Path.{_≡_}
 use mathlib.Core.List.{List, [], _∷_, _++_, map}
+use lib.ListN.{replicate}
 use Rattle.table.specs.Operations.{zeros}
 use Rattle.monitor_spec.specs.State.{running, failedAt}
 use Rattle.words.specs.Words.{stateIn}
 use Rattle.words.specs.Tables.{said, readCall, writeCall}
-use Rattle.words.specs.Calls.{MonitorCall, OfferCall, ViewCall, startCall, feedCall, offerCall, viewCall}
+use Rattle.words.specs.Calls.{MonitorCall, OfferCall, ViewCall, startCall, feedCall, tryCall, offerCall}
+use Rattle.words.specs.Calls.{viewCall}
 use Rattle.words.specs.Calls as calls
 
 -- 01, "Table B": its numbers are its bytes
@@ -24,11 +26,23 @@ five taken count failed place peak = taken ∷ count ∷ failed ∷ place ∷ pe
 abbrev pub slot : ℕ → List ℕ
 slot term = 1 ∷ term ∷ zeros 30
 
+-- words that nobody wrote
+abbrev pub sevens : ℕ → List ℕ
+sevens n = replicate n 7
+
+-- a further record before a Try
+abbrev pub further : List ℕ
+further = sevens 5
+
 unfoldable pub started : MonitorCall
 started = startCall tableB (zeros 5) (zeros 32) (zeros 32) (zeros 8192)
 
 unfoldable pub fed : List ℕ → MonitorCall
 fed es = feedCall tableB (started .words) (started .area0) (started .area1) es (zeros 8192)
+
+-- the further record and areas are lent with the words r, c and d in them
+unfoldable pub tried : List ℕ → List ℕ → List ℕ → List ℕ → MonitorCall
+tried r c d es = tryCall tableB (started .words) (started .area0) (started .area1) r c d es (zeros 8192)
 
 unfoldable pub offered : MonitorCall → OfferCall
 offered m = offerCall tableB (m .words) (m .area0) (m .area1) (zeros 8192)
@@ -66,6 +80,13 @@ RowsHold =
     ≡ left 10 0 (five 0 1 0 0 3) (slot 0) (zeros 32))
     × (feedCall tableB (five 2 0 1 2 3) (zeros 32) (zeros 32) [] (zeros 8192)
     ≡ left 10 0 (five 2 0 1 2 3) (zeros 32) (zeros 32))
+    -- Try: as Feed, whatever stood in the further words; these are kept on 10, and where a length is wrong
+    × (tried further (sevens 32) (sevens 32) (0 ∷ 1 ∷ 0 ∷ []) ≡ fed (0 ∷ 1 ∷ 0 ∷ []))
+    × (tried further (sevens 32) (sevens 32) (0 ∷ 3 ∷ 1 ∷ []) ≡ fed (0 ∷ 3 ∷ 1 ∷ []))
+    × (tryCall tableB (started .words) (zeros 32) (zeros 32) further (sevens 32) (sevens 32) [] (zeros 8192)
+    ≡ left 10 0 further (sevens 32) (sevens 32))
+    × (tried further (sevens 32) (sevens 16) [] ≡ left 1 0 further (sevens 32) (sevens 16))
+    × (tried (sevens 4) (sevens 32) (sevens 32) [] ≡ left 1 0 (sevens 4) (sevens 32) (sevens 32))
     -- Offer and View after 0, after 0 and 1, after failure
     × (offered (fed (0 ∷ [])) .value ≡ 2)
     × (offered (fed (0 ∷ 1 ∷ [])) .value ≡ 1)

@@ -1,5 +1,6 @@
 -- What each call returns and leaves, by the record's length and the operation's answer: every word of each way.
 --     CallWay     of Start and Feed, whose outcome is o
+--     TryWay      of Try
 --     OfferWay    of Offer
 --     ViewWay     of View, whose part of an area is given
 --     TableWay    of Read and Write
@@ -52,6 +53,14 @@ pub data CallWay (r a b w : List ℕ) (o : Outcome) : MonitorCall → Type 0 whe
         area1 = o .area1;
         work = o .work;
       })
+
+-- of the record r that is read, and the further record and areas
+pub data TryWay (r r′ c d w : List ℕ) (o : Outcome) (k : MonitorCall) : Type 0 where
+  -- a record that is not of five words (ours): 1 at place 0, all kept
+  readUnfit : (length r ≡ 5 → ⊥)
+      → k ≡ record { number = 1; place = 0; words = r′; area0 = c; area1 = d; work = w } → TryWay r r′ c d w o k
+  -- else a call's ways, in the further words
+  furtherWay : length r ≡ 5 → CallWay r′ c d w o k → TryWay r r′ c d w o k
 
 pub data OfferWay (r a b w : List ℕ) (o : OfferOutcome) : OfferCall → Type 0 where
   offerUnfit : (length r ≡ 5 → ⊥)

@@ -1,7 +1,7 @@
 //! The monitor's static library (`include/cspe_monitor.h`) for safe Rust.
 //!
 //!     Table      the numbers of a table: Read and Write
-//!     Monitor    a monitor with its buffers: Start, Feed, Offer, View
+//!     Monitor    a monitor with its buffers: Start, Feed, Try, Offer, View
 //!     Refusal    a refusal's number and place
 //!     sheet      the lot sheet of a lot book
 //!
@@ -193,6 +193,40 @@ impl<'t> Monitor<'t> {
         };
         result(number, place)?;
         Ok(self.state())
+    }
+
+    /// Try: the monitor that `feed` would leave; this one stays as it is.
+    pub fn try_feed(&mut self, events: &[u8]) -> Result<Monitor<'t>, Refusal> {
+        let mut copy = Monitor::resume(self.table, self.parts.clone());
+        let [area0, area1] = &self.parts.areas;
+        let [further0, further1] = &mut copy.parts.areas;
+        let mut place = 0;
+        // SAFETY: as in `Table::read`
+        let number = unsafe {
+            library::cspe_try(
+                self.table.list.as_ptr(),
+                self.table.list.len(),
+                self.parts.record.as_ptr(),
+                RECORD_WORDS,
+                area0.as_ptr(),
+                area0.len(),
+                area1.as_ptr(),
+                area1.len(),
+                copy.parts.record.as_mut_ptr(),
+                RECORD_WORDS,
+                further0.as_mut_ptr(),
+                further0.len(),
+                further1.as_mut_ptr(),
+                further1.len(),
+                events.as_ptr(),
+                events.len(),
+                self.work.as_mut_ptr(),
+                self.work.len(),
+                &mut place,
+            )
+        };
+        result(number, place)?;
+        Ok(copy)
     }
 
     /// Offer: bit e is set exactly when residuals are left after the event e.

@@ -97,6 +97,18 @@ fn follow(table: &Table) -> Monitor<'_> {
     monitor
 }
 
+/// What events would do, before they are fed; the monitor stays as it is.
+fn ask_first(monitor: &mut Monitor) {
+    let copy = given(monitor.try_feed(&[1, 1]), "try of events that are not permitted");
+    expect(copy.state().verdict == Verdict::Failed(5), "where they fail");
+    println!("try 1 1: would fail at 5");
+    let copy = given(monitor.try_feed(&[1, 0]), "try of events that are permitted");
+    expect(copy.state().verdict == Verdict::Running, "they are permitted");
+    println!("try 1 0: would run, {} taken", copy.state().taken);
+    show_refusal("try 3", monitor.try_feed(&[3]), 11, 0);
+    expect(monitor.state().taken == 3, "the monitor is as it was");
+}
+
 fn refuse_and_fail(table: &Table, mut monitor: Monitor) {
     // 3 is no event of an alphabet of 3: the event before it is taken, and the record is the one after it
     show_refusal("feed 1 3 0", monitor.feed(&[1, 3, 0]), 11, 1);
@@ -140,7 +152,8 @@ fn main() {
         lots::print();
     } else {
         let table = read_and_write();
-        let monitor = follow(&table);
+        let mut monitor = follow(&table);
+        ask_first(&mut monitor);
         refuse_and_fail(&table, monitor);
         size_areas();
     }

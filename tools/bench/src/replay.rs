@@ -1,5 +1,5 @@
 // Whether a monitor answers as the reference does: the calls of Start and Feed in a file of
-// histories (tools/reference/README.md), made of it. Offer and View are left out.
+// histories (tools/reference/README.md), made of it. Try, Offer and View are left out.
 
 use crate::monitor::*;
 use reference::monitor::history::{digest, BUFFER};

@@ -13,6 +13,7 @@ use Rattle.state.specs.declared.answer.Offered.the-variants as variant
 use Rattle.monitor_spec.specs.State.{State, Outcome}
 use Rattle.monitor_spec.specs.Start.{startOf}
 use Rattle.monitor_spec.specs.Feed.{feedOf}
+use Rattle.monitor_spec.specs.Try.{tryOf}
 use Rattle.monitor_spec.specs.Offer.{offerOf}
 use Rattle.monitor_spec.specs.View.{Part, viewPart, viewOf}
 use Rattle.monitor_spec.specs.View.Laws.{part-parity, view-length}
@@ -20,7 +21,7 @@ use Rattle.state.specs.Record.{stateOf, monitorOf}
 use Rattle.state.specs.Answers.{answerOf, outcome, offeredOf, offerOutcome}
 use Rattle.words.specs.Words.{recordMeasured, stateIn, wordsOf}
 use Rattle.words.specs.Calls.{numberOf, placeOf, recordAfter, Told, said, monitorCall, monitorIn, unmeasured}
-use Rattle.words.specs.Calls.{startCall, feedCall}
+use Rattle.words.specs.Calls.{startCall, feedCall, tryCall}
 use Rattle.words.specs.Calls.{offerNumber, offerValue, OfferTold, offerSaid, offering, offerCall}
 use Rattle.words.specs.Calls.{viewSaid, viewing, viewCall}
 
@@ -33,6 +34,16 @@ start-unmeasured l r a b w h = rw (ne-eqb (length r) 5 h, startCall) refl
 pub feed-unmeasured : (l r a b es w : List ℕ) → (length r ≡ 5 → ⊥) → said 1 0 r a b w ≡ feedCall l r a b es w
 unfolding feedCall recordMeasured unmeasured
 feed-unmeasured l r a b es w h = rw (ne-eqb (length r) 5 h, feedCall) refl
+
+pub try-unread : (l r a b r′ c d es w : List ℕ) → (length r ≡ 5 → ⊥)
+    → said 1 0 r′ c d w ≡ tryCall l r a b r′ c d es w
+unfolding tryCall recordMeasured unmeasured
+try-unread l r a b r′ c d es w h = rw (ne-eqb (length r) 5 h, tryCall) refl
+
+pub try-unmeasured : (l r a b r′ c d es w : List ℕ) → length r ≡ 5 → (length r′ ≡ 5 → ⊥)
+    → said 1 0 r′ c d w ≡ tryCall l r a b r′ c d es w
+unfolding tryCall recordMeasured unmeasured
+try-unmeasured l r a b r′ c d es w e h = rw (eq-eqb (length r) 5 e, ne-eqb (length r′) 5 h, tryCall) refl
 
 pub offer-unmeasured : (l r a b w : List ℕ) → (length r ≡ 5 → ⊥) → offerSaid 1 0 a b w ≡ offerCall l r a b w
 unfolding offerCall recordMeasured
@@ -78,6 +89,14 @@ module _ (x : code.Answer) (n p : ℕ) (r r' a b w : List ℕ) (t : Told (answer
   feed-told l a₀ b₀ es w₀ s h k e =
       rw (eq-eqb (length r) 5 h, feedCall)
       (told _ (e ∙ ap (λ (y : State). feedOf l (record { state = y; area0 = a₀; area1 = b₀ }) es w₀) k))
+
+  -- r is the further record, and r₀ the one that is read
+  pub try-told : (l r₀ a₀ b₀ c d es w₀ : List ℕ) (s : StateCode) → length r₀ ≡ 5 → length r ≡ 5 → stateOf s ≡ stateIn r₀
+      → outcome x a b w ≡ tryOf l (monitorOf s a₀ b₀) c d es w₀ → said n p r' a b w ≡ tryCall l r₀ a₀ b₀ r c d es w₀
+  unfolding tryCall recordMeasured monitorIn
+  try-told l r₀ a₀ b₀ c d es w₀ s h g k e =
+      rw (eq-eqb (length r₀) 5 h, eq-eqb (length r) 5 g, tryCall)
+      (told _ (e ∙ ap (λ (y : State). tryOf l (record { state = y; area0 = a₀; area1 = b₀ }) c d es w₀) k))
 
 -- ---- Offer
 

@@ -2,7 +2,7 @@
 use Prim.Native.Nat.{ℕ, zero, suc, _%_, _<_}
 use native.Mathlib.Omega.{arith}
 use mathlib.Core.Path.{_≡_, refl, sym, ap, subst, _∙_}
-use mathlib.Core.Bool.{Bool, true, false}
+use mathlib.Core.Bool.{Bool, true, false, _&&_}
 use mathlib.Core.List.{List}
 use lib.ListN.{length}
 use lib.Dec.{eqb}
@@ -12,6 +12,7 @@ use Rattle.table.specs.Operations as table
 use Rattle.monitor_spec.specs.State.{State, Answer, given, refused, stopped, Outcome}
 use Rattle.monitor_spec.specs.Start.{startOf}
 use Rattle.monitor_spec.specs.Feed.{feedOf}
+use Rattle.monitor_spec.specs.Try.{tryOf}
 use Rattle.monitor_spec.specs.Offer.{Offered, offers, OfferOutcome, offerOf}
 use Rattle.monitor_spec.specs.Offer as operation
 use Rattle.monitor_spec.specs.View.{Part, viewPart, viewOf}
@@ -20,10 +21,12 @@ use Rattle.words.specs.Words.{recordMeasured, stateIn, wordsOf}
 use Rattle.words.specs.Tables.{TableCall, tableCall, readCall, writeCall}
 use Rattle.words.specs.Tables as tables
 use Rattle.words.specs.Calls.{MonitorCall, numberOf, placeOf, recordAfter, monitorCall, unmeasured, monitorIn}
-use Rattle.words.specs.Calls.{startCall, feedCall, OfferCall, offerNumber, offerValue, offering, offerCall}
+use Rattle.words.specs.Calls.{startCall, feedCall, tryCall, OfferCall, offerNumber, offerValue, offering}
+use Rattle.words.specs.Calls.{offerCall}
 use Rattle.words.specs.Calls.{ViewCall, viewing, viewCall}
 use Rattle.words.specs.Calls.Laws.{view-empty, view-words}
 use Rattle.words.specs.Ways.{CallWay, recordUnfit, callGiven, callRefused, callStopped, OfferWay, offerUnfit}
+use Rattle.words.specs.Ways.{TryWay, readUnfit, furtherWay}
 use Rattle.words.specs.Ways.{offerGiven, offerRefused, ViewWay, viewUnfit, viewNone, viewSome, TableWay}
 use Rattle.words.specs.Ways.{tableDone, tableRefused}
 
@@ -76,6 +79,22 @@ pub feed-way : (l r a b es w : List ℕ)
 unfolding feedCall recordMeasured
 feed-way l r a b es w =
     measured r a b w (feedOf l (monitorIn r a b) es w) (feedCall l r a b es w) (eqb (length r) 5) refl refl
+
+-- ---- Try
+
+pub try-way : (l r a b r′ c d es w : List ℕ)
+    → TryWay r r′ c d w (tryOf l (monitorIn r a b) c d es w) (tryCall l r a b r′ c d es w)
+unfolding tryCall recordMeasured unmeasured
+try-way l r a b r′ c d es w = by (eqb (length r) 5) refl
+  where
+    o : Outcome
+    o = tryOf l (monitorIn r a b) c d es w
+
+    by : (x : Bool) → eqb (length r) 5 ≡ x → TryWay r r′ c d w o (tryCall l r a b r′ c d es w)
+    by true e =
+        furtherWay (eqb-true _ _ e)
+        (measured r′ c d w o (tryCall l r a b r′ c d es w) (eqb (length r′) 5) refl (rw (e, tryCall) refl))
+    by false e = readUnfit (eqb-false _ _ e) (rw (e, tryCall) refl)
 
 -- ---- Offer
 

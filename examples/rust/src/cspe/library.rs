@@ -47,6 +47,27 @@ extern "C" {
         work_length: usize,
         place: *mut u64,
     ) -> u32;
+    pub fn cspe_try(
+        list: *const u16,
+        list_length: usize,
+        record: *const u64,
+        record_length: usize,
+        area0: *const u64,
+        area0_length: usize,
+        area1: *const u64,
+        area1_length: usize,
+        further_record: *mut u64,
+        further_record_length: usize,
+        further0: *mut u64,
+        further0_length: usize,
+        further1: *mut u64,
+        further1_length: usize,
+        events: *const u8,
+        events_length: usize,
+        work: *mut u64,
+        work_length: usize,
+        place: *mut u64,
+    ) -> u32;
     pub fn cspe_offer(
         list: *const u16,
         list_length: usize,

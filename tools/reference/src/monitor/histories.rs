@@ -8,6 +8,7 @@ mod lengths;
 mod limits;
 mod peaks;
 mod states;
+mod tries;
 pub(crate) mod walks;
 mod worked;
 mod wrong;
@@ -20,16 +21,17 @@ use lengths::*;
 use limits::*;
 use peaks::*;
 use states::*;
+use tries::*;
 use walks::*;
 use worked::*;
 use wrong::{wrong_in, Field};
 
 // Where the file comes from, but for the seed and the count.
 const SOURCE: &str = "\
-# Histories of the monitor: answers of Start, Feed, Offer and View.
-# Written by tools/reference, another implementation of 01; in groups named worked_* the verdicts
-# and refusals are worked by hand from 01, masks and digests are not. The command, in
-# tools/reference:
+# Histories of the monitor: answers of Start, Feed, Try, Offer and View.
+# Written by tools/reference, another implementation of 01 and of 02, W1 and W4; in groups named
+# worked_* the verdicts and refusals are worked by hand from these, masks and digests are not. The
+# command, in tools/reference:
 #     cargo run --release --offline -- histories --seed ";
 
 pub struct Group {
@@ -42,7 +44,7 @@ pub struct Group {
 type Make = fn(&mut Random, &mut History);
 
 // The groups that are drawn: a hundred parts, each group so many.
-const DRAWN: [(&str, usize, Make); 43] = [
+const DRAWN: [(&str, usize, Make); 50] = [
     ("wrong_lengths_start", 2, wrong_lengths_start),
     ("wrong_lengths_midway", 3, wrong_lengths_midway),
     ("garbage_before_start", 2, garbage_before_start),
@@ -86,10 +88,17 @@ const DRAWN: [(&str, usize, Make); 43] = [
     ("memory_0_to_3", 6, memory_0_to_3),
     ("offers", 4, offers),
     ("walks", 8, walks),
+    ("tried_and_fed", 6, tried_and_fed),
+    ("tried_lengths", 3, tried_lengths),
+    ("tried_refused_tables", 4, tried_refused_tables),
+    ("tried_disturbed", 3, tried_disturbed),
+    ("tried_crowded", 4, tried_crowded),
+    ("tried_counter", 2, tried_counter),
+    ("tried_after_failure", 2, tried_after_failure),
 ];
 
 // The groups of answers that are wrong on purpose.
-const WRONG: [(&str, Field); 13] = [
+const WRONG: [(&str, Field); 14] = [
     ("stored_number", Field::Number),
     ("stored_place", Field::Place),
     ("stored_has", Field::Has),
@@ -100,6 +109,7 @@ const WRONG: [(&str, Field); 13] = [
     ("stored_at", Field::At),
     ("stored_mask", Field::Mask),
     ("stored_digest", Field::Digest),
+    ("stored_further", Field::Further),
     ("stored_kept", Field::Kept),
     ("stored_area", Field::Area),
     ("stored_length", Field::Length),
@@ -120,6 +130,7 @@ pub fn groups(seed: u64, count: usize) -> Vec<Group> {
     add("worked_view", &|_, history| worked_view(history));
     add("worked_lengths", &|_, history| worked_lengths(history));
     add("worked_peaks", &|_, history| worked_peaks(history));
+    add("worked_try", &|_, history| worked_try(history));
     add("long_tables", &long_tables);
     add("long_calls", &|_, history| long_calls(history));
     for (name, parts, make) in DRAWN {
@@ -175,6 +186,10 @@ mod tests {
                 }
                 "u" => assert!(numbers.len() <= 16_500),
                 "f" => assert!(numbers.len() - 1 <= MOST_EVENTS && numbers[0] <= 8_300),
+                "d" => {
+                    assert!(numbers.len() - 3 <= MOST_EVENTS && numbers[0] <= 8_300);
+                    assert!(numbers[1..3].iter().all(|&length| length <= BUFFER as u64));
+                }
                 "s" | "o" => assert!(numbers[0] <= 8_300),
                 "a" => assert!(numbers[..2].iter().all(|&length| length <= BUFFER as u64)),
                 _ => {}
@@ -195,11 +210,11 @@ mod tests {
     fn every_refusal() {
         let text = stored::text("monitor_test/data/histories.txt");
         let (text, _) = text.split_once("# wrong ").expect("answers that are wrong on purpose");
-        for call in ["s", "f", "o"] {
+        for call in ["s", "f", "d", "o"] {
             for number in (1..=13).filter(|&n| n != 4) {
                 let has = match call {
                     "s" => number <= 9 || number == 13,
-                    "f" => true,
+                    "f" | "d" => true,
                     _ => number <= 10,
                 };
                 let met = text.lines().filter(|line| line.starts_with(call)).any(|line| {

@@ -23,6 +23,10 @@ pub const FORMAT: &str = "\
 #     x AREA INDEX w w ..         the words of buffer AREA from INDEX on become these
 #     s WORK = NUMBER PLACE HAS TAKEN COUNT PEAK FAILED AT DIGEST KEPT        Start
 #     f WORK e e .. = NUMBER PLACE HAS TAKEN COUNT PEAK FAILED AT DIGEST KEPT Feed of these events
+#     d WORK LENGTH0 LENGTH1 e e ..
+#             = NUMBER PLACE HAS TAKEN COUNT PEAK FAILED AT DIGEST FURTHER KEPT
+#                                 Try of these events, with further areas of these lengths, where
+#                                 word j of further area i is 2^64 - 1 - j - 8192 (i + 2) before
 #     o WORK = NUMBER PLACE MASK DIGEST KEPT                                  Offer
 #     v = AREA LENGTH                                                         View
 # A list may have no number. WORK is the length of the lent work area; fill it with what is not 0.
@@ -33,8 +37,9 @@ pub const FORMAT: &str = "\
 # 1, for each word w
 #     d := (d * 16777619 + w mod 2^32) mod 4294967291
 #     d := (d * 16777619 + w div 2^32) mod 4294967291
-# KEPT is 1 if the work area must stand as it was, 0 if all its words must be 0. What View hands
-# back is the first LENGTH words of area AREA.
+# After Try the record that went in is that of the next call, and FURTHER is the digest of the
+# further areas. KEPT is 1 if the work area must stand as it was, 0 if all its words must be 0.
+# What View hands back is the first LENGTH words of area AREA.
 # Where a group begins with `# wrong` instead of `# group`, the answer of each call is wrong on
 # purpose in one number, and a test program must find it wrong.
 # A table has at most 16,500 numbers, a call at most 5,100 events, each below 256, an area at most
@@ -190,6 +195,29 @@ impl History {
         self.answered(format!("f {work_len}{}", joined(events)), outcome)
     }
 
+    pub fn try_feed(&mut self, events: &[u8]) -> Outcome<Answer> {
+        self.try_work(events, WORK, self.lengths)
+    }
+
+    pub fn try_work(
+        &mut self,
+        events: &[u8],
+        work_len: usize,
+        lengths: [usize; 2],
+    ) -> Outcome<Answer> {
+        let further =
+            [0, 1].map(|area| (0..lengths[area]).map(|index| junk(area + 2, index)).collect());
+        let outcome =
+            try_feed(&self.list, self.record, &self.areas(), &further, events, work_len);
+        let fields = self.answer_fields(outcome.answer);
+        let [first, further] = [&self.areas(), &outcome.areas].map(|[a, b]| digest(&[a, b]));
+        let [length_0, length_1] = lengths;
+        let call = format!("d {work_len} {length_0} {length_1}{}", joined(events));
+        let kept = outcome.work_kept as u8;
+        self.called(format!("{call} = {fields} {first} {further} {kept}"));
+        outcome
+    }
+
     pub fn offer(&mut self) -> u64 {
         self.offer_work(WORK)
     }
@@ -216,15 +244,19 @@ impl History {
     }
 
     fn answered(&mut self, call: String, outcome: Outcome<Answer>) -> Answer {
-        let Answer { refusal, record } = outcome.answer;
+        let fields = self.answer_fields(outcome.answer);
+        let rest = self.stand(&outcome.areas, outcome.work_kept);
+        self.called(format!("{call} = {fields} {rest}"));
+        self.record = outcome.answer.record.unwrap_or(self.record);
+        outcome.answer
+    }
+
+    // `NUMBER PLACE HAS` and a record's numbers.
+    fn answer_fields(&mut self, Answer { refusal, record }: Answer) -> String {
         self.last = numbered(refusal);
         let (number, place) = self.last;
-        let has = record.is_some() as u8;
         let fields = record_fields(record.unwrap_or(ZERO));
-        let rest = self.stand(&outcome.areas, outcome.work_kept);
-        self.called(format!("{call} = {number} {place} {has} {fields} {rest}"));
-        self.record = record.unwrap_or(self.record);
-        outcome.answer
+        format!("{number} {place} {} {fields}", record.is_some() as u8)
     }
 
     // The areas as a call left them; their digest, and whether the work area is kept.

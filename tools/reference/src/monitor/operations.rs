@@ -1,5 +1,6 @@
 // Start, Feed, Offer and View (01, "Operations", "When the monitor declines"; the record's peak:
-// 02, W1): for every input the whole outcome: the answer, both areas, and whether the work area is kept.
+// 02, W1) and Try (02, W4): for every input the whole outcome: the answer, both areas, and whether
+// the work area is kept.
 //     Answer      a record; a refusal; a refusal with a record
 //     Outcome     an answer and what stands in the lent areas afterwards
 
@@ -149,6 +150,32 @@ fn take(
             let peak = record.peak.max(count);
             Ok((Record { taken, count, peak, failed }, next))
         }
+    }
+}
+
+// Try: "takes what Feed takes and two further areas of the same length, and gives Feed's answer,
+// refusals included. The further areas end as Feed would leave a copy of the first two, and the
+// first two are kept. On refusals 1 to 10 the further areas are kept too." The areas of the outcome
+// are the further ones.
+pub fn try_feed(
+    list: &[u16],
+    record: Record,
+    areas: &Areas,
+    further: &Areas,
+    events: &[u8],
+    work_len: usize,
+) -> Outcome<Answer> {
+    if (0..2).any(|area| further[area].len() != areas[area].len()) {
+        let refusal = Refusal { number: WRONG_LENGTH, place: 0 };
+        return refused(refused_only(refusal), refusal, further);
+    }
+    let copy = areas.clone();
+    let fed = feed(list, record, &copy, events, work_len);
+    match fed.answer.refusal {
+        Some(refusal) if refusal.number <= INCONSISTENT => {
+            Outcome { areas: further.clone(), ..fed }
+        }
+        _ => fed,
     }
 }
 

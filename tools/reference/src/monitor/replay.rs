@@ -53,6 +53,10 @@ fn again(history: &mut History, line: &str) -> Option<()> {
             let events: Vec<u8> = numbers[1..].iter().map(|&e| e as u8).collect();
             history.feed_work(&events, length(0)?);
         }
+        "d" => {
+            let events: Vec<u8> = numbers.get(3..)?.iter().map(|&e| e as u8).collect();
+            history.try_work(&events, length(0)?, [length(1)?, length(2)?]);
+        }
         "o" => {
             history.offer_work(length(0)?);
         }

@@ -14,7 +14,11 @@ fn kind_of(line: &str) -> Option<bool> {
     let lengths: Vec<usize> = parts.iter().map(|part| part.len()).collect();
     match (letter, lengths.as_slice()) {
         ("t" | "u", [_]) | ("a", [3]) | ("r", [5]) | ("x", [(2..)]) => Some(false),
-        ("s", [1, 10]) | ("f", [(1..), 10]) | ("o", [1, 5]) | ("v", [0, 2]) => Some(true),
+        ("s", [1, 10])
+        | ("f", [(1..), 10])
+        | ("d", [(3..), 11])
+        | ("o", [1, 5])
+        | ("v", [0, 2]) => Some(true),
         _ => None,
     }
 }
@@ -33,7 +37,16 @@ mod tests {
 
     #[test]
     fn other_lines_are_refused() {
-        for line in ["", "y 1", "s 1 = 0", "v = 0", "x 1", "f = 0 0 1 0 1 1 0 0 5 0", "t 1  2"] {
+        for line in [
+            "",
+            "y 1",
+            "s 1 = 0",
+            "v = 0",
+            "x 1",
+            "f = 0 0 1 0 1 1 0 0 5 0",
+            "d 1 2 = 0 0 1 0 1 1 0 0 5 5 0",
+            "t 1  2",
+        ] {
             assert!(summary(&format!("# group a\n{line}\n")).is_err(), "{line}");
         }
         assert!(summary("v = 0 0\n# group a\n").is_err());

@@ -2,7 +2,7 @@
 -- nothing.
 use native.Mathlib.Omega.{arith}
 use Rattle.state.specs.Record.{monitorOf}
-use Rattle.feeding.proofs.feeder.Outcomes.{feed-enters, feed-declined, feed-fed}
+use Rattle.feeding.specs.Feeding.Laws.{feed-enters, feed-declined, feed-fed}
 use borrow.Author.Needs.{needs}
 use Rattle.feeding.proofs.feeder.feed.Statement.{statement}
 use Rattle.feeding.proofs.feeder.feed.Tie as tie

@@ -28,6 +28,8 @@ pub fn long_tables(random: &mut Random, history: &mut History) {
     history.other_table(&too_long);
     history.feed(&[64]);
     history.known(TOO_LONG, 0);
+    history.try_feed(&[64]);
+    history.known(TOO_LONG, 0);
     history.offer();
     history.known(TOO_LONG, 0);
     history.start();

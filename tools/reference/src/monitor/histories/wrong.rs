@@ -21,6 +21,7 @@ pub enum Field {
     At,
     Mask,
     Digest,
+    Further,
     Kept,
     Area,
     Length,
@@ -39,6 +40,9 @@ fn index(field: Field, letter: char) -> Option<usize> {
         ('o', Digest) => Some(3),
         ('o', Kept) => Some(4),
         ('o', _) | (_, Mask) => None,
+        ('d', Further) => Some(9),
+        ('d', Kept) => Some(10),
+        (_, Further) => None,
         (_, Has) => Some(2),
         (_, Taken) => Some(3),
         (_, Count) => Some(4),
@@ -95,7 +99,7 @@ fn disturb_peak(history: &mut History) {
 
 type Call = fn(&mut History);
 
-const CALLS: [Call; 24] = [
+const CALLS: [Call; 34] = [
     // Start: running, failed, a wrong length, a refused table, crowded
     |history| {
         history.begin(&table_b(), 1);
@@ -165,6 +169,51 @@ const CALLS: [Call; 24] = [
     |history| {
         enter(history, &list_of(&K8), &[]);
         history.feed(&[0]);
+    },
+    // Try: running, failed, with a peak above the last count; a wrong length, a further area's, a
+    // refused table, disturbed, by the peak too, and stopped: strange, crowded
+    |history| {
+        enter(history, &table_b(), &[0]);
+        history.try_feed(&[1, 0]);
+    },
+    |history| {
+        enter(history, &table_b(), &[0]);
+        history.try_feed(&[0, 1]);
+    },
+    |history| {
+        enter_lent(history, 2, &list_of(&K7), &[0]);
+        history.try_feed(&[1]);
+    },
+    |history| {
+        enter(history, &table_b(), &[0]);
+        history.try_work(&[1], WORK + 1, [16, 16]);
+    },
+    |history| {
+        enter(history, &table_b(), &[0]);
+        history.try_work(&[1], WORK, [16, 32]);
+    },
+    |history| {
+        enter(history, &table_b(), &[0]);
+        history.other_table(&table_b()[..15]);
+        history.try_feed(&[1]);
+    },
+    |history| {
+        enter(history, &table_b(), &[0]);
+        disturb(history);
+        history.try_feed(&[1]);
+    },
+    |history| {
+        enter(history, &table_b(), &[0]);
+        disturb_peak(history);
+        history.try_feed(&[1]);
+    },
+    |history| {
+        enter(history, &table_b(), &[]);
+        history.try_feed(&[0, 1, 3]);
+    },
+    |history| {
+        enter(history, &list_of(&K8), &[]);
+        history.try_feed(&[0]);
     },
     // Offer: running, failed, a wrong length, disturbed, by the peak too
     |history| {

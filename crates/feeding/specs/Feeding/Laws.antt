@@ -1,5 +1,5 @@
 -- The outcomes of Feed, by what stands before its events.
---     feed-enters                      what `take_all` asks for
+--     feed-enters                      what `take_all` asks for, of an operation that is entered
 --     feed-declined, feed-fed          refusals 1 to 10; the events
 -- Assumes nothing.
 use Prim.Native.Nat.{ℕ}
