@@ -2,6 +2,7 @@
 --     TellOutcome, said    what is told, with the text's bytes
 --     tellOf               of the bytes that were read, and whether they are all of the book
 --     Fits                 a sheet's bytes stand in the text
+--     ReadInto             a book and the buffer that it was read into
 --     ToldWay              what is told of a book, by what it is
 -- The laws are in `Told/Laws.antt`. Assumes nothing.
 use Prim.Native.Nat.{ℕ, _≤_, _<_}
@@ -9,7 +10,9 @@ use mathlib.Core.Path.{_≡_}
 use mathlib.Core.Bool.{Bool, true, false, cond}
 use mathlib.Core.List.{List, _++_}
 use lib.Dec.{eqb}
-use lib.ListN.{length, drop}
+use lib.ListN.{length, take, drop}
+use Rattle.input.specs.declared.reading.Part.{Part}
+use Rattle.input.specs.Reading.{Parts}
 use Rattle.lot_book.specs.declared.entry.Lot.{Lot}
 use Rattle.lot_book.specs.Book.{lots, bad, bookOf, takenSum}
 use Rattle.sheet.specs.Sheet.{Outcome, given, refused, sheetText, sheetSize, sheetOf}
@@ -45,15 +48,26 @@ Fits (BadRecord i) text = Unit
 Fits TotalOver text = Unit
 Fits TooLong text = Unit
 
+-- ours: a part of the program's buffer holds the first bytes of a book, and all of them where it is the input's last.
+-- That a read does this no contract can say
+pub record ReadInto (book buffer : List ℕ) (part : Part) : Type 0 where
+  pub size : length buffer ≡ 65537
+  pub parts : Parts (length buffer) part
+  pub first : take (part .count) buffer ≡ take (part .count) book
+  pub whole : part .last ≡ true → length book ≡ part .count
+
 -- what is told of a book, by what it is
 pub data ToldWay (book text : List ℕ) : TellOutcome → Type 0 where
+  -- ours: a book has at most 65,536 bytes
+  toldLong : 65536 < length book → ToldWay book text (record { told = TooLong; text = text })
   -- "14 bad book, placed at the record's index"; "a refusal writes nothing"
-  toldBad : (i : ℕ) → bookOf book ≡ bad i → ToldWay book text (record { told = BadRecord i; text = text })
+  toldBad : (i : ℕ) → length book ≤ 65536 → bookOf book ≡ bad i
+      → ToldWay book text (record { told = BadRecord i; text = text })
   -- "15 total over 2^64-1"
-  toldOver : (rs : List Lot) → bookOf book ≡ lots rs → 18446744073709551615 < takenSum rs
+  toldOver : (rs : List Lot) → length book ≤ 65536 → bookOf book ≡ lots rs → 18446744073709551615 < takenSum rs
       → ToldWay book text (record { told = TotalOver; text = text })
   -- the sheet, from the beginning of the text
-  toldSheet : (rs : List Lot) → bookOf book ≡ lots rs → takenSum rs ≤ 18446744073709551615
+  toldSheet : (rs : List Lot) → length book ≤ 65536 → bookOf book ≡ lots rs → takenSum rs ≤ 18446744073709551615
       → ToldWay book text (record {
         told = Sheet (sheetSize rs);
         text = sheetText rs ++ drop (sheetSize rs) text;
