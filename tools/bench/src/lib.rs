@@ -6,9 +6,11 @@
 //     naive       the reference of tools/reference, as one of these
 //     inputs      tables with events to feed
 //     replay      whether a monitor answers as the reference, call by call
+//     clock       the processor time of a thread
 //     measure     events per second
 //     report      the table in Markdown
 
+pub mod clock;
 pub mod inputs;
 pub mod measure;
 pub mod monitor;

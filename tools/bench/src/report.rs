@@ -2,7 +2,7 @@
 //     run         what the program does with its arguments and these monitors
 
 use crate::inputs::{self, Input, Way};
-use crate::measure::{measured, Block};
+use crate::measure::{feed, measured, Block};
 use crate::monitor::Monitor;
 use crate::replay::replay;
 use reference::monitor::histories;
@@ -12,10 +12,13 @@ pub const HELP: &str = "\
 bench: events per second of monitors, side by side on the same inputs, as a table in Markdown
 
     bench [OPTION ..]
-        --input NAME      only the inputs whose names begin so; may be given again
+        --input NAME      only the input of that name, or where there is none, those whose names
+                          begin so; may be given again
         --block N         only calls of N events, or `long`; may be given again
-        --time N          milliseconds for each measurement (10)
+        --time N          milliseconds of processor time for each measurement (10)
         --rounds N        how many rounds, in which each monitor is measured once (25)
+    bench feed MONITOR N [OPTION ..]
+        Feeds a monitor N events or more of each input, in calls of so many; measures nothing.
     bench inputs
         Says what the inputs are.
     bench check
@@ -39,6 +42,11 @@ pub fn run(monitors: &[&dyn Monitor], args: &[String]) -> Result<(), String> {
         ["--help" | "-h", ..] => print!("{HELP}"),
         ["inputs"] => list_inputs(),
         ["check"] => check(monitors)?,
+        ["feed", name, events, options @ ..] => {
+            let monitor = monitors.iter().find(|monitor| monitor.name() == *name);
+            let monitor = monitor.ok_or(format!("`{name}` is no monitor"))?;
+            feed_all(*monitor, number("feed", events)?, &parse(options)?);
+        }
         options => table(monitors, &parse(options)?),
     }
     Ok(())
@@ -52,13 +60,12 @@ fn parse(mut args: &[&str]) -> Result<Options, String> {
         rounds: 25,
     };
     while let [name, value, rest @ ..] = args {
-        let number = || value.parse::<usize>().map_err(|_| format!("{name} {value}: no number"));
         match *name {
             "--input" => options.names.push(value.to_string()),
             "--block" if *value == "long" => options.blocks.push(Block::Long),
-            "--block" => options.blocks.push(Block::Of(number()?.max(1))),
-            "--time" => options.time = Duration::from_millis(number()? as u64),
-            "--rounds" => options.rounds = number()?.max(1),
+            "--block" => options.blocks.push(Block::Of(number(name, value)?)),
+            "--time" => options.time = Duration::from_millis(number(name, value)? as u64),
+            "--rounds" => options.rounds = number(name, value)?,
             _ => return Err(format!("`{name}` is not an option; see `bench --help`")),
         }
         args = rest;
@@ -70,6 +77,12 @@ fn parse(mut args: &[&str]) -> Result<Options, String> {
         options.blocks = vec![Block::Of(1), Block::Of(16), Block::Of(256), Block::Long];
     }
     Ok(options)
+}
+
+// 1 or more: nothing is measured in no time, no rounds and no events.
+fn number(name: &str, value: &str) -> Result<usize, String> {
+    let number = value.parse().ok().filter(|&number| number > 0);
+    number.ok_or(format!("{name} {value}: not a number from 1 on"))
 }
 
 fn list_inputs() {
@@ -103,30 +116,54 @@ fn table(monitors: &[&dyn Monitor], options: &Options) {
         }
     }
     println!("| {} |\n|{}|", head.join(" | "), rule.join("|"));
-    for input in inputs::all() {
-        let named = options.names.iter().any(|name| input.name.starts_with(name.as_str()));
-        if options.names.is_empty() || named {
-            rows(monitors, options, &input);
-        }
+    let mut left_out = Vec::new();
+    for input in chosen(options) {
+        left_out.extend(rows(monitors, options, &input));
+    }
+    if !left_out.is_empty() {
+        let (first, time) = (monitors[0].name(), options.time.as_millis());
+        println!("\nNot measured, since a call of {first} takes longer than {time} ms:");
+        println!("{}", left_out.join("; "));
     }
 }
 
-fn rows(monitors: &[&dyn Monitor], options: &Options, input: &Input) {
+fn chosen(options: &Options) -> Vec<Input> {
+    let all = inputs::all();
+    let names: Vec<&str> = all.iter().map(|input| input.name).collect();
+    let meant = |name: &str, input: &Input| match names.contains(&name) {
+        true => input.name == name,
+        false => input.name.starts_with(name),
+    };
+    let named = |input: &Input| options.names.iter().any(|name| meant(name, input));
+    all.into_iter().filter(|input| options.names.is_empty() || named(input)).collect()
+}
+
+// The column that says how many events a call has.
+fn in_a_call(input: &Input, block: Block) -> String {
+    match (&input.way, block) {
+        (Way::Fresh(events), _) => format!("{} (fresh)", events.len()),
+        (_, Block::Of(count)) => count.to_string(),
+        (_, Block::Long) => "long".to_string(),
+    }
+}
+
+// The rows of an input; those that are left out.
+fn rows(monitors: &[&dyn Monitor], options: &Options, input: &Input) -> Vec<String> {
+    let mut left_out = Vec::new();
     // the first monitor's rate in the row before
     let mut rate = f64::INFINITY;
-    for (i, &block) in options.blocks.iter().enumerate() {
-        let events = match (&input.way, block) {
-            (Way::Fresh(_), _) if i > 0 => continue,
+    for &block in blocks(options, input) {
+        let events = in_a_call(input, block);
+        match (&input.way, block) {
             // a call would take longer than the time: `long` says it
             (Way::Cycle { .. }, Block::Of(count))
                 if count as f64 > rate * options.time.as_secs_f64() =>
             {
-                continue
+                left_out.push(format!("{} {events}", input.name));
+                continue;
             }
-            (Way::Fresh(events), _) => format!("{} (fresh)", events.len()),
-            (_, Block::Of(count)) => count.to_string(),
-            (_, Block::Long) => "long".to_string(),
-        };
+            _ => {}
+        }
         let measured = measured(monitors, input, block, options.time, options.rounds);
         rate = measured[0].rate;
         let mut cells = vec![input.name.to_string(), events, grouped(rate)];
@@ -134,6 +171,25 @@ fn rows(monitors: &[&dyn Monitor], options: &Options, input: &Input) {
             cells.extend([grouped(monitor.rate), format!("{:.2}", monitor.times)]);
         }
         println!("| {} |", cells.join(" | "));
+    }
+    left_out
+}
+
+// An input whose calls are fresh has one row.
+fn blocks<'a>(options: &'a Options, input: &Input) -> &'a [Block] {
+    match input.way {
+        Way::Fresh(_) => &options.blocks[..1],
+        Way::Cycle { .. } => &options.blocks,
+    }
+}
+
+// A line for each row: how many events it was fed.
+fn feed_all(monitor: &dyn Monitor, events: usize, options: &Options) {
+    for input in chosen(options) {
+        for &block in blocks(options, &input) {
+            let fed = feed(monitor, &input, block, events);
+            println!("{}, {}: {fed} events", input.name, in_a_call(&input, block));
+        }
     }
 }
 
@@ -149,4 +205,27 @@ fn grouped(rate: f64) -> String {
         text.push(digit);
     }
     text
+}
+
+#[cfg(test)]
+mod tests {
+    use super::*;
+
+    #[test]
+    fn options_that_measure_nothing_are_refused() {
+        for option in [["--time", "0"], ["--rounds", "0"], ["--block", "0"], ["--time", "x"]] {
+            assert!(parse(&option).is_err(), "{option:?}");
+        }
+        assert!(parse(&["--time", "1", "--block", "long"]).is_ok());
+        assert!(parse(&["--time"]).is_err());
+    }
+
+    #[test]
+    fn an_input_is_named_whole_or_by_its_beginning() {
+        let count = |name| chosen(&parse(&["--input", name]).unwrap()).len();
+        assert!(
+            [count("eight lanes"), count("eight"), count("stress"), count("none")]
+                == [1, 2, 9, 0]
+        );
+    }
 }
