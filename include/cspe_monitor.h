@@ -11,8 +11,8 @@
  * none of them. The library allocates nothing and keeps nothing between calls, so calls on different buffers may run
  * at the same time.
  *
- * Stack. 44 KiB were measured on most tables, and 51 KiB where the ways through choices, calls and parallels are long
- * (tools/stack). No proof bounds it; a thread with 96 KiB has room.
+ * Stack. 42 KiB were measured on most tables, and 58 KiB where eight leaves of a residual move together and each has
+ * several results (tools/stack). No proof bounds it; a thread with 96 KiB has room.
  *
  * What is returned. Each function but cspe_view returns the refusal's number, 0 where there is none (enum
  * cspe_refusal). One more word is written through the last pointer on every call: the result, the

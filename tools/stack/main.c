@@ -18,6 +18,7 @@ static uint16_t list[CSPE_NUMBERS];
 static size_t length;
 static uint64_t record[CSPE_RECORD_WORDS];
 static uint64_t area0[CSPE_AREA_WORDS_MOST], area1[CSPE_AREA_WORDS_MOST], work[CSPE_WORK_WORDS];
+static uint64_t further_record[CSPE_RECORD_WORDS], further0[CSPE_AREA_WORDS_MOST], further1[CSPE_AREA_WORDS_MOST];
 static uint8_t events[1] = {0};
 static uint32_t said;
 static uint64_t word;
@@ -47,8 +48,11 @@ static void head(int definitions, int chains, int deep) {
     }
 }
 
-/* The last definition, of level 1: `leaves` prefixes in parallel over {0}, each before two of the longest chains, in parallel
-   over {}, with STOP as another choice where `several`. */
+/*
+ * The last definition, of level 1: `leaves` prefixes in parallel over {0}, each before two of the longest chains, in
+ * parallel over {}, with STOP as another choice where `several`. Eight leaves are all that a residual may have, so of
+ * eight each is before one chain.
+ */
 static void deep_feed(int leaves, int several) {
     head(32, 31, 15);
     put(1);
@@ -58,7 +62,9 @@ static void deep_feed(int leaves, int several) {
         put(2), put(0);
         if (several)
             put(3), put(0);
-        put(4), put(1), put(5), put(30), put(5), put(30);
+        if (leaves < 8)
+            put(4), put(1), put(5), put(30);
+        put(5), put(30);
     }
 }
 
@@ -73,6 +79,14 @@ static void *feed(void *unused) {
     (void)unused;
     said = cspe_feed(list, length, record, CSPE_RECORD_WORDS, area0, CSPE_AREA_WORDS_MOST, area1, CSPE_AREA_WORDS_MOST,
                      events, 1, work, CSPE_WORK_WORDS, &word);
+    return NULL;
+}
+
+static void *try_feed(void *unused) {
+    (void)unused;
+    said = cspe_try(list, length, record, CSPE_RECORD_WORDS, area0, CSPE_AREA_WORDS_MOST, area1, CSPE_AREA_WORDS_MOST,
+                    further_record, CSPE_RECORD_WORDS, further0, CSPE_AREA_WORDS_MOST, further1, CSPE_AREA_WORDS_MOST,
+                    events, 1, work, CSPE_WORK_WORDS, &word);
     return NULL;
 }
 
@@ -117,7 +131,7 @@ int main(void) {
     show("feed, one prefix", feed, base);
     show("offer, one prefix", offer, base);
     for (int several = 0; several < 2; several++) {
-        for (int leaves = 1; leaves <= 4; leaves *= 2) {
+        for (int leaves = 1; leaves <= 8; leaves *= 2) {
             char what[64];
             deep_feed(leaves, several);
             start(NULL);
@@ -125,5 +139,7 @@ int main(void) {
             show(what, feed, base);
         }
     }
+    start(NULL);
+    show("try, 8 leaves, several results", try_feed, base);
     return 0;
 }
