@@ -1,21 +1,27 @@
 -- The rules give what the figures ask of a table (01, "References"): its bodies are guarded and scoped.
---     rules-guarded    a call with no prefix around it names a lower definition number, any other an existing one
+--     guarded-table    a call with no prefix around it names a lower definition number, any other an existing one:
+--                      where 7 is not met;  rules-guarded: of a table that meets the rules
+--     number-formed    so the term of a number is well formed
 --     rules-scoped     each parameter is one of the prefixes around, and at most 3
 --     last-exists, body-formed    there is a last definition; bodies are well formed
 -- Assumes nothing.
-use Prim.Native.Nat.{ℕ, zero, suc, _<_}
+use Prim.Native.Nat.{ℕ, zero, suc, _≤_, _<_}
 use native.Mathlib.Omega.{arith}
 use mathlib.Core.List.{List, [], _∷_}
 use mathlib.Core.Path.{_≡_, refl}
+use mathlib.Core.Option.{none}
 use lib.ListN.{length, getD}
 use Rattle.numbers.specs.Every.{All, from-at}
 use Rattle.table.specs.Table.{SetRef, fixed, family, Term, stop, fail, prefix, choice, par, call}
 use Rattle.table.specs.Table.{Definition, Table, bodyOf}
 use Rattle.table.specs.Context.{Context, outermost, underPrefix, underParallel, Enclosed, Throughout, Each}
 use Rattle.table.specs.Fields.{OfRef, ParamSmall}
+use Rattle.table.specs.Part.{Part, here, follower, choice-left, choice-right, par-left, par-right, Stands}
+use Rattle.table.specs.Part.Numbers.{number-home}
+use Rattle.table.specs.References.{firstWrong}
 use Rattle.table.specs.References.Laws.{Linked, BodyLinked}
 use Rattle.table.specs.Rules.{Rules}
-use Rattle.table.specs.Rules.Laws.{linked}
+use Rattle.table.specs.Rules.Laws.{links-out, no-wrong}
 use Rattle.meaning.specs.Figure1.{plain, body, bodyCount, last, Guarded, WellFormed, GuardedTable}
 use Rattle.meaning.specs.Closing.{ScopedRef, Scoped}
 use Rattle.meaning.specs.Theorem3.{guarded-more}
@@ -68,25 +74,50 @@ all-at X z [] i h b = absurd (omega arith)
 all-at X z (x ∷ xs) zero h b = h .0
 all-at X z (x ∷ xs) (suc i) h b = all-at X z xs i (h .1) (omega arith)
 
-module _ (t : Table) (rules : Rules t) where
-  abbrev At : ℕ → Definition
-  At d = getD (t .definitions) d (record { level = 0; body = fail })
+-- ---- where 7 is not met
 
-  body-linked : (d : ℕ) → d < length (t .definitions) → BodyLinked (t .definitions) d (At d)
+abbrev At : Table → ℕ → Definition
+At t d = getD (t .definitions) d (record { level = 0; body = fail })
+
+module _ (t : Table) (w : firstWrong t ≡ none) where
+  body-linked : (d : ℕ) → d < length (t .definitions) → BodyLinked (t .definitions) d (At t d)
   body-linked d b =
-      from-at (BodyLinked (t .definitions)) _ 0 (t .definitions) (linked t rules) d d (omega arith) b
+      from-at (BodyLinked (t .definitions)) _ 0 (t .definitions) (links-out t w) d d (omega arith) b
 
-  pub rules-guarded : GuardedTable t
+  pub guarded-table : GuardedTable t
   unfolding bodyCount body bodyOf
-  rules-guarded = record {
+  guarded-table = record {
     bodies = λ d b.
-        outer-guarded (t .definitions) (At d .level) d outermost (At d .body) refl (body-linked d b);
+        outer-guarded (t .definitions) (At t d .level) d outermost (At t d .body) refl (body-linked d b);
   }
+
+part-guarded : (n d : ℕ) → d ≤ n → {p x : Term} {c k : ℕ} → Part p c k x → Guarded n d (plain p)
+    → Guarded n n (plain x)
+unfolding plain
+part-guarded n d l (here {p = p}) g = guarded-more n d n l (plain p) g
+part-guarded n d l (follower k) g = part-guarded n n (omega arith) k g
+part-guarded n d l (choice-left k) g = part-guarded n d l k (g .0)
+part-guarded n d l (choice-right k) g = part-guarded n d l k (g .1)
+part-guarded n d l (par-left k) g = part-guarded n d l k (g .0)
+part-guarded n d l (par-right k) g = part-guarded n d l k (g .1)
+
+pub number-formed : (t : Table) → GuardedTable t → {h c n : ℕ} {x : Term} → Stands (t .definitions) h c n x
+    → WellFormed t (plain x)
+unfolding bodyCount body
+number-formed t guarded {h} s =
+    let (l, (k, p)) = number-home t s in
+    part-guarded (bodyCount t) h (omega arith) p (guarded .bodies h l)
+
+-- ---- of a table that meets the rules
+
+module _ (t : Table) (rules : Rules t) where
+  pub rules-guarded : GuardedTable t
+  rules-guarded = guarded-table t (no-wrong t rules)
 
   pub rules-scoped : (d : ℕ) → d < bodyCount t → Scoped 0 (bodyOf t d)
   unfolding bodyCount bodyOf
   rules-scoped d b =
-      term-scoped (t .definitions) (At d .level) d outermost (At d .body) (body-linked d b)
+      term-scoped (t .definitions) (At t d .level) d outermost (At t d .body) (body-linked t (no-wrong t rules) d b)
       (all-at (λ x. Each (OfRef ParamSmall) (x .body)) _ (t .definitions) d (rules .fields .parameters) b)
 
   -- "number of definitions, 1 to 32"

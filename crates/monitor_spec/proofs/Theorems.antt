@@ -8,19 +8,15 @@ use mathlib.Core.Option.{some}
 use Rattle.table.specs.Table.{Table}
 use Rattle.table.specs.Judge.{accepted, judgeList}
 use Rattle.table.specs.Judge.Laws.{list-out}
-use Rattle.table.specs.Part.Numbers.{number-at, around-number}
+use Rattle.table.specs.Part.Numbers.{number-at}
 use Rattle.monitor_spec.specs.Regular.{Regular}
 use Rattle.monitor_spec.specs.Regular.Laws.{regular}
 use Rattle.monitor_spec.specs.Residual.Traces.{traces-run, traces-definition}
-use Rattle.numbers.specs.Every.{all-imp}
-use Rattle.table.specs.Width.{reach}
-use Rattle.residuals.specs.Residual.{Residual, resolve, residualsOf}
-use Rattle.monitor_spec.specs.Residual.Calls.{resolveDef-body}
-use Rattle.monitor_spec.specs.Residual.Counts.{resolve-length, residuals-few}
-use Rattle.residuals.specs.Slots.Canonical.{slots-sorted, in-slots, slots-few}
-use Rattle.monitor_spec.specs.Valid.{reachSum, slotResidual, validSlot}
-use Rattle.monitor_spec.specs.Proper.{Kept}
-use Rattle.monitor_spec.specs.Proper.Laws.{resolve-kept}
+use Rattle.residuals.specs.Residual.{Residual, residualsOf}
+use Rattle.residuals.specs.Residual.Counts.{residuals-few}
+use Rattle.residuals.specs.Slots.Canonical.{slots-few}
+use Rattle.monitor_spec.specs.Valid.{slotResidual, validSlot}
+use Rattle.monitor_spec.specs.Proper.Laws.{resolve-reach}
 use Rattle.monitor_spec.specs.Valid.Laws.{valid-proper, proper-valid}
 use Rattle.monitor_spec.specs.Valid.Residuals.{read-back}
 use Rattle.monitor_spec.specs.State.{Monitor, areasMeasured, workMeasured, slotCount, laid}
@@ -38,9 +34,8 @@ use Rattle.monitor_spec.specs.History.Laws.{fed-joined}
 use Rattle.monitor_spec.specs.Try.{tryOf}
 use Rattle.monitor_spec.specs.Tried.{tried}
 use Rattle.monitor_spec.specs.History.Begun.{start-never}
-use Rattle.monitor_spec.specs.Claims.{ResidualsAreTraces, DefinitionsAreTraces, LastIsTraces, ResolvesBranches}
-use Rattle.monitor_spec.specs.Claims.{CallsResolve, ResolvesReach}
-use Rattle.monitor_spec.specs.Claims.{SlotsTell, SlotsOnce, ValidExactly, ConsistentExactly}
+use Rattle.monitor_spec.specs.Claims.{ResidualsAreTraces, DefinitionsAreTraces, LastIsTraces, ResolvesReach}
+use Rattle.monitor_spec.specs.Claims.{SlotsTell, ValidExactly, ConsistentExactly}
 use Rattle.monitor_spec.specs.Claims.{StartRefusedExactly, StartGives, StartAnswers, StartBuffers, StartExceeds}
 use Rattle.monitor_spec.specs.Claims.{FeedRefusedExactly, FeedStopsExactly, FeedGivesExactly, FeedBuffers}
 use Rattle.monitor_spec.specs.Claims.{StartFits, FeedPeaks, OfferRefusedExactly, OfferBits, OfferBuffers, ViewsPart}
@@ -79,10 +74,6 @@ pub last-is-traces : LastIsTraces
 unfolding LastIsTraces
 last-is-traces t rules H model s = held-some t (regular t rules) H model s
 
-pub calls-resolve : CallsResolve
-unfolding CallsResolve
-calls-resolve t rules d h = resolveDef-body t (regular t rules) d h
-
 pub slots-tell : SlotsTell
 unfolding SlotsTell
 slots-tell t rules r q x y e =
@@ -91,10 +82,6 @@ slots-tell t rules r q x y e =
   where
     some-same : (u v : Residual) → some u ≡ some v → u ≡ v
     some-same u v p = cc
-
-pub slots-once : SlotsOnce
-unfolding SlotsOnce
-slots-once rs = (slots-sorted rs, λ s. in-slots s rs)
 
 pub valid-exactly : ValidExactly
 unfolding ValidExactly
@@ -112,16 +99,9 @@ consistent-exactly t rules m a =
       λ l. true-T (consistent t m) (laid-still t reg (slotCount (m .area0)) m l),
     )
 
-pub resolves-branches : ResolvesBranches
-unfolding ResolvesBranches
-resolves-branches t rules n m p e = resolve-length t rules m (number-at t n p e .stands)
-
 pub resolves-reach : ResolvesReach
 unfolding ResolvesReach
-resolves-reach t rules n m p e f =
-    let s = number-at t n p e .stands in
-    all-imp (Kept t (reach t p)) (λ r. reachSum t r ≤ reach t p) (λ r h. h .1) (resolve t n m)
-    (resolve-kept t (regular t rules) n m p s (rw (← around-number t s) f))
+resolves-reach t rules n m p e = resolve-reach t (regular t rules) n m p (number-at t n p e .stands)
 
 pub start-fits : StartFits
 unfolding StartFits residualCount

@@ -2,10 +2,9 @@
 -- same names.
 --     ResidualsAreTraces      of every list of residual trees
 --     DefinitionsAreTraces    from every definition;  LastIsTraces: from the last
---     CallsResolve            a call resolves to what the body does
---     ResolvesBranches        resolving lists as many residuals as the term has branches;  StartFits: 256 at Start
---     ResolvesReach           its leaves together have at most the reach of the term
---     SlotsTell               a slot tells its residual;  SlotsOnce: slots ascend, each once
+--     StartFits               at most 256 residuals at Start
+--     ResolvesReach           the leaves of a term's residual together have at most the reach of the term
+--     SlotsTell               a slot tells its residual
 --     ValidExactly            the valid slots are those of proper residuals
 --     ConsistentExactly       the consistent monitors are those laid out of proper residuals
 --     StartRefusedExactly, StartGives, StartAnswers           demand 1, on every input: Start
@@ -33,10 +32,9 @@ use mathlib.Core.Logic.{_↔_}
 use lib.ListN.{length}
 use lib.Dec.{T}
 use Rattle.table.specs.Table
-use Rattle.table.specs.Table.{Table, termAt, enclosing, bodyNumber}
-use Rattle.table.specs.Memory.{Memory, noMemory}
+use Rattle.table.specs.Table.{Table, termAt}
+use Rattle.table.specs.Memory.{Memory}
 use Rattle.table.specs.Width.{reach}
-use Rattle.table.specs.Branches.{branches}
 use Rattle.table.specs.Rules.{Rules}
 use Rattle.table.specs.Judge.{accepted, judgeList}
 use Rattle.table.specs.Operations.{zeros}
@@ -44,8 +42,8 @@ use Rattle.numbers.specs.Every.{All}
 use Rattle.meaning.specs.Some.{Any}
 use Rattle.meaning.specs.Figure1.{Term, call, bodyCount}
 use Rattle.meaning.specs.Figure2.{TraceSet, Model}
-use Rattle.residuals.specs.Residual.{Residual, resolveDef, resolve, run, fromDefinition, residualsOf}
-use Rattle.residuals.specs.Slots.{slotOf, slotsOf, Sorted}
+use Rattle.residuals.specs.Residual.{Residual, resolve, run, fromDefinition, residualsOf}
+use Rattle.residuals.specs.Slots.{slotOf, slotsOf}
 use Rattle.monitor_spec.specs.Valid.{reachSum, validSlot}
 use Rattle.monitor_spec.specs.State.{State, Monitor, refused, stopped, areasMeasured, workMeasured, slotCount}
 use Rattle.monitor_spec.specs.Consistent.{consistent}
@@ -57,7 +55,7 @@ use Rattle.monitor_spec.specs.View.{viewPart, viewOf}
 use Rattle.monitor_spec.specs.Try.{tryOf}
 use Rattle.monitor_spec.specs.Joined.{Call, residualCount, joined}
 use Rattle.monitor_spec.specs.Meaning.{denote, Sound, Some}
-use Rattle.monitor_spec.specs.Proper.{Remembers, Proper}
+use Rattle.monitor_spec.specs.Proper.{Proper}
 use Rattle.monitor_spec.specs.Sensible.{Laid}
 use Rattle.monitor_spec.specs.Expected.{monitorOnward}
 use Rattle.monitor_spec.specs.Refusals.{StartRefused, Starts, CallRefused, Offers, WorkLeft}
@@ -90,23 +88,11 @@ LastIsTraces =
     (t : Table) → Rules t → (H : Term → TraceSet) → Model t H → (s : List ℕ)
     → H (start t) s ↔ Some (residualsOf t s)
 
--- 01, "Residuals": "call the settled body", "Memory is .. all 0 at a body's start"
-unfoldable pub CallsResolve : Type 0
-CallsResolve =
-    (t : Table) → Rules t → (d : ℕ) → d < bodyCount t
-    → resolveDef t (bodyCount t) d ≡ resolve t (bodyNumber t d) noMemory
-
--- ours; 01, "Openings": resolving lists as many residuals as the term has branches
-unfoldable pub ResolvesBranches : Type 0
-ResolvesBranches =
-    (t : Table) → Rules t → (n : ℕ) (m : Memory) (p : Table.Term) → termAt t n ≡ some p
-    → length (resolve t n m) ≡ branches t p
-
 -- ours; 01, "Hands of a term": the leaves of a residual together have at most the reach of its term
 unfoldable pub ResolvesReach : Type 0
 ResolvesReach =
     (t : Table) → Rules t → (n : ℕ) (m : Memory) (p : Table.Term) → termAt t n ≡ some p
-    → Remembers (t .alphabet) (enclosing t n) m → All (λ r. reachSum t r ≤ reach t p) (resolve t n m)
+    → All (λ r. reachSum t r ≤ reach t p) (resolve t n m)
 
 -- 01, "Openings": "Each body .. has at most 256": with 256 slots Start is never refused with 13
 unfoldable pub StartFits : Type 0
@@ -115,12 +101,6 @@ StartFits = (t : Table) → Rules t → residualCount t [] ≤ 256
 -- 01, "Residuals": "Two residuals are equal when their words are."
 unfoldable pub SlotsTell : Type 0
 SlotsTell = (t : Table) → Rules t → (r q : Residual) → Proper t r → Proper t q → slotOf r ≡ slotOf q → r ≡ q
-
--- 01, "Residuals": "A residual already held is not held twice. An area holds slots ascending by first differing word"
-unfoldable pub SlotsOnce : Type 0
-SlotsOnce =
-    (rs : List Residual)
-    → Sorted (slotsOf rs) × ((s : List ℕ) → Any (λ x. s ≡ x) (slotsOf rs) ↔ Any (λ r. s ≡ slotOf r) rs)
 
 -- 01, "Disturbed": "A valid slot is one whole residual tree .."
 unfoldable pub ValidExactly : Type 0

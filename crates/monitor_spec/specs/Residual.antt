@@ -1,8 +1,5 @@
 -- Laws of residuals that need what terms mean: `Resolve` and `After` (what they stand for), `Traces` (they are the trace
--- sets), `Calls` ("call the settled body"), `Counts` (how many there are). The residuals are defined in crate residuals.
--- Assumes nothing.
+-- sets). The residuals are defined in crate residuals. Assumes nothing.
 pub mod Resolve
 pub mod After
 pub mod Traces
-pub mod Calls
-pub mod Counts

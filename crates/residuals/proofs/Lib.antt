@@ -1,2 +1,3 @@
--- The worked examples of `specs/Examples.antt` hold. Assumes nothing.
+-- The proofs of the claims, and that the worked examples of `specs/Examples.antt` hold. Assumes nothing.
+pub mod Theorems
 pub mod Rows

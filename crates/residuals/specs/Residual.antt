@@ -3,8 +3,8 @@
 --     resolveIn, resolveDef, resolve a term; a definition's body; the term of a number
 --     after, afterAll, run           a residual, a list of residuals after an event; after a list of events
 --     fromDefinition, residualsOf    the residuals of a list of events: from a definition, from the last one
--- A list may have a residual twice: `Slots.antt` holds each once. What they stand for is in crate monitor_spec. Assumes
--- nothing.
+-- A list may have a residual twice: `Slots.antt` holds each once. The laws are in `Residual/`: `Calls` ("call the
+-- settled body"), `Counts` (how many there are). What residuals stand for is in crate monitor_spec. Assumes nothing.
 use Prim.Native.Nat.{ℕ, zero, suc, _+_}
 use mathlib.Core.Bool.{true, false}
 use mathlib.Core.List.{List, [], _∷_, _++_, map, flatMap}
@@ -14,6 +14,8 @@ use Rattle.table.specs.Memory.{Memory, noMemory, remember}
 use Rattle.table.specs.Member.{member}
 use Rattle.meaning.specs.Figure1.{bodyCount, last}
 use Rattle.residuals.specs.Keep.{keep}
+pub mod Calls
+pub mod Counts
 
 -- "STOP and a prefix give themselves with their memory"; "parallel itself, with its memory, over every pair"
 pub data Residual : Type 0 where

@@ -8,14 +8,16 @@ use Prim.Native.Nat.{ℕ, zero, suc, _+_, _<_, _≤_}
 use native.Mathlib.Omega.{arith}
 use mathlib.Core.Path.{_≡_, refl, ap}
 use mathlib.Core.List.{List, [], _∷_}
+use mathlib.Core.Option.{none}
 use lib.ListN.{length}
 use Rattle.numbers.specs.Every.{All, AllFrom, all-imp, from-at}
 use Rattle.table.specs.Table.{Term, stop, fail, prefix, choice, par, call, Definition, Table, termCount}
 use Rattle.table.specs.Context.{Context, outermost, underPrefix, underParallel, Throughout, Each, Followers}
 use Rattle.table.specs.Fields.{OfCall, depthOf}
 use Rattle.table.specs.Branches.{branches, bodyIn}
-use Rattle.table.specs.Equations.{branches-guarded}
+use Rattle.table.specs.References.{firstWrong}
 use Rattle.table.specs.Rules.{Rules}
+use Rattle.table.specs.Rules.Laws.{no-wrong}
 use Rattle.table.specs.Node.{Node, termOf, kindOf}
 use Rattle.table.specs.Node.Parts.{size-positive}
 use Rattle.table.specs.Node.Laws.{follower-node, each-node}
@@ -35,6 +37,8 @@ Below b (call d) = d < b
 
 pub record Lawful (t : Table) : Type 0 where
   pub few : termCount t ≤ 1024
+  -- 7 is not met
+  pub references : firstWrong t ≡ none
   pub events-least : 1 ≤ t .alphabet
   pub events-most : t .alphabet ≤ 64
   pub named : (n : ℕ) → n < termCount t → Below (length (t .definitions)) (termOf t n)
@@ -42,8 +46,6 @@ pub record Lawful (t : Table) : Type 0 where
   pub shallow : (n : ℕ) → n < termCount t → depthOf (termOf t n) ≤ 32
   pub bodies : (d : ℕ) → d < length (t .definitions) → branches t (bodyIn (t .definitions) d) ≤ 256
   pub followers : (n : ℕ) → n < termCount t → kindOf (termOf t n) ≡ 2 → branches t (termOf t (n + 1)) ≤ 256
-  -- "the openings of a call are those of the definition called"
-  pub called : (d : ℕ) → d < length (t .definitions) → branches t (call d) ≡ branches t (bodyIn (t .definitions) d)
 
 -- ---- calls
 
@@ -159,6 +161,7 @@ lawful-rules t r =
     let few : Term → Type 0 = λ p. branches t p ≤ 256 in
     record {
       few = r .fields .terms-most;
+      references = no-wrong t r;
       events-least = r .fields .alphabet-least;
       events-most = r .fields .alphabet-most;
       named = λ n h. each-node (Below (length ds)) t (named-all (length ds) 0 ds (r .calls-exist)) n h;
@@ -171,7 +174,6 @@ lawful-rules t r =
           (each-node (OfFollower few) t
           (all-imp (λ d. Followers few (d .body)) (λ d. Each (OfFollower few) (d .body))
           (λ d. followers-each few (d .body)) ds (r .branches-followers)) n h) k .keeps;
-      called = branches-guarded t (r .calls-guarded);
     }
 
 pub event-small : {t : Table} {e : ℕ} → Lawful t → e < t .alphabet → e < digitBound

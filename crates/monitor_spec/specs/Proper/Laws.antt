@@ -6,6 +6,7 @@ use mathlib.Core.Path.{_≡_, refl, _∙_}
 use mathlib.Core.Bool.{Bool, true, false}
 use mathlib.Core.List.{List, [], _∷_, _++_, map}
 use mathlib.Core.Option.{some}
+use mathlib.Core.Logic.{inl, inr}
 use Rattle.table.specs.Table.{Table, Term, stop, fail, prefix, choice, par, call, size, termAt, bodyOf, bodyNumber}
 use Rattle.table.specs.Table.{enclosing}
 use Rattle.meaning.specs.Figure1.{bodyCount, last}
@@ -22,10 +23,12 @@ use Rattle.table.specs.References.{levelIn}
 use Rattle.table.specs.Width.{widthWith, levelWidth, reach}
 use Rattle.monitor_spec.specs.Regular.{Regular}
 use Rattle.residuals.specs.Keep.{keep}
+use Rattle.residuals.specs.Keep.Laws.{keep-digit}
 use Rattle.residuals.specs.Residual.{Residual, leaf, pair, pairs, resolveIn, resolveDef, resolve, afterLeaf}
 use Rattle.residuals.specs.Residual.{afterPair, after, afterAll, run, fromDefinition, residualsOf}
 use Rattle.monitor_spec.specs.Meaning.{Sound}
-use Rattle.monitor_spec.specs.Residual.Resolve.{resolve-at, resolveDef-sound}
+use Rattle.residuals.specs.Residual.Calls.{resolve-at}
+use Rattle.monitor_spec.specs.Residual.Resolve.{resolveDef-sound}
 use Rattle.monitor_spec.specs.Residual.After.{after-leaf-at, after-pair-at, after-sound}
 use Rattle.monitor_spec.specs.Valid.{reachAt, reachSum}
 use Rattle.monitor_spec.specs.Proper.{Remembers, Fits, Kept, Proper}
@@ -50,6 +53,14 @@ digit-none (suc (suc (suc i))) = refl
 none-remembers : (a c : ℕ) → 1 ≤ a → Remembers a c noMemory
 none-remembers a c h i l = let e = digit-none i in (omega arith, λ k. e)
 
+-- a node keeps events of the memory, or 0
+keep-remembers : (a c : ℕ) (p : Term) (m : Memory) → Remembers a c m → Remembers a c (keep p m)
+keep-remembers a c p m f i l =
+    elim (keep-digit p m i) [
+      | inl e ↦ let g = f i l in (omega (arith, g .0), λ k. e ∙ g .1 k)
+      | inr e ↦ let g = f i l in (omega (arith, g .0), λ k. e)
+    ]
+
 remember-remembers : (a c e : ℕ) (m : Memory) → e < a → Remembers a c m → Remembers a (suc c) (remember e m)
 remember-remembers a c e m h f zero l = let k = digit-first e m in (omega arith, λ j. absurd (omega arith))
 remember-remembers a c e m h f (suc i) l =
@@ -62,76 +73,126 @@ module _ (t : Table) where
   unfolding reachAt
   reachAt-at n x e = rw (e, reachAt)
 
+  -- ---- the reach of leaves
+
+  abbrev Within : ℕ → Residual → Type 0
+  Within k r = reachSum t r ≤ k
+
+  within-more : (j k : ℕ) → j ≤ k → (rs : List Residual) → All (Within j) rs → All (Within k) rs
+  within-more j k h rs a = all-imp (Within j) (Within k) (λ r x. omega arith) rs a
+
+  leaf-within : (n : ℕ) (x : Term) (m : Memory) → termAt t n ≡ some x → Within (reach t x) (leaf n m)
+  unfolding reachSum
+  leaf-within n x m h = let e = reachAt-at n x h in omega arith
+
+  pair-within : (n : ℕ) (m : Memory) (j k : ℕ) (l r : Residual) → Within j l → Within k r → Within (j + k) (pair n m l r)
+  unfolding reachSum
+  pair-within n m j k l r a b = omega arith
+
+  resolveIn-reach : (f : ℕ → List Residual)
+      → ((d : ℕ) → All (Within (levelWidth t (levelIn (t .definitions) d))) (f d))
+      → (p : Term) (m : Memory) {h c n : ℕ} → Stands (t .definitions) h c n p
+      → All (Within (reach t p)) (resolveIn f p n m)
+  unfolding resolveIn reach widthWith
+  resolveIn-reach f k stop m {n = n} s = (leaf-within n stop (keep stop m) (at-number t s), tt)
+  resolveIn-reach f k fail m s = tt
+  resolveIn-reach f k (prefix r p) m {n = n} s =
+      (leaf-within n (prefix r p) (keep (prefix r p) m) (at-number t s), tt)
+  resolveIn-reach f k (choice p q) m {n = n} s =
+      all-append
+      (Within (max (reach t p) (reach t q)))
+      (resolveIn f p (suc n) m)
+      (resolveIn f q (suc (size p + n)) m)
+      (within-more (reach t p) (max (reach t p) (reach t q)) (omega arith) (resolveIn f p (suc n) m)
+      (resolveIn-reach f k p m (choice-left-stands s)))
+      (within-more (reach t q) (max (reach t p) (reach t q)) (omega arith) (resolveIn f q (suc (size p + n)) m)
+      (resolveIn-reach f k q m (choice-right-stands s)))
+  resolveIn-reach f k (par r p q) m {n = n} s =
+      all-pairs
+      n
+      (keep (par r p q) m)
+      (Within (reach t p))
+      (Within (reach t q))
+      (Within (reach t p + reach t q))
+      (pair-within n (keep (par r p q) m) (reach t p) (reach t q))
+      (resolveIn f p (suc n) m)
+      (resolveIn f q (suc (size p + n)) m)
+      (resolveIn-reach f k p m (par-left-stands s))
+      (resolveIn-reach f k q m (par-right-stands s))
+  resolveIn-reach f k (call d) m s = k d
+
+  -- ---- the memories of nodes
+
+  resolveIn-fits : (f : ℕ → List Residual) → ((d : ℕ) → All (Fits t) (f d))
+      → (p : Term) (m : Memory) {h c n : ℕ} → Stands (t .definitions) h c n p → Remembers (t .alphabet) c m
+      → All (Fits t) (resolveIn f p n m)
+  unfolding resolveIn
+  resolveIn-fits f k stop m s g = (rw (around-number t s) (keep-remembers (t .alphabet) _ stop m g), tt)
+  resolveIn-fits f k fail m s g = tt
+  resolveIn-fits f k (prefix r p) m s g = (rw (around-number t s) (keep-remembers (t .alphabet) _ (prefix r p) m g), tt)
+  resolveIn-fits f k (choice p q) m {n = n} s g =
+      all-append (Fits t) (resolveIn f p (suc n) m) (resolveIn f q (suc (size p + n)) m)
+      (resolveIn-fits f k p m (choice-left-stands s) g) (resolveIn-fits f k q m (choice-right-stands s) g)
+  resolveIn-fits f k (par r p q) m {n = n} s g =
+      all-pairs n (keep (par r p q) m) (Fits t) (Fits t) (Fits t)
+      (λ x y a b. (rw (around-number t s) (keep-remembers (t .alphabet) _ (par r p q) m g), a, b))
+      (resolveIn f p (suc n) m) (resolveIn f q (suc (size p + n)) m)
+      (resolveIn-fits f k p m (par-left-stands s) g) (resolveIn-fits f k q m (par-right-stands s) g)
+  resolveIn-fits f k (call d) m s g = k d
+
+  -- a body that is not there is FAIL
+  by-body : (X : List Residual → Type 0) → X [] → (f : ℕ → List Residual) (d : ℕ)
+      → (d < bodyCount t → X (resolveIn f (bodyOf t d) (bodyNumber t d) noMemory))
+      → X (resolveIn f (bodyOf t d) (bodyNumber t d) noMemory)
+  unfolding bodyCount resolveIn
+  by-body X z f d h = by (decLt d (bodyCount t))
+    where
+      by : Dec (d < bodyCount t) → X (resolveIn f (bodyOf t d) (bodyNumber t d) noMemory)
+      by (yes l) = h l
+      by (no l) = let e : bodyOf t d ≡ fail = body-beyond t d (omega arith) in rw e z
+
+  -- ---- both
+
   kept-more : (j k : ℕ) → j ≤ k → (rs : List Residual) → All (Kept t j) rs → All (Kept t k) rs
   kept-more j k h rs a = all-imp (Kept t j) (Kept t k) (λ r x. let y = x .1 in (x .0, omega arith)) rs a
 
-  leaf-kept : {h c n : ℕ} {x : Term} (m : Memory) → Stands (t .definitions) h c n x → Remembers (t .alphabet) c m
-      → Kept t (reach t x) (leaf n m)
-  unfolding reachSum
-  leaf-kept {n = n} {x = x} m s f = let e = reachAt-at n x (at-number t s) in (rw (around-number t s) f, omega arith)
-
   pair-kept : {h c n : ℕ} {x : Term} (m : Memory) → Stands (t .definitions) h c n x → Remembers (t .alphabet) c m
       → (j k : ℕ) (l r : Residual) → Kept t j l → Kept t k r → Kept t (j + k) (pair n m l r)
-  unfolding reachSum
-  pair-kept m s f j k l r a b = let x = a .1 in let y = b .1 in ((rw (around-number t s) f, a .0, b .0), omega arith)
-
-  resolveIn-kept : (f : ℕ → List Residual)
-      → ((d : ℕ) → All (Kept t (levelWidth t (levelIn (t .definitions) d))) (f d))
-      → (p : Term) (m : Memory) {h c n : ℕ} → Stands (t .definitions) h c n p → Remembers (t .alphabet) c m
-      → All (Kept t (reach t p)) (resolveIn f p n m)
-  unfolding resolveIn reach widthWith keep
-  resolveIn-kept f k stop m s g = (leaf-kept m s g, tt)
-  resolveIn-kept f k fail m s g = tt
-  resolveIn-kept f k (prefix r p) m s g = (leaf-kept m s g, tt)
-  resolveIn-kept f k (choice p q) m {n = n} s g =
-      all-append
-      (Kept t (max (reach t p) (reach t q)))
-      (resolveIn f p (suc n) m)
-      (resolveIn f q (suc (size p + n)) m)
-      (kept-more (reach t p) (max (reach t p) (reach t q)) (omega arith) (resolveIn f p (suc n) m)
-      (resolveIn-kept f k p m (choice-left-stands s) g))
-      (kept-more (reach t q) (max (reach t p) (reach t q)) (omega arith) (resolveIn f q (suc (size p + n)) m)
-      (resolveIn-kept f k q m (choice-right-stands s) g))
-  resolveIn-kept f k (par r p q) m {n = n} s g =
-      all-pairs
-      n
-      m
-      (Kept t (reach t p))
-      (Kept t (reach t q))
-      (Kept t (reach t p + reach t q))
-      (pair-kept m s g (reach t p) (reach t q))
-      (resolveIn f p (suc n) m)
-      (resolveIn f q (suc (size p + n)) m)
-      (resolveIn-kept f k p m (par-left-stands s) g)
-      (resolveIn-kept f k q m (par-right-stands s) g)
-  resolveIn-kept f k (call d) m s g = k d
+  pair-kept {n = n} m s f j k l r a b =
+      ((rw (around-number t s) f, a .0, b .0), pair-within n m j k l r (a .1) (b .1))
 
   module _ (regular : Regular t) where
-    body-kept : (f : ℕ → List Residual) → ((d : ℕ) → All (Kept t (levelWidth t (levelIn (t .definitions) d))) (f d))
-        → (d : ℕ) → All (Kept t (levelWidth t (levelIn (t .definitions) d)))
-        (resolveIn f (bodyOf t d) (bodyNumber t d) noMemory)
-    unfolding bodyCount resolveIn keep
-    body-kept f k d = by (decLt d (bodyCount t))
-      where
-        by : Dec (d < bodyCount t) → All (Kept t (levelWidth t (levelIn (t .definitions) d)))
-            (resolveIn f (bodyOf t d) (bodyNumber t d) noMemory)
-        by (yes l) =
-            kept-more (reach t (bodyOf t d)) (levelWidth t (levelIn (t .definitions) d)) (regular .reach-body d l)
-            (resolveIn f (bodyOf t d) (bodyNumber t d) noMemory)
-            (resolveIn-kept f k (bodyOf t d) noMemory (body-number t d l)
-            (none-remembers (t .alphabet) 0 (regular .alphabet-some)))
-        by (no l) = let e : bodyOf t d ≡ fail = body-beyond t d (omega arith) in rw e tt
+    resolveDef-reach : (b d : ℕ) → All (Within (levelWidth t (levelIn (t .definitions) d))) (resolveDef t b d)
+    unfolding resolveDef bodyCount
+    resolveDef-reach zero d = tt
+    resolveDef-reach (suc b) d =
+        let w : ℕ = levelWidth t (levelIn (t .definitions) d) in
+        by-body (All (Within w)) tt (resolveDef t b) d
+        (λ l. within-more (reach t (bodyOf t d)) w (regular .reach-body d l)
+        (resolveIn (resolveDef t b) (bodyOf t d) (bodyNumber t d) noMemory)
+        (resolveIn-reach (resolveDef t b) (resolveDef-reach b) (bodyOf t d) noMemory (body-number t d l)))
 
-    resolveDef-kept : (b d : ℕ) → All (Kept t (levelWidth t (levelIn (t .definitions) d))) (resolveDef t b d)
-    unfolding resolveDef
-    resolveDef-kept zero d = tt
-    resolveDef-kept (suc b) d = body-kept (resolveDef t b) (resolveDef-kept b) d
+    resolveDef-fits : (b d : ℕ) → All (Fits t) (resolveDef t b d)
+    unfolding resolveDef bodyCount
+    resolveDef-fits zero d = tt
+    resolveDef-fits (suc b) d =
+        by-body (All (Fits t)) tt (resolveDef t b) d
+        (λ l. resolveIn-fits (resolveDef t b) (resolveDef-fits b) (bodyOf t d) noMemory (body-number t d l)
+        (none-remembers (t .alphabet) 0 (regular .alphabet-some)))
+
+    pub resolve-reach : (n : ℕ) (m : Memory) (p : Term) {h c : ℕ} → Stands (t .definitions) h c n p
+        → All (Within (reach t p)) (resolve t n m)
+    resolve-reach n m p s =
+        rw (resolve-at t n m p (at-number t s))
+        (resolveIn-reach (resolveDef t (bodyCount t)) (resolveDef-reach (bodyCount t)) p m s)
 
     pub resolve-kept : (n : ℕ) (m : Memory) (p : Term) {h c : ℕ} → Stands (t .definitions) h c n p
         → Remembers (t .alphabet) c m → All (Kept t (reach t p)) (resolve t n m)
     resolve-kept n m p s g =
-        rw (resolve-at t n m p (at-number t s))
-        (resolveIn-kept (resolveDef t (bodyCount t)) (resolveDef-kept (bodyCount t)) p m s g)
+        all-and (Fits t) (Within (reach t p)) (resolve t n m)
+        (rw (resolve-at t n m p (at-number t s))
+        (resolveIn-fits (resolveDef t (bodyCount t)) (resolveDef-fits (bodyCount t)) p m s g))
+        (resolve-reach n m p s)
 
     choose-kept : (b : Bool) (k : ℕ) (l r : List Residual) → All (Kept t k) l → All (Kept t k) r
         → All (Kept t k) (elim b [ true ↦ l | false ↦ r ])
@@ -205,9 +266,9 @@ module _ (t : Table) where
     pub definition-proper : (d : ℕ) → d < bodyCount t → All (Proper t) (resolveDef t (bodyCount t) d)
     definition-proper d l =
         all-and (Sound t) (Kept t 8) (resolveDef t (bodyCount t) d) (resolveDef-sound t regular (bodyCount t) d)
-        (kept-more (levelWidth t (levelIn (t .definitions) d)) 8
-        (regular .width-most (levelIn (t .definitions) d)) (resolveDef t (bodyCount t) d)
-        (resolveDef-kept (bodyCount t) d))
+        (all-and (Fits t) (Within 8) (resolveDef t (bodyCount t) d) (resolveDef-fits (bodyCount t) d)
+        (within-more (levelWidth t (levelIn (t .definitions) d)) 8 (regular .width-most (levelIn (t .definitions) d))
+        (resolveDef t (bodyCount t) d) (resolveDef-reach (bodyCount t) d)))
 
     pub run-proper : (s : List ℕ) → All (λ e. e < t .alphabet) s → (rs : List Residual) → All (Proper t) rs
         → All (Proper t) (run t rs s)

@@ -7,6 +7,7 @@ use lib.ListN.{length, length-append}
 use Rattle.table.specs.Table.{Table, Term, stop, fail, prefix, choice, par, call, termAt}
 use Rattle.table.specs.Table.{enclosing}
 use Rattle.meaning.specs.Figure1.{bodyCount, plain, Guarded}
+use Rattle.meaning.specs.Formed.{number-formed}
 use Rattle.numbers.specs.Every.{All, all-append}
 use Rattle.table.specs.Part.Numbers.{number-at, number-below}
 use Rattle.table.specs.Memory.{Memory, digit}
@@ -14,7 +15,6 @@ use Rattle.table.specs.Width.{widthWith, reach}
 use Rattle.monitor_spec.specs.Regular.{Regular}
 use Rattle.residuals.specs.Residual.{Residual, leaf, pair}
 use Rattle.monitor_spec.specs.Meaning.{Sound}
-use Rattle.monitor_spec.specs.Residual.Resolve.{number-guarded}
 use Rattle.node_word.specs.Word.{pack}
 use Rattle.residuals.specs.Slots.{nodes}
 use Rattle.monitor_spec.specs.Valid.{reachSum}
@@ -35,7 +35,7 @@ module _ (t : Table) (regular : Regular t) where
   pub nodes-reach : (r : Residual) → Sound t r → suc (length (nodes r)) ≤ 2 * reachSum t r
   unfolding nodes reachSum
   nodes-reach (leaf n m) (x, h, i) =
-      let a = reach-some x (number-guarded t regular (number-at t n x h .stands)) in
+      let a = reach-some x (number-formed t (regular .guarded) (number-at t n x h .stands)) in
       let b = reachAt-at t n x h in
       omega arith
   nodes-reach (pair n m l r) (x, h, i, a, b) =

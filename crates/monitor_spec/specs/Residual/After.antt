@@ -19,10 +19,11 @@ use Rattle.meaning.specs.Closing.{closeRef, close}
 use Rattle.meaning.specs.Closing.Laws.{close-sub, member-close}
 use Rattle.residuals.specs.Residual.{Residual, leaf, pair, pairs, resolveDef, resolve, afterLeaf, afterPair}
 use Rattle.residuals.specs.Residual.{after, afterAll, run}
+use Rattle.residuals.specs.Residual.Calls.{resolve-at}
 use Rattle.monitor_spec.specs.Regular.{Regular}
 use Rattle.monitor_spec.specs.Meaning.{joinAt, denote, IsLeaf, IsPar, Sound}
 use Rattle.monitor_spec.specs.Residual.Resolve.{map-flat, denote-leaf, denote-pair, denote-join}
-use Rattle.monitor_spec.specs.Residual.Resolve.{pairs-denote, resolveIn-denote, resolve-at, pairs-sound}
+use Rattle.monitor_spec.specs.Residual.Resolve.{pairs-denote, resolveIn-denote, pairs-sound}
 use Rattle.monitor_spec.specs.Residual.Resolve.{resolveIn-sound, number-scoped, resolveDef-denote}
 use Rattle.monitor_spec.specs.Residual.Resolve.{resolveDef-sound}
 

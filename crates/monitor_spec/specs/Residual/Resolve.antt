@@ -8,9 +8,7 @@ use mathlib.Core.Option.{some}
 use mathlib.Core.Logic.{_↔_}
 use Rattle.table.specs.Table
 use Rattle.table.specs.Table.{Table, termAt, bodyOf, bodyNumber, size}
-use Rattle.meaning.specs.Figure1.{SetRef, Term, stop, fail, prefix, choice, par, call, bodyCount, body, plain, Guarded}
-use Rattle.meaning.specs.Figure1.{WellFormed}
-use Rattle.meaning.specs.Theorem3.{guarded-more}
+use Rattle.meaning.specs.Figure1.{SetRef, Term, stop, fail, prefix, choice, par, call, bodyCount, body, plain}
 use Rattle.numbers.specs.Every.{All, all-imp, all-append}
 use Rattle.meaning.specs.Some.{all-map, all-flat}
 use Rattle.meaning.specs.ClosedResiduals as C
@@ -21,7 +19,7 @@ use Rattle.table.specs.Memory.{Memory, noMemory}
 use Rattle.meaning.specs.Closing.{closeRef, close, Scoped}
 use Rattle.meaning.specs.Closing.Laws.{close-plain}
 use Rattle.residuals.specs.Keep.{keep}
-use Rattle.residuals.specs.Residual.{Residual, leaf, pair, pairs, resolveIn, resolveDef, resolve}
+use Rattle.residuals.specs.Residual.{Residual, leaf, pair, pairs, resolveIn, resolveDef}
 use Rattle.monitor_spec.specs.Regular.{Regular}
 use Rattle.monitor_spec.specs.Meaning.{joinAt, denote, IsPar, Sound, Some}
 
@@ -88,11 +86,6 @@ module _ (t : Table) where
       (resolveIn-denote f g k q m (par-right-stands s))
   resolveIn-denote f g k (Table.call d) m s = k d
 
-  pub resolve-at : (n : ℕ) (m : Memory) (p : Table.Term) → termAt t n ≡ some p
-      → resolve t n m ≡ resolveIn (resolveDef t (bodyCount t)) p n m
-  unfolding resolve
-  resolve-at n m p e = rw (e, resolve)
-
   pub pairs-sound : (n : ℕ) (m : Memory) (x : Table.Term) → termAt t n ≡ some x → IsPar x → (ls rs : List Residual)
       → All (Sound t) ls → All (Sound t) rs → All (Sound t) (pairs n m ls rs)
   unfolding pairs
@@ -121,7 +114,7 @@ module _ (t : Table) where
       (resolveIn-sound f k q m (par-right-stands s))
   resolveIn-sound f k (Table.call d) m s = k d
 
-  -- ---- parts of a scoped, guarded term
+  -- ---- parts of a scoped term
   part-scoped : {p x : Table.Term} {d n : ℕ} → Part p d n x → (c : ℕ) → Scoped c p → (c′ : ℕ) × Scoped c′ x
   part-scoped here c s = (c, s)
   part-scoped (follower k) c s = part-scoped k (suc c) (s .1)
@@ -130,27 +123,11 @@ module _ (t : Table) where
   part-scoped (par-left k) c s = part-scoped k c (s .1)
   part-scoped (par-right k) c s = part-scoped k c (s .2)
 
-  part-guarded : (n d : ℕ) → d ≤ n → {p x : Table.Term} {c k : ℕ} → Part p c k x → Guarded n d (plain p)
-      → Guarded n n (plain x)
-  unfolding plain
-  part-guarded n d l (here {p = p}) g = guarded-more n d n l (plain p) g
-  part-guarded n d l (follower k) g = part-guarded n n (omega arith) k g
-  part-guarded n d l (choice-left k) g = part-guarded n d l k (g .0)
-  part-guarded n d l (choice-right k) g = part-guarded n d l k (g .1)
-  part-guarded n d l (par-left k) g = part-guarded n d l k (g .0)
-  part-guarded n d l (par-right k) g = part-guarded n d l k (g .1)
-
   module _ (regular : Regular t) where
-    -- what stands under a number is scoped and guarded
+    -- what stands under a number is scoped
     pub number-scoped : {h c n : ℕ} {x : Table.Term} → Stands (t .definitions) h c n x → (c′ : ℕ) × Scoped c′ x
     unfolding bodyCount
     number-scoped {h} s = let (l, (k, p)) = number-home t s in part-scoped p 0 (regular .scoped h l)
-
-    pub number-guarded : {h c n : ℕ} {x : Table.Term} → Stands (t .definitions) h c n x → WellFormed t (plain x)
-    unfolding bodyCount body
-    number-guarded {h} s =
-        let (l, (k, p)) = number-home t s in
-        part-guarded (bodyCount t) h (omega arith) p (regular .guarded .bodies h l)
 
     body-denote : (f : ℕ → List Residual) (g : ℕ → List Term) → ((d : ℕ) → map (denote t) (f d) ≡ g d) → (d : ℕ)
         → map (denote t) (resolveIn f (bodyOf t d) (bodyNumber t d) noMemory) ≡ C.resolveWith g (body t d)

@@ -20,13 +20,14 @@ use Rattle.meaning.specs.ClosedResiduals as C
 use Rattle.meaning.specs.ClosedResidualsHold.{Ready, Has, run-holds, residuals-hold}
 use Rattle.table.specs.Part.Numbers.{number-at}
 use Rattle.table.specs.Memory.{Memory}
+use Rattle.meaning.specs.Formed.{number-formed}
 use Rattle.meaning.specs.Closing.{close}
 use Rattle.meaning.specs.Closing.Laws.{guarded-close}
 use Rattle.residuals.specs.Residual.{Residual, leaf, pair, resolveDef, resolve, run, fromDefinition}
 use Rattle.residuals.specs.Residual.{residualsOf}
 use Rattle.monitor_spec.specs.Regular.{Regular}
 use Rattle.monitor_spec.specs.Meaning.{joinAt, denote, IsLeaf, IsPar, Sound, Some}
-use Rattle.monitor_spec.specs.Residual.Resolve.{some-map, denote-leaf, denote-join, number-guarded}
+use Rattle.monitor_spec.specs.Residual.Resolve.{some-map, denote-leaf, denote-join}
 use Rattle.monitor_spec.specs.Residual.Resolve.{resolveDef-denote, resolveDef-sound}
 use Rattle.monitor_spec.specs.Residual.After.{run-denote}
 
@@ -41,7 +42,7 @@ module _ (t : Table) where
     leaf-ready n m (Table.prefix r p) h i = (
       tt,
       guarded-close (bodyCount t) (bodyCount t) 0 m (Table.prefix r p)
-          (number-guarded t regular (number-at t n (Table.prefix r p) h .stands)),
+          (number-formed t (regular .guarded) (number-at t n (Table.prefix r p) h .stands)),
     )
     leaf-ready n m (Table.choice p q) h i = absurd i
     leaf-ready n m (Table.par r p q) h i = absurd i

@@ -25,7 +25,8 @@ use Rattle.residuals.specs.Slots.{nodes}
 use Rattle.resolving.specs.Lawful.{Lawful}
 use Rattle.resolving.specs.Residual.{nth, pushed, pushAll, Resolves, resolvedInto}
 use Rattle.resolving.specs.Residual.{ResolvesDefinition, definitionInto}
-use Rattle.resolving.specs.Residual.Resolved.{length-pairs, length-resolved, resolved-definition}
+use Rattle.residuals.specs.Residual.Counts.{length-pairs}
+use Rattle.resolving.specs.Residual.Resolved.{length-resolved, resolved-definition}
 use Rattle.resolving.specs.Residual.Kinds.{resolved-leaf, resolved-none, TwoSides, Calls}
 use Rattle.resolving.specs.Residual.Nth.{nth-left, nth-right, nth-pairs, factor-positive}
 use Rattle.resolving.specs.Residual.Pushed.{length-pushed, head-pushed, length-pushAll, head-pushAll}
