@@ -4,6 +4,7 @@
 --     on-shut, on-inconsistent, on-consistent, on-admits           the same with refusal 10
 --     shut-all, on-all      what holds of 1, of 2 to 9 and of 10 holds of a refusal
 --     on-length             the work area keeps its length
+--     entering-shut, entering-admits    what an operation makes of each, whatever it makes of the other
 -- Assumes nothing.
 use Prim.Native.Nat.{ℕ}
 use native.Mathlib.Omega.{arith}
@@ -17,7 +18,7 @@ use Rattle.table.specs.Operations.{zeros}
 use Rattle.monitor_spec.specs.State.{Monitor, areasMeasured, workMeasured}
 use Rattle.monitor_spec.specs.Consistent.{consistent}
 use Rattle.monitor_spec.specs.Entering.{Entrance, shut, admits, measuring, judging, entrance, agreeing}
-use Rattle.monitor_spec.specs.Entering.{entranceOn}
+use Rattle.monitor_spec.specs.Entering.{entranceOn, entering}
 
 pub shut-same : (n p k q : ℕ) (v w : List ℕ) → shut n p v ≡ shut k q w → (n ≡ k) × (p ≡ q) × (v ≡ w)
 shut-same n p k q v w e = (cc, cc, cc)
@@ -27,6 +28,15 @@ admits-same s t e = cc
 
 pub shut-admits : {X : Type 0} {x : Entrance} (n p : ℕ) (v : List ℕ) (t : Table) → x ≡ shut n p v → x ≡ admits t → X
 shut-admits n p v t e f = absurd (let z : _≡_ {A = ℕ} 0 1 = cc in omega arith)
+
+module _ {X : Type 0} (refuse : ℕ → ℕ → List ℕ → X) (admit : Table → X) (x : Entrance) where
+  pub entering-shut : (n p : ℕ) (v : List ℕ) → x ≡ shut n p v → entering refuse admit x ≡ refuse n p v
+  unfolding entering
+  entering-shut n p v e = ap (entering refuse admit) e
+
+  pub entering-admits : (t : Table) → x ≡ admits t → entering refuse admit x ≡ admit t
+  unfolding entering
+  entering-admits t e = ap (entering refuse admit) e
 
 length-zeros : (n : ℕ) → length (zeros n) ≡ n
 length-zeros n = length-replicate {A = ℕ} n 0

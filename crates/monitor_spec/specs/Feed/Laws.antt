@@ -5,7 +5,7 @@
 --     feed-shut, feed-admits                                       a call
 -- Assumes nothing.
 use Prim.Native.Nat.{ℕ, _≤_, _<_}
-use mathlib.Core.Path.{_≡_, refl, ap}
+use mathlib.Core.Path.{_≡_, refl}
 use mathlib.Core.Bool.{Bool, true, false}
 use mathlib.Core.List.{List}
 use mathlib.Core.Option.{Option, none, some}
@@ -19,7 +19,8 @@ use Rattle.residuals.specs.Slots.{slotsOf}
 use Rattle.monitor_spec.specs.Valid.{held}
 use Rattle.monitor_spec.specs.Fold.{went, stops, through}
 use Rattle.monitor_spec.specs.State.{Monitor, slotCount}
-use Rattle.monitor_spec.specs.Entering.{shut, admits, entranceOn, entering, refusing}
+use Rattle.monitor_spec.specs.Entering.{shut, admits, entranceOn, refusing}
+use Rattle.monitor_spec.specs.Entering.Laws.{entering-shut, entering-admits}
 use Rattle.monitor_spec.specs.Feed.{counterMost, presentSlots, nextSlots, taking, eventRefused, takeEvent}
 use Rattle.monitor_spec.specs.Feed.{endingOf, feedOf}
 use Rattle.monitor_spec.specs.Progress.{Meets, unknown, full, exceeded}
@@ -110,12 +111,10 @@ module _ (t : Table) (m : Monitor) (e : ℕ) where
 module _ (l : List ℕ) (m : Monitor) (es w : List ℕ) where
   pub feed-shut : (n p : ℕ) (v : List ℕ) → entranceOn l m w ≡ shut n p v
       → feedOf l m es w ≡ refusing (m .area0) (m .area1) n p v
-  unfolding feedOf entering
-  feed-shut n p v e =
-      ap (entering (refusing (m .area0) (m .area1)) (λ t. endingOf (length w) (through (takeEvent t) m 0 es))) e
+  unfolding feedOf
+  feed-shut n p v e = entering-shut (refusing (m .area0) (m .area1)) _ (entranceOn l m w) n p v e
 
   pub feed-admits : (t : Table) → entranceOn l m w ≡ admits t
       → feedOf l m es w ≡ endingOf (length w) (through (takeEvent t) m 0 es)
-  unfolding feedOf entering
-  feed-admits t e =
-      ap (entering (refusing (m .area0) (m .area1)) (λ t. endingOf (length w) (through (takeEvent t) m 0 es))) e
+  unfolding feedOf
+  feed-admits t e = entering-admits (refusing (m .area0) (m .area1)) _ (entranceOn l m w) t e
