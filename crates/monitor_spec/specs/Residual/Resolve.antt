@@ -19,6 +19,7 @@ use Rattle.table.specs.Memory.{Memory, noMemory}
 use Rattle.meaning.specs.Closing.{closeRef, close, Scoped}
 use Rattle.meaning.specs.Closing.Laws.{close-plain}
 use Rattle.residuals.specs.Keep.{keep}
+use Rattle.residuals.specs.Keep.Laws.{keep-closed, keep-closed-par}
 use Rattle.residuals.specs.Residual.{Residual, leaf, pair, pairs, resolveIn, resolveDef}
 use Rattle.monitor_spec.specs.Regular.{Regular}
 use Rattle.monitor_spec.specs.Meaning.{joinAt, denote, IsPar, Sound, Some}
@@ -67,21 +68,34 @@ module _ (t : Table) where
         map-append (denote t) (map (pair n m l) rs) (pairs n m ls rs) ∙ ap₂ _++_ (pairs-row l rs) (pairs-denote ls rs)
 
   -- ---- resolving
+
+  -- with the memory that a node keeps
+  leaf-denote : (n : ℕ) (m : Memory) (p : Table.Term) → termAt t n ≡ some p
+      → denote t (leaf n (keep p m)) ≡ close 0 m p
+  leaf-denote n m p e = denote-leaf n (keep p m) p e ∙ keep-closed p m
+
+  pair-denote : (n : ℕ) (m : Memory) (s : Table.SetRef) (p q : Table.Term) (l r : Residual)
+      → termAt t n ≡ some (Table.par s p q)
+      → denote t (pair n (keep (Table.par s p q) m) l r) ≡ par (closeRef 0 m s) (denote t l) (denote t r)
+  pair-denote n m s p q l r e =
+      denote-pair n (keep (Table.par s p q) m) s p q l r e
+      ∙ ap (λ (S : SetRef). par S (denote t l) (denote t r)) (keep-closed-par s p q m)
+
   pub resolveIn-denote : (f : ℕ → List Residual) (g : ℕ → List Term) → ((d : ℕ) → map (denote t) (f d) ≡ g d)
       → (p : Table.Term) (m : Memory) {h c n : ℕ} → Stands (t .definitions) h c n p
       → map (denote t) (resolveIn f p n m) ≡ C.resolveWith g (close 0 m p)
-  unfolding resolveIn C.resolveWith close keep
-  resolveIn-denote f g k Table.stop m {n = n} s = ap (_∷ []) (denote-leaf n m Table.stop (at-number t s))
+  unfolding resolveIn C.resolveWith close
+  resolveIn-denote f g k Table.stop m {n = n} s = ap (_∷ []) (leaf-denote n m Table.stop (at-number t s))
   resolveIn-denote f g k Table.fail m s = refl
   resolveIn-denote f g k (Table.prefix r p) m {n = n} s =
-      ap (_∷ []) (denote-leaf n m (Table.prefix r p) (at-number t s))
+      ap (_∷ []) (leaf-denote n m (Table.prefix r p) (at-number t s))
   resolveIn-denote f g k (Table.choice p q) m {n = n} s =
       map-append (denote t) (resolveIn f p (suc n) m) (resolveIn f q (suc (size p + n)) m)
       ∙ ap₂ _++_ (resolveIn-denote f g k p m (choice-left-stands s))
       (resolveIn-denote f g k q m (choice-right-stands s))
   resolveIn-denote f g k (Table.par r p q) m {n = n} s =
-      pairs-denote n m (closeRef 0 m r) (λ a b. denote-pair n m r p q a b (at-number t s)) (resolveIn f p (suc n) m)
-      (resolveIn f q (suc (size p + n)) m)
+      pairs-denote n (keep (Table.par r p q) m) (closeRef 0 m r) (λ a b. pair-denote n m r p q a b (at-number t s))
+      (resolveIn f p (suc n) m) (resolveIn f q (suc (size p + n)) m)
       ∙ ap₂ (C.pairs (closeRef 0 m r)) (resolveIn-denote f g k p m (par-left-stands s))
       (resolveIn-denote f g k q m (par-right-stands s))
   resolveIn-denote f g k (Table.call d) m s = k d
@@ -101,7 +115,7 @@ module _ (t : Table) where
   pub resolveIn-sound : (f : ℕ → List Residual) → ((d : ℕ) → All (Sound t) (f d))
       → (p : Table.Term) (m : Memory) {h c n : ℕ} → Stands (t .definitions) h c n p
       → All (Sound t) (resolveIn f p n m)
-  unfolding resolveIn keep
+  unfolding resolveIn
   resolveIn-sound f k Table.stop m s = ((Table.stop, at-number t s, tt), tt)
   resolveIn-sound f k Table.fail m s = tt
   resolveIn-sound f k (Table.prefix r p) m s = ((Table.prefix r p, at-number t s, tt), tt)
@@ -109,7 +123,7 @@ module _ (t : Table) where
       all-append (Sound t) (resolveIn f p (suc n) m) (resolveIn f q (suc (size p + n)) m)
       (resolveIn-sound f k p m (choice-left-stands s)) (resolveIn-sound f k q m (choice-right-stands s))
   resolveIn-sound f k (Table.par r p q) m {n = n} s =
-      pairs-sound n m (Table.par r p q) (at-number t s) tt (resolveIn f p (suc n) m)
+      pairs-sound n (keep (Table.par r p q) m) (Table.par r p q) (at-number t s) tt (resolveIn f p (suc n) m)
       (resolveIn f q (suc (size p + n)) m) (resolveIn-sound f k p m (par-left-stands s))
       (resolveIn-sound f k q m (par-right-stands s))
   resolveIn-sound f k (Table.call d) m s = k d
@@ -131,7 +145,7 @@ module _ (t : Table) where
 
     body-denote : (f : ℕ → List Residual) (g : ℕ → List Term) → ((d : ℕ) → map (denote t) (f d) ≡ g d) → (d : ℕ)
         → map (denote t) (resolveIn f (bodyOf t d) (bodyNumber t d) noMemory) ≡ C.resolveWith g (body t d)
-    unfolding body bodyCount resolveIn C.resolveWith plain keep
+    unfolding body bodyCount resolveIn C.resolveWith plain
     body-denote f g k d = by (decLt d (bodyCount t))
       where
         by : Dec (d < bodyCount t)
@@ -142,7 +156,7 @@ module _ (t : Table) where
 
     body-sound : (f : ℕ → List Residual) → ((d : ℕ) → All (Sound t) (f d)) → (d : ℕ)
         → All (Sound t) (resolveIn f (bodyOf t d) (bodyNumber t d) noMemory)
-    unfolding bodyCount resolveIn keep
+    unfolding bodyCount resolveIn
     body-sound f k d = by (decLt d (bodyCount t))
       where
         by : Dec (d < bodyCount t) → All (Sound t) (resolveIn f (bodyOf t d) (bodyNumber t d) noMemory)
