@@ -61,9 +61,10 @@ module _ (t : Table) where
         → map (denote t) (resolve t n m) ≡ C.resolve t (close 0 m p)
     unfolding C.resolve
     resolve-denote n m p s =
+        let (b, i) = number-scoped t regular s in
         ap (map (denote t)) (resolve-at t n m p (at-number t s))
         ∙ resolveIn-denote t (resolveDef t (bodyCount t)) (C.resolveCall t (bodyCount t))
-        (resolveDef-denote t regular (bodyCount t)) p m s
+        (resolveDef-denote t regular (bodyCount t)) p m s b i
 
     resolve-sound : (n : ℕ) (m : Memory) (p : Table.Term) {h c : ℕ} → Stands (t .definitions) h c n p
         → All (Sound t) (resolve t n m)

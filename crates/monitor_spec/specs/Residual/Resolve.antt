@@ -16,7 +16,7 @@ use Rattle.table.specs.Part.{Part, here, follower, choice-left, choice-right, p
 use Rattle.table.specs.Part.Numbers.{choice-left-stands, choice-right-stands, par-left-stands}
 use Rattle.table.specs.Part.Numbers.{par-right-stands, at-number, body-number, number-home, body-beyond}
 use Rattle.table.specs.Memory.{Memory, noMemory}
-use Rattle.meaning.specs.Closing.{closeRef, close, Scoped}
+use Rattle.meaning.specs.Closing.{closeRef, close, ScopedRef, Scoped}
 use Rattle.meaning.specs.Closing.Laws.{close-plain}
 use Rattle.residuals.specs.Keep.{keep}
 use Rattle.residuals.specs.Keep.Laws.{keep-closed, keep-closed-par}
@@ -70,35 +70,37 @@ module _ (t : Table) where
   -- ---- resolving
 
   -- with the memory that a node keeps
-  leaf-denote : (n : ℕ) (m : Memory) (p : Table.Term) → termAt t n ≡ some p
+  leaf-denote : (n : ℕ) (m : Memory) (p : Table.Term) → termAt t n ≡ some p → (b : ℕ) → Scoped b p
       → denote t (leaf n (keep p m)) ≡ close 0 m p
-  leaf-denote n m p e = denote-leaf n (keep p m) p e ∙ keep-closed p m
+  leaf-denote n m p e b i = denote-leaf n (keep p m) p e ∙ keep-closed b p m i
 
   pair-denote : (n : ℕ) (m : Memory) (s : Table.SetRef) (p q : Table.Term) (l r : Residual)
-      → termAt t n ≡ some (Table.par s p q)
+      → termAt t n ≡ some (Table.par s p q) → (b : ℕ) → ScopedRef b s
       → denote t (pair n (keep (Table.par s p q) m) l r) ≡ par (closeRef 0 m s) (denote t l) (denote t r)
-  pair-denote n m s p q l r e =
+  pair-denote n m s p q l r e b i =
       denote-pair n (keep (Table.par s p q) m) s p q l r e
-      ∙ ap (λ (S : SetRef). par S (denote t l) (denote t r)) (keep-closed-par s p q m)
+      ∙ ap (λ (S : SetRef). par S (denote t l) (denote t r)) (keep-closed-par b s p q m i)
 
   pub resolveIn-denote : (f : ℕ → List Residual) (g : ℕ → List Term) → ((d : ℕ) → map (denote t) (f d) ≡ g d)
-      → (p : Table.Term) (m : Memory) {h c n : ℕ} → Stands (t .definitions) h c n p
+      → (p : Table.Term) (m : Memory) {h c n : ℕ} → Stands (t .definitions) h c n p → (b : ℕ) → Scoped b p
       → map (denote t) (resolveIn f p n m) ≡ C.resolveWith g (close 0 m p)
   unfolding resolveIn C.resolveWith close
-  resolveIn-denote f g k Table.stop m {n = n} s = ap (_∷ []) (leaf-denote n m Table.stop (at-number t s))
-  resolveIn-denote f g k Table.fail m s = refl
-  resolveIn-denote f g k (Table.prefix r p) m {n = n} s =
-      ap (_∷ []) (leaf-denote n m (Table.prefix r p) (at-number t s))
-  resolveIn-denote f g k (Table.choice p q) m {n = n} s =
+  resolveIn-denote f g k Table.stop m {n = n} s b i =
+      ap (_∷ []) (leaf-denote n m Table.stop (at-number t s) b i)
+  resolveIn-denote f g k Table.fail m s b i = refl
+  resolveIn-denote f g k (Table.prefix r p) m {n = n} s b i =
+      ap (_∷ []) (leaf-denote n m (Table.prefix r p) (at-number t s) b i)
+  resolveIn-denote f g k (Table.choice p q) m {n = n} s b i =
       map-append (denote t) (resolveIn f p (suc n) m) (resolveIn f q (suc (size p + n)) m)
-      ∙ ap₂ _++_ (resolveIn-denote f g k p m (choice-left-stands s))
-      (resolveIn-denote f g k q m (choice-right-stands s))
-  resolveIn-denote f g k (Table.par r p q) m {n = n} s =
-      pairs-denote n (keep (Table.par r p q) m) (closeRef 0 m r) (λ a b. pair-denote n m r p q a b (at-number t s))
+      ∙ ap₂ _++_ (resolveIn-denote f g k p m (choice-left-stands s) b (i .0))
+      (resolveIn-denote f g k q m (choice-right-stands s) b (i .1))
+  resolveIn-denote f g k (Table.par r p q) m {n = n} s b i =
+      pairs-denote n (keep (Table.par r p q) m) (closeRef 0 m r)
+      (λ x y. pair-denote n m r p q x y (at-number t s) b (i .0))
       (resolveIn f p (suc n) m) (resolveIn f q (suc (size p + n)) m)
-      ∙ ap₂ (C.pairs (closeRef 0 m r)) (resolveIn-denote f g k p m (par-left-stands s))
-      (resolveIn-denote f g k q m (par-right-stands s))
-  resolveIn-denote f g k (Table.call d) m s = k d
+      ∙ ap₂ (C.pairs (closeRef 0 m r)) (resolveIn-denote f g k p m (par-left-stands s) b (i .1))
+      (resolveIn-denote f g k q m (par-right-stands s) b (i .2))
+  resolveIn-denote f g k (Table.call d) m s b i = k d
 
   pub pairs-sound : (n : ℕ) (m : Memory) (x : Table.Term) → termAt t n ≡ some x → IsPar x → (ls rs : List Residual)
       → All (Sound t) ls → All (Sound t) rs → All (Sound t) (pairs n m ls rs)
@@ -150,7 +152,7 @@ module _ (t : Table) where
       where
         by : Dec (d < bodyCount t)
             → map (denote t) (resolveIn f (bodyOf t d) (bodyNumber t d) noMemory) ≡ C.resolveWith g (body t d)
-        by (yes l) = resolveIn-denote f g k (bodyOf t d) noMemory (body-number t d l)
+        by (yes l) = resolveIn-denote f g k (bodyOf t d) noMemory (body-number t d l) 0 (regular .scoped d l)
             ∙ ap (C.resolveWith g) (close-plain 0 noMemory (bodyOf t d) (regular .scoped d l))
         by (no l) = let e : bodyOf t d ≡ Table.fail = body-beyond t d (omega arith) in rw e
 
