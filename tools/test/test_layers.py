@@ -55,6 +55,15 @@ FAULTS = {
     "an inner module": (SHOP, ".{Heaped as Full}", " as heap", "all of it is inner to layer low"),
     "a module below an inner one": (SHOP, ".{Heaped as Full}", ".Laws.{law}", "Heap: Laws is inner to layer low"),
     "an inner function": ("crates/shop/src/lib.rt", "purse::count", "purse::{count, open}", "purse::open is inner"),
+    "a crate under another name, not listed": (PURSE, "use coins::Coin;", "use io as out;", "io is named, which"),
+    "a whole crate, not listed": (PURSE, "use coins::Coin;", "use io;", "io is named, which the line of purse"),
+    "an inner function of a crate under another name": (
+        "crates/shop/src/lib.rt",
+        "use purse::count;",
+        "use purse as bag;\nfn f() { bag::open() }",
+        "purse::open is inner",
+    ),
+    "everything of a crate": ("crates/shop/src/lib.rt", "purse::count", "purse::*", "purse::* is inner"),
     "an inner function's contract": (PROOF, "proofs.count.Reads", "proofs.open.Reads", "purse::open is inner"),
 }
 
