@@ -2,9 +2,8 @@
 --     events-fit                                   64 events have room
 --     term-pack, memory-pack                       a word gives back its term and its memory
 --     word-pack                                    and is packed of them
---     pack-below, pack-injective                   words of terms below a number; words that are equal
---     digits-memory                                the events of a word's memory have room
---     memory-zero, digits-remember                 no events; one event more
+--     words-fit                                    words of terms below 1,024 have room in 64 bits
+--     memory-zero, zero-below                      no events
 --     node-word, memory-word, remember-word        what code reckons with: a memory as a word of term 0
 --     digit-0, -1, -2, -3                          the events of a word, one after the other
 -- Assumes nothing.
@@ -57,10 +56,6 @@ memory-pack n m h =
     let d = h .s3 in
     memory-path (memoryOf (pack n m)) m (omega arith) (omega arith) (omega arith) (omega arith)
 
-pub digits-memory : (w : ℕ) → Digits (memoryOf w)
-unfolding memoryOf digitBound digitBits
-digits-memory w = record { s0 = omega arith; s1 = omega arith; s2 = omega arith; s3 = omega arith }
-
 pub word-pack : (w : ℕ) → pack (termOfWord w) (memoryOf w) ≡ w
 unfolding memoryOf termOfWord pack digitBound digitBits
 word-pack w =
@@ -68,16 +63,6 @@ word-pack w =
     let b = third w in
     let c = fourth w in
     omega arith
-
-pub pack-below : (k n : ℕ) (m : Memory) → n < k → Digits m → pack n m < k * memoryBound
-unfolding pack memoryBound digitBound digitBits
-pack-below k n m l h = let a = h .s0 in let b = h .s1 in let c = h .s2 in let d = h .s3 in omega arith
-
-pub pack-injective : (n k : ℕ) (a b : Memory) → Digits a → Digits b → pack n a ≡ pack k b → (n ≡ k) × (a ≡ b)
-pack-injective n k a b h l e = (
-  sym (term-pack n a h) ∙ ap termOfWord e ∙ term-pack k b l,
-  sym (memory-pack n a h) ∙ ap memoryOf e ∙ memory-pack k b l,
-)
 
 -- words of terms below 1,024 have room in 64 bits
 pub words-fit : 1024 * memoryBound < 18446744073709551616
@@ -93,21 +78,6 @@ memory-zero = refl
 pub zero-below : 0 < memoryBound
 unfolding memoryBound digitBits
 zero-below = omega arith
-
-pub digits-remember : (e : ℕ) (m : Memory) → e < digitBound → Digits m → Digits (remember e m)
-unfolding remember
-digits-remember e m l h = record { s0 = l; s1 = h .s0; s2 = h .s1; s3 = h .s2 }
-
-pub digits-at : (m : Memory) → Digits m → (i : ℕ) → digit m i < digitBound
-unfolding digit
-digits-at m h zero = h .s0
-digits-at m h (suc zero) = h .s1
-digits-at m h (suc (suc zero)) = h .s2
-digits-at m h (suc (suc (suc i))) = h .s3
-
-pub at-digits : (m : Memory) → ((i : ℕ) → digit m i < digitBound) → Digits m
-unfolding digit
-at-digits m h = record { s0 = h 0; s1 = h 1; s2 = h 2; s3 = h 3 }
 
 -- ---- what code reckons with
 

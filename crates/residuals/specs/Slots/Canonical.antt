@@ -127,12 +127,6 @@ canon-members l k f g =
     (λ a h. in-canon a k .1 (f a (in-canon a l .0 h)))
     (λ a h. in-canon a l .1 (g a (in-canon a k .0 h)))
 
--- A slot already held is not held twice.
-pub insert-held : (s : List ℕ) (l : List (List ℕ)) → Ascending l → In s l → insertSorted s l ≡ l
-insert-held s l h i =
-    ascending-unique (insertSorted s l) l (insert-ascending s l h) h
-    (λ a k. ⊎-elim (λ e. rw e i) (λ m. m) (in-insert a s l .0 k)) (λ a k. in-insert a s l .1 (inr k))
-
 -- ---- one slot after another, in whatever order they come
 
 pub canon-snoc : (l : List (List ℕ)) (s : List ℕ) → canon (l ++ s ∷ []) ≡ insertSorted s (canon l)
@@ -147,29 +141,22 @@ canon-snoc l s = canon-members (l ++ s ∷ []) (s ∷ l) into back
     back a h = ⊎-elim (λ e. any-append-right (λ x. a ≡ x) l (s ∷ []) (inl e))
         (λ k. any-append-left (λ x. a ≡ x) l (s ∷ []) k) h
 
--- a list of slots put in grows by one at most, and never shrinks: once too many, always too many
-pub insert-length : (s : List ℕ) (l : List (List ℕ))
-    → (length l ≤ length (insertSorted s l)) × (length (insertSorted s l) ≤ suc (length l))
+-- a slot put in makes a list longer by one at most
+insert-length : (s : List ℕ) (l : List (List ℕ)) → length (insertSorted s l) ≤ suc (length l)
 unfolding insertSorted
-insert-length s [] = (omega arith, omega arith)
+insert-length s [] = omega arith
 insert-length s (x ∷ l) = by (compareWords s x) refl (insert-length s l)
   where
-    by : (o : Order) → compareWords s x ≡ o
-        → (length l ≤ length (insertSorted s l)) × (length (insertSorted s l) ≤ suc (length l))
-        → (length (x ∷ l) ≤ length (insertSorted s (x ∷ l))) × (length (insertSorted s (x ∷ l)) ≤ suc (length (x ∷ l)))
-    by below e ih = rw (insert-below s x l e) (omega arith, omega arith)
-    by same e ih = rw (insert-same s x l e) (omega arith, omega arith)
-    by above e ih = rw (insert-above s x l e) (omega arith, omega arith)
-
-pub canon-grows : (k l : List (List ℕ)) → length (canon l) ≤ length (canon (k ++ l))
-unfolding canon
-canon-grows [] l = omega arith
-canon-grows (s ∷ k) l = let a = canon-grows k l in let b = insert-length s (canon (k ++ l)) .0 in omega arith
+    by : (o : Order) → compareWords s x ≡ o → length (insertSorted s l) ≤ suc (length l)
+        → length (insertSorted s (x ∷ l)) ≤ suc (length (x ∷ l))
+    by below e ih = rw (insert-below s x l e) (omega arith)
+    by same e ih = rw (insert-same s x l e) (omega arith)
+    by above e ih = rw (insert-above s x l e) (omega arith)
 
 canon-few : (l : List (List ℕ)) → length (canon l) ≤ length l
 unfolding canon
 canon-few [] = omega arith
-canon-few (s ∷ l) = let a = canon-few l in let b = insert-length s (canon l) .1 in omega arith
+canon-few (s ∷ l) = let a = canon-few l in let b = insert-length s (canon l) in omega arith
 
 -- ---- the slots of residuals
 
