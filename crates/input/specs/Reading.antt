@@ -19,7 +19,7 @@ pub mod Laws
 -- n bytes stood in a buffer of that size, and `read` answered an integer. Negative: it failed, whatever stands there
 -- already. Else so many bytes more stand: the buffer is full; or there were none, and the input ended; or it goes on
 unfoldable pub afterRead : ℕ → ℕ → ℤ → Read
-afterRead size n (negsuc k) = Done Broken
+afterRead size n (negsuc k) = Done (Broken (record { failed = true }))
 afterRead size n (pos k) =
     cond (ltb (n + k) size)
     (cond (eqb k 0) (Done (Bytes (record { count = n; last = true }))) (More (n + k)))
@@ -33,4 +33,4 @@ pub record Parts (size : ℕ) (p : Part) : Type 0 where
 
 abbrev pub Fills : ℕ → Filled → Type 0
 Fills size (Bytes p) = Parts size p
-Fills size Broken = Unit
+Fills size (Broken f) = Unit

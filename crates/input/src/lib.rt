@@ -2,9 +2,10 @@
 //     fill      a lent buffer, filled with what comes next
 //     fail      the message that it could not be read
 // What one read leaves is decided in `reading`, and there alone a part of a buffer can be made that
-// is the input's last. `specs/Reading.antt` has the definitions.
+// is the input's last, and a failure. `specs/Reading.antt` has the definitions.
 mod reading;
 
+pub use reading::Failure;
 pub use reading::Filled;
 pub use reading::Part;
 ghost use lib.ListN.{length};

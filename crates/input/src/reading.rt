@@ -1,6 +1,6 @@
 // What one read leaves of a buffer that is being filled.
-//     Part, Filled     what a filled buffer holds
-//     after_read       by what `read` answered
+//     Part, Failure, Filled     what a filled buffer holds
+//     after_read                by what `read` answered
 ghost use Prim.Native.Nat.{_≤_};
 ghost use mathlib.Core.Path.{_≡_};
 ghost use Rattle.input.specs.Reading.{afterRead};
@@ -26,10 +26,15 @@ impl Part {
     }
 }
 
+// A read failed. Only `after_read` makes one: no other code can say so.
+pub struct Failure {
+    failed: bool,
+}
+
 // What a buffer holds; or that a read failed, and then nothing of it is to be judged.
 pub enum Filled {
     Bytes(Part),
-    Broken,
+    Broken(Failure),
 }
 
 // So many bytes stand, and there is room for more; or the buffer is not read into any more.
@@ -44,7 +49,7 @@ pub fn after_read(size: usize, n: usize, got: isize) -> Read
     ensures { λ r. ⌜ r ≡ afterRead size n got ⌝ }
 {
     if got < 0 {
-        return Read::Done(Filled::Broken);
+        return Read::Done(Filled::Broken(Failure { failed: true }));
     }
     let more = got as usize;
     if size - n <= more {

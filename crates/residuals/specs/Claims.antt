@@ -1,5 +1,5 @@
--- What is proved of residuals and their slots: statements only. The proofs are in `proofs/Theorems.antt`, under the same
--- names.
+-- What is proved of residuals and their slots: statements only. The proofs are in `proofs/Theorems.antt`, under the
+-- same names.
 --     CallsResolve        a call resolves to what the body does
 --     ResolvesBranches    resolving lists as many residuals as the term has branches
 --     SlotsOnce           slots ascend, each once
@@ -19,7 +19,7 @@ use Rattle.meaning.specs.Some.{Any}
 use Rattle.residuals.specs.Residual.{Residual, resolveDef, resolve}
 use Rattle.residuals.specs.Slots.{slotOf, slotsOf, Sorted}
 
--- 01, "Residuals": "call the settled body", "Memory is .. all 0 at a body's start": of a definition, and of a call's term
+-- 01, "Residuals": "call the settled body", "Memory is .. all 0 at a body's start": of a definition, of a call's term
 unfoldable pub CallsResolve : Type 0
 CallsResolve =
     (t : Table) → firstWrong t ≡ none

@@ -28,7 +28,8 @@ negative : {X : Type 0} → true ≡ false → X
 negative e = absurd (let z : _≡_ {A = ℕ} 0 1 = cc in omega arith)
 
 module _ (size n : ℕ) where
-  pub read-broken : (got : ℤ) → ltZ got (pos 0) ≡ true → Done Broken ≡ afterRead size n got
+  pub read-broken : (got : ℤ) → ltZ got (pos 0) ≡ true
+      → Done (Broken (record { failed = true })) ≡ afterRead size n got
   unfolding afterRead
   read-broken (pos k) e = absurd (omega (arith, ltb-true k 0 e))
   read-broken (negsuc k) e = refl
@@ -97,7 +98,7 @@ module _ (size n : ℕ) where
   pub done-fills : (got : ℤ) (f : Filled) → afterRead size n got ≡ Done f → Fills size f
   unfolding afterRead told
   done-fills (pos k) f h = done-by f k (ltb (n + k) size) (eqb k 0) refl h
-  done-fills (negsuc k) f h = let g : Broken ≡ f = cc in subst (Fills size) g tt
+  done-fills (negsuc k) f h = let g : Broken (record { failed = true }) ≡ f = cc in subst (Fills size) g tt
 
 pub fills-part : (size : ℕ) (f : Filled) → Fills size f → (p : Part) → f ≡ Bytes p → Parts size p
 fills-part size f h p e = subst (Fills size) e h

@@ -85,7 +85,8 @@ module _ (t : Table) where
   unfolding reachSum
   leaf-within n x m h = let e = reachAt-at n x h in omega arith
 
-  pair-within : (n : ℕ) (m : Memory) (j k : ℕ) (l r : Residual) → Within j l → Within k r → Within (j + k) (pair n m l r)
+  pair-within : (n : ℕ) (m : Memory) (j k : ℕ) (l r : Residual) → Within j l → Within k r
+      → Within (j + k) (pair n m l r)
   unfolding reachSum
   pair-within n m j k l r a b = omega arith
 

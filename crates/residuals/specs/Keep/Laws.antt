@@ -1,5 +1,5 @@
--- What may be said of the memory that a node keeps, whatever it keeps. A set reads one of four events, so those laws are
--- of terms whose parameters are in scope.
+-- What may be said of the memory that a node keeps, whatever it keeps. A set reads one of four events, so those laws
+-- are of terms whose parameters are in scope.
 --     keep-twice                      kept once, it is kept
 --     keep-prefix, keep-par           a set reads of it what it reads of the whole memory
 --     keep-closed, keep-closed-par    a term, a parallel's set, under it is the same as under the whole memory
