@@ -1,9 +1,10 @@
 /*
  * A runtime monitor for tables in the process algebra CSP_E, as a static library for C: the six operations of
- * document 01 (Read, Write, Start, Feed, Offer, View), and of document 02 the office's lot sheet (W2) and Try (W4).
- * `rt staticlib monitor_c` proves and writes it (target/staticlib/libmonitor_c.a, for x86-64 Linux). Each function is
- * proved to return, and to leave in every word that it is lent, what crates/words/specs defines (of cspe_sheet
- * crates/sheet_words/specs), on every input: no call has a condition but those below.
+ * document 01 (Read, Write, Start, Feed, Offer, View), and of document 02 the office's lot sheet (W2), Try (W4) and
+ * Feed in wash hours (W5). `rt staticlib monitor_c` proves and writes it (target/staticlib/libmonitor_c.a, for x86-64
+ * Linux). Each function is proved to return, and to leave in every word that it is lent, what crates/words/specs
+ * defines (of cspe_sheet crates/sheet_words/specs, of cspe_timed_feed crates/wash_words/specs), on every input: no call
+ * has a condition but those below.
  *
  * What is lent. Every buffer is the caller's, and is lent for one call: a pointer, and after it how many elements it
  * points to. A pointer is aligned for its type and is never NULL, also where its length is 0. A buffer that a call may
@@ -12,7 +13,8 @@
  * at the same time.
  *
  * Stack. 42 KiB were measured on most tables, and 58 KiB where eight leaves of a residual move together and each has
- * several results (tools/stack). No proof bounds it; a thread with 96 KiB has room.
+ * several results (tools/stack). A start in wash hours (cspe_timed_feed) has an array of 32 KiB more. No proof bounds
+ * it; a thread with 128 KiB has room.
  *
  * What is returned. Each function but cspe_view returns the refusal's number, 0 where there is none (enum
  * cspe_refusal). One more word is written through the last pointer on every call: the result, the
@@ -30,6 +32,15 @@
  *                       (docs/USING.md). It is at least
  *                       CSPE_RESIDUALS and at most the slots, else the record is refused (10)
  * A monitor is its record and areas 0 and 1. Between calls only the calls below write them.
+ *
+ * In wash hours (cspe_timed_feed) the record is CSPE_TIMED_RECORD_WORDS words: the CSPE_RECORD_WORDS above, which count
+ * since the last start, and then
+ *     CSPE_STARTED      0 before the first event, and then no other word of the record is read; 1 after it. A call that
+ *                       reads a record takes any word but 0 for started
+ *     CSPE_MINUTE       the last event's minute
+ * A record of zeros, with areas of zeros, is such a monitor before its first event: there is no call that starts it.
+ * Its first CSPE_RECORD_WORDS words, once it has started, are a record for cspe_offer, cspe_try and cspe_view, on the
+ * table in force at its minute.
  */
 #ifndef CSPE_MONITOR_H
 #define CSPE_MONITOR_H
@@ -42,7 +53,7 @@ extern "C" {
 #endif
 
 /* It goes up by one where the library changes for a caller; docs/CHANGELOG.md says how. */
-#define CSPE_VERSION 4
+#define CSPE_VERSION 5
 
 /* A table has at most so many bytes. */
 #define CSPE_TABLE_BYTES 16384
@@ -62,13 +73,21 @@ extern "C" {
 #define CSPE_FAILED 2
 #define CSPE_PLACE 3
 #define CSPE_PEAK 4
+/* The length of a record in wash hours, and the indices of the words that it has more. */
+#define CSPE_TIMED_RECORD_WORDS 7
+#define CSPE_STARTED 5
+#define CSPE_MINUTE 6
+/* The minutes of a week; the minutes that an event may bring are below CSPE_MINUTE_BOUND, 2^48. */
+#define CSPE_WEEK_MINUTES 10080
+#define CSPE_MINUTE_BOUND UINT64_C(281474976710656)
 /* The bytes of a line of a sheet: 48 characters and a line feed. */
 #define CSPE_SHEET_LINE_BYTES 49
 
 /*
  * The refusals, with document 01's words and their places. They are tried in this order: 1; 2; 3 to 5 at each number
  * from the left; 6; 7 from the left; 8; 9; 10; at each event 11, 12, 13. On a number list (all functions but
- * cspe_read) 4 is never met, and 2 is tried right after 9. cspe_sheet alone gives 14 and 15, and in another order.
+ * cspe_read) 4 is never met, and 2 is tried right after 9. cspe_sheet alone gives 14 and 15, and in another order;
+ * cspe_timed_feed alone gives 16 and 17, and its order stands with it.
  */
 enum cspe_refusal {
     CSPE_NONE = 0,
@@ -86,7 +105,9 @@ enum cspe_refusal {
     CSPE_COUNTER_FULL = 12,      /* counter full: 2^64 - 1 events were taken; place: the same */
     CSPE_CAPACITY_EXCEEDED = 13, /* crowded: more residuals than the areas have room for; place: the same, 0 at Start */
     CSPE_BAD_BOOK = 14,          /* bad book: a record of a lot book is not as it must be; place: its index, from 0 */
-    CSPE_TOTAL_TOO_LARGE = 15    /* total over 2^64 - 1: the sum of what a lot book's records took; place 0 */
+    CSPE_TOTAL_TOO_LARGE = 15,   /* total over 2^64 - 1: the sum of what a lot book's records took; place 0 */
+    CSPE_BAD_TIMETABLE = 16,     /* bad timetable: its windows are not as they must be; place 0 */
+    CSPE_CLOCK_BACK = 17         /* clock back: a minute below the last one, or 2^48 or more; place: as 11's */
 };
 
 /*
@@ -172,6 +193,39 @@ uint32_t cspe_try(const uint16_t *list, size_t list_length, const uint64_t *reco
                   uint64_t *further_record, size_t further_record_length, uint64_t *further0, size_t further0_length,
                   uint64_t *further1, size_t further1_length, const uint8_t *events, size_t events_length,
                   uint64_t *work, size_t work_length, uint64_t *place);
+
+/*
+ * Feed in wash hours: the monitor takes events, each with its minute, on one of two tables by a timetable.
+ *     everyday, wash          the number lists of two tables; the wash table is in force in the timetable's windows
+ *     windows                 the timetable: for each window the minute of the week at which it begins, 0 to 10,079,
+ *                             and the one at which it ends, up to 10,080 and not included. Windows are not empty,
+ *                             ascend and do not overlap; they may touch. Any number of windows, or none
+ *     record                  CSPE_TIMED_RECORD_WORDS words
+ *     area0, area1            with the record the monitor
+ *     events                  any number of events, or none
+ *     minutes                 as many minutes, one for each event: absolute, below CSPE_MINUTE_BOUND, and none below
+ *                             the one before. The remainder by CSPE_WEEK_MINUTES is the minute of the week
+ *     work                    CSPE_WORK_WORDS words, of any content
+ * The monitor starts with its first event, on the table in force at that minute. Where the table in force changes at
+ * any minute after the last event's, up to and including the present one's, it starts afresh on the table now in force,
+ * no event taken before; so it does where the table changes and changes back.
+ * 0           record and areas are the monitor after all events; *place is 0. Before the first event all words of
+ *             record and areas are 0
+ * 1 to 10, 16 record and areas are kept
+ * 11, 12, 13, 17
+ *             record and areas are the monitor after the events before the refused one, whose start, if one was due,
+ *             has not been made; *place is the number of these events, starts or not
+ * They are tried in this order: 1, also where events and minutes are not equally many; 2 to 9 of the everyday table,
+ * and of the wash table; 16; 10, on the table in force at the record's minute, and before the first event only whether
+ * the areas are zero; at each event 17, then 13 where a start is due and has more residuals than there are slots, then
+ * 11, 12 and 13 on the table and count so reached. On a refusal *place is its place; for 2 to 9 it does not say which
+ * table. The work area is zeroed, but kept on 1.
+ */
+uint32_t cspe_timed_feed(const uint16_t *everyday, size_t everyday_length, const uint16_t *wash, size_t wash_length,
+                         const uint16_t *windows, size_t windows_length, uint64_t *record, size_t record_length,
+                         uint64_t *area0, size_t area0_length, uint64_t *area1, size_t area1_length,
+                         const uint8_t *events, size_t events_length, const uint64_t *minutes, size_t minutes_length,
+                         uint64_t *work, size_t work_length, uint64_t *place);
 
 /*
  * Offer: which events may come next.

@@ -19,7 +19,10 @@ static size_t length;
 static uint64_t record[CSPE_RECORD_WORDS];
 static uint64_t area0[CSPE_AREA_WORDS_MOST], area1[CSPE_AREA_WORDS_MOST], work[CSPE_WORK_WORDS];
 static uint64_t further_record[CSPE_RECORD_WORDS], further0[CSPE_AREA_WORDS_MOST], further1[CSPE_AREA_WORDS_MOST];
+static uint64_t timed_record[CSPE_TIMED_RECORD_WORDS];
 static uint8_t events[1] = {0};
+static uint64_t minutes[1] = {0};
+static uint16_t windows[1];
 static uint32_t said;
 static uint64_t word;
 
@@ -90,6 +93,15 @@ static void *try_feed(void *unused) {
     return NULL;
 }
 
+/* The first event in wash hours, with its start; the list is both tables, and there are no windows. */
+static void *timed(void *unused) {
+    (void)unused;
+    said = cspe_timed_feed(list, length, list, length, windows, 0, timed_record, CSPE_TIMED_RECORD_WORDS, area0,
+                           CSPE_AREA_WORDS_MOST, area1, CSPE_AREA_WORDS_MOST, events, 1, minutes, 1, work,
+                           CSPE_WORK_WORDS, &word);
+    return NULL;
+}
+
 static void *offer(void *unused) {
     (void)unused;
     said = cspe_offer(list, length, record, CSPE_RECORD_WORDS, area0, CSPE_AREA_WORDS_MOST, area1,
@@ -122,6 +134,16 @@ static void show(const char *what, void *(*body)(void *), size_t base) {
            (unsigned long long)record[CSPE_TAKEN], (unsigned long long)record[CSPE_RESIDUALS]);
 }
 
+static void show_timed(const char *what, size_t base) {
+    memset(timed_record, 0, sizeof timed_record);
+    memset(area0, 0, sizeof area0);
+    memset(area1, 0, sizeof area1);
+    said = 99;
+    size_t bytes = touched(timed) - base;
+    printf("%-34s %7zu bytes, answer %u, taken %llu, residuals %llu\n", what, bytes, said,
+           (unsigned long long)timed_record[CSPE_TAKEN], (unsigned long long)timed_record[CSPE_RESIDUALS]);
+}
+
 int main(void) {
     size_t base = touched(nothing);
     head(16, 16, 31);
@@ -130,6 +152,7 @@ int main(void) {
     show("start, 32 definitions", start, base);
     show("feed, one prefix", feed, base);
     show("offer, one prefix", offer, base);
+    show_timed("timed feed, one prefix", base);
     for (int several = 0; several < 2; several++) {
         for (int leaves = 1; leaves <= 8; leaves *= 2) {
             char what[64];
@@ -137,6 +160,8 @@ int main(void) {
             start(NULL);
             snprintf(what, sizeof what, "feed, %d leaves, %s", leaves, several ? "several results" : "one result");
             show(what, feed, base);
+            snprintf(what, sizeof what, "timed feed, %d leaves, %s", leaves, several ? "several" : "one result");
+            show_timed(what, base);
         }
     }
     start(NULL);

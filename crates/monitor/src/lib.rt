@@ -10,3 +10,6 @@ pub use state::State;
 pub use state::Verdict;
 pub use state::view;
 pub use trying::try_feed;
+pub use wash_state::TimedAnswer;
+pub use wash_state::TimedState;
+pub use washing::timed_feed;

@@ -29,8 +29,8 @@ use Rattle.monitor_spec.specs.Stops.{Stops, StoppedAt, AnswersOne, Judge
 use Rattle.monitor_spec.proofs.Endings.{T-true, true-T, false-T, not-true, none-answer, some-answer}
 use Rattle.monitor_spec.proofs.Endings.{ending-given, ending-stopped, stops-out, stops-in}
 use Rattle.monitor_spec.proofs.Forms.{given-same, refused-same, stopped-same, refused-given, refused-stopped}
-use Rattle.monitor_spec.proofs.Peaks.{record-greatest}
-use Rattle.monitor_spec.proofs.Verdicts.{judged-running, fails-exactly}
+use Rattle.monitor_spec.specs.History.Peaks.{record-greatest}
+use Rattle.monitor_spec.specs.History.Verdicts.{judged-running, fails-exactly}
 
 append-cancel : (s u v : List ℕ) → s ++ u ≡ s ++ v → u ≡ v
 append-cancel [] u v e = e

@@ -14,7 +14,7 @@ use Rattle.monitor_spec.specs.Start.{startOf}
 use Rattle.monitor_spec.specs.Joined.{residualCount}
 use Rattle.monitor_spec.specs.Refusals.{StartRefused, wrong-length, bad-table, exceeded}
 use Rattle.monitor_spec.proofs.Endings.{T-true, true-T}
-use Rattle.monitor_spec.proofs.Gate.{measured-in, measured-out, is-table-in, is-table-out}
+use Rattle.monitor_spec.specs.Refusals.Laws.{measured-in, measured-out, is-table-in, is-table-out}
 use Rattle.monitor_spec.proofs.Starts.{refused-low, start-refused}
 
 table-same : (k l : List ℕ) (s t : Table) → accepted k s ≡ accepted l t → s ≡ t

@@ -16,7 +16,8 @@ use Rattle.monitor_spec.specs.Feed.{takeEvent, endingOf, feedOf}
 use Rattle.monitor_spec.specs.Feed.Laws.{feed-shut, feed-admits}
 use Rattle.monitor_spec.specs.Refusals.{CallRefused, WorkLeft}
 use Rattle.monitor_spec.proofs.Endings.{none-answer, some-answer}
-use Rattle.monitor_spec.proofs.Gate.{Lent, Held, entrance-1, entrance-table, entrance-10, entrance-open}
+use Rattle.monitor_spec.specs.Refusals.Laws.{Lent, Held}
+use Rattle.monitor_spec.proofs.Gate.{entrance-1, entrance-table, entrance-10, entrance-open}
 use Rattle.monitor_spec.proofs.Gate.{Gate, shut-1, shut-table, shut-10, clear, gate}
 use Rattle.monitor_spec.proofs.Gate.{refused-exactly}
 use Rattle.monitor_spec.proofs.Forms.{refused-same, refused-given, refused-stopped}

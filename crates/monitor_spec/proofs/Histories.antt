@@ -11,28 +11,22 @@ use Rattle.table.specs.Table.{Table}
 use Rattle.table.specs.Judge.{accepted, judgeList}
 use Rattle.meaning.specs.Figure1.{Term}
 use Rattle.meaning.specs.Figure2.{TraceSet, Model}
-use Rattle.meaning.specs.Models.{theorem3-model}
 use Rattle.monitor_spec.specs.Regular.{Regular}
 use Rattle.residuals.specs.Residual.{residualsOf}
-use Rattle.residuals.specs.Slots.{slotsOf}
 use Rattle.monitor_spec.specs.Fold.{Ended, through}
 use Rattle.monitor_spec.specs.Fold.Laws.{some-stopped}
-use Rattle.monitor_spec.specs.State.{Monitor, Outcome, workMeasured, slotCount, even, fill, laid}
-use Rattle.monitor_spec.specs.State.Areas.{choose-twice}
+use Rattle.monitor_spec.specs.State.{Monitor, Outcome, workMeasured, slotCount}
 use Rattle.monitor_spec.specs.Entering.{refusing}
 use Rattle.monitor_spec.specs.Feed.{takeEvent, endingOf, feedOf}
-use Rattle.monitor_spec.specs.Joined.{Call, residualCount, extend, joinCall, joined}
-use Rattle.monitor_spec.specs.Expected.{verdictOf, recordOf, monitorAfter}
-use Rattle.monitor_spec.specs.Expected.Records.{record-taken, record-count, record-verdict}
+use Rattle.monitor_spec.specs.Joined.{Call, extend, joinCall, joined}
+use Rattle.monitor_spec.specs.Expected.{recordOf, monitorAfter}
 use Rattle.monitor_spec.specs.Expected.Laid.{laid-count}
 use Rattle.monitor_spec.specs.Expected.Steps.{Fed, fed-sensible}
-use Rattle.monitor_spec.specs.History.{history, Fresh, start, GreatestOver, HoldsJust, Leaves, Eventful, Along}
-use Rattle.monitor_spec.specs.History.{AfterCalls}
+use Rattle.monitor_spec.specs.History.{history, Fresh, Leaves, Eventful, Along, AfterCalls}
 use Rattle.monitor_spec.specs.History.Laws.{extends, measured, feed-refused, feed-goes, fed-join, call-join}
 use Rattle.monitor_spec.specs.History.Laws.{history-joined, one-goes}
 use Rattle.monitor_spec.specs.History.Begun.{fresh-began}
-use Rattle.monitor_spec.proofs.Peaks.{record-greatest}
-use Rattle.monitor_spec.proofs.Verdicts.{start-formed, judged-running, judged-failed}
+use Rattle.monitor_spec.specs.History.After.{after-events}
 use Rattle.monitor_spec.proofs.Endings.{T-true, true-T, false-T, none-answer, some-answer, stops-out}
 use Rattle.monitor_spec.proofs.Endings.{stops-range}
 
@@ -40,27 +34,6 @@ use Rattle.monitor_spec.proofs.Endings.{stops-range}
 
 module _ (l ns : List ℕ) (t : Table) (says : judgeList l ≡ accepted ns t) (regular : Regular t) (H : Term → TraceSet)
     (model : Model t H) where
-  verdict-after : (n : ℕ) (s : List ℕ) → monitorAfter t n s .state .verdict ≡ verdictOf t s
-  unfolding monitorAfter laid
-  verdict-after n s = record-verdict t s
-
-  holds-after : (n : ℕ) (s : List ℕ) → HoldsJust n (residualsOf t s) (monitorAfter t n s)
-  unfolding monitorAfter laid
-  holds-after n s =
-      record {
-        number = record-count t s;
-        present = choose-twice (even (recordOf t s .taken)) (fill n (slotsOf (residualsOf t s))) (fill n []);
-        other = choose-twice (even (recordOf t s .taken)) (fill n []) (fill n (slotsOf (residualsOf t s)));
-      }
-
-  taken-after : (n : ℕ) (s : List ℕ) → monitorAfter t n s .state .taken ≡ length s
-  unfolding monitorAfter laid
-  taken-after n s = record-taken t s
-
-  peak-after : (n : ℕ) (s : List ℕ) → GreatestOver (residualCount t) s (monitorAfter t n s .state .peak)
-  unfolding monitorAfter laid
-  peak-after n s = record-greatest t s
-
   leaves-after : (n k : ℕ) (s : List ℕ) (o : Outcome)
       → o ≡ endingOf k (record { at = monitorAfter t n s; taken = length s; why = none })
       → Leaves o (monitorAfter t n s)
@@ -76,16 +49,8 @@ module _ (l ns : List ℕ) (t : Table) (says : judgeList l ≡ accepted ns t) (r
       → AfterCalls l t H n (monitorAfter t n []) (joined t n calls) (monitorAfter t n (joined t n calls))
   after-all n low high f calls =
       let s : List ℕ = joined t n calls in
-      let v = verdict-after n s in
-      let j = judged-running t regular H model s in
-      let c = theorem3-model t H model (regular .guarded) (start t) (start-formed t regular H model) s in
       record {
-        running-traces = (λ e. j .0 (sym v ∙ e), λ x. v ∙ j .1 x);
-        running-chains = (λ e. c .0 (j .0 (sym v ∙ e)), λ x. v ∙ j .1 (c .1 x));
-        otherwise = λ x. let (p, e, o) = judged-failed t regular H model s x in (p, v ∙ e, o);
-        taken = taken-after n s;
-        peak = peak-after n s;
-        holds = holds-after n s;
+        after = after-events t n s regular H model;
         one-call = λ work w. leaves-after n (length work) s (feedOf l (monitorAfter t n []) s work)
             (one-goes t regular n l ns says low high calls f work (T-true (workMeasured work) w));
       }

@@ -17,7 +17,7 @@ use Rattle.monitor_spec.specs.Feed.{takeEvent, feedOf}
 use Rattle.monitor_spec.specs.Joined.{Call}
 use Rattle.monitor_spec.specs.History.{callOn}
 use Rattle.monitor_spec.specs.History.Laws.{afterwards, after-ending, after-refusing}
-use Rattle.monitor_spec.proofs.Gate.{lent, measured-out, unmeasured-out, held-out}
+use Rattle.monitor_spec.specs.Refusals.Laws.{lent, measured-out, unmeasured-out, held-out}
 use Rattle.monitor_spec.proofs.Feeds.{on-1, on-open}
 
 module _ (l ns : List ℕ) (t : Table) (says : judgeList l ≡ accepted ns t) (regular : Regular t) (m : Monitor)

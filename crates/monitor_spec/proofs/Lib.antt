@@ -1,7 +1,5 @@
 -- The proofs of `specs/Claims.antt`: `Theorems` has one for each claim, from the others. Assumes nothing.
 pub mod Theorems
-pub mod Verdicts
-pub mod Peaks
 pub mod Forms
 pub mod Endings
 pub mod Exceeds

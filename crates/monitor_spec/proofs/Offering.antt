@@ -16,7 +16,7 @@ use Rattle.monitor_spec.specs.Offer.{Offered, offers, refused, OfferOutc
 use Rattle.monitor_spec.specs.Offer.{offerOf}
 use Rattle.monitor_spec.specs.Offer.Laws.{bits-tell, offer-shut, offer-admits}
 use Rattle.monitor_spec.specs.Refusals.{CallRefused, Offers, WorkLeft}
-use Rattle.monitor_spec.proofs.Gate.{is-table-in, is-table-out, accepts, Lent, Held}
+use Rattle.monitor_spec.specs.Refusals.Laws.{is-table-in, is-table-out, accepts, Lent, Held}
 use Rattle.monitor_spec.proofs.Gate.{entrance-1, entrance-table, entrance-10, entrance-open}
 use Rattle.monitor_spec.proofs.Gate.{Gate, shut-1, shut-table, shut-10, clear, gate}
 use Rattle.monitor_spec.proofs.Gate.{refused-exactly}

@@ -34,7 +34,7 @@ use Rattle.monitor_spec.specs.Expected.Steps.{Fed, fed-sensible}
 use Rattle.monitor_spec.specs.History.{start}
 use Rattle.monitor_spec.specs.History.Laws.{measured, after-consistent}
 use Rattle.monitor_spec.specs.Offers.{OffersJust}
-use Rattle.monitor_spec.proofs.Verdicts.{held-some}
+use Rattle.monitor_spec.specs.History.Verdicts.{held-some}
 
 some-slots : (ps : List Residual) → Some ps ↔ Some (slotsOf ps)
 some-slots [] = rw slots-none (λ h. h, λ h. h)

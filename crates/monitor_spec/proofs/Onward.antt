@@ -16,7 +16,7 @@ use Rattle.monitor_spec.specs.History.{Leaves}
 use Rattle.monitor_spec.specs.Progress.{Passes, HaltsAt, LeavesAt, FeedStops, FeedGives}
 use Rattle.monitor_spec.specs.Progress.Laws.{passes-ends, halts-ends, Course, passed, halted, course}
 use Rattle.monitor_spec.proofs.Forms.{given-same, stopped-same, refused-given, refused-stopped, given-stopped}
-use Rattle.monitor_spec.proofs.Gate.{is-table-in, is-table-out, accepts, Lent, Held}
+use Rattle.monitor_spec.specs.Refusals.Laws.{is-table-in, is-table-out, accepts, Lent, Held}
 use Rattle.monitor_spec.proofs.Feeds.{on-open, opens}
 
 monitor-same : (x y : Monitor) → x .state ≡ y .state → x .area0 ≡ y .area0 → x .area1 ≡ y .area1 → x ≡ y

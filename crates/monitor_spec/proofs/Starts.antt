@@ -31,8 +31,8 @@ use Rattle.monitor_spec.specs.History.Begun.{start-measured, begun, star
 use Rattle.monitor_spec.specs.Refusals.{Measured, StartRefused, wrong-length, bad-table, exceeded, Starts}
 use Rattle.monitor_spec.specs.Refusals.{WorkLeft}
 use Rattle.monitor_spec.proofs.Forms.{given-same, refused-same, refused-given}
-use Rattle.monitor_spec.proofs.Gate.{lent, measured-out, measured-in, unmeasured-in, unmeasured-out}
-use Rattle.monitor_spec.proofs.Gate.{is-table-in, is-table-out}
+use Rattle.monitor_spec.specs.Refusals.Laws.{lent, measured-out, measured-in, unmeasured-in, unmeasured-out}
+use Rattle.monitor_spec.specs.Refusals.Laws.{is-table-in, is-table-out}
 
 -- the table layer's refusals are 2 to 9
 pub refused-low : (l : List ℕ) (n p : ℕ) → Refused l n p → n ≤ 9

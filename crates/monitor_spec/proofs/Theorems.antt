@@ -51,7 +51,7 @@ use Rattle.monitor_spec.proofs.Onward.{feed-stops, feed-gives}
 use Rattle.monitor_spec.proofs.Offering as offering
 use Rattle.monitor_spec.proofs.Exceeds.{start-exceeds-exactly}
 use Rattle.monitor_spec.proofs.Histories.{reached, history-holds}
-use Rattle.monitor_spec.proofs.Verdicts.{held-some}
+use Rattle.monitor_spec.specs.History.Verdicts.{held-some}
 use Rattle.monitor_spec.proofs.Answers.{answers-one, judges-one}
 use Rattle.monitor_spec.proofs.Offers.{offers-after, views-after}
 use Rattle.monitor_spec.proofs.Keeps.{call-keeps}

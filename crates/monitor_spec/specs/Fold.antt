@@ -3,11 +3,15 @@
 --     through           the fold over one list
 --     took              the elements that it took
 --     restarts, joins   over a list of lists: where it ends, and all that were taken
--- The law, `restarts-join`, is in `Fold/Laws.antt`. Assumes nothing.
+--     extendBy, extendAll   a list with the elements of another, and of each of several, up to the first that halts
+-- The law, `restarts-join`, is in `Fold/Laws.antt`; that of a fold along such a list in `Fold/Joined.antt`. Assumes
+-- nothing.
 use Prim.Native.Nat.{ℕ, suc}
+use mathlib.Core.Bool.{Bool, true, false}
 use mathlib.Core.List.{List, [], _∷_, _++_}
 use mathlib.Core.Option.{Option, none, some}
 pub mod Laws
+pub mod Joined
 
 module _ (C : Type 0) where
   pub data Step : Type 0 where
@@ -36,3 +40,12 @@ module _ {C E : Type 0} (step : C → E → Step C) where
   unfoldable pub joins : C → List (List E) → List E
   joins c [] = []
   joins c (es ∷ ess) = took c es ++ joins ((through c 0 es) .at) ess
+
+module _ {E : Type 0} (halts : List E → E → Bool) where
+  unfoldable pub extendBy : List E → List E → List E
+  extendBy s [] = s
+  extendBy s (e ∷ es) = elim (halts s e) [ true ↦ s | false ↦ extendBy (s ++ e ∷ []) es ]
+
+  unfoldable pub extendAll : List E → List (List E) → List E
+  extendAll s [] = s
+  extendAll s (es ∷ ess) = extendAll (extendBy s es) ess

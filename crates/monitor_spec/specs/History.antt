@@ -6,8 +6,10 @@
 --     HoldsJust, Leaves    count, present area and other area are those of residuals; record and areas are an
 --                          outcome's
 --     Eventful, Along      no call of a list is refused with 2 to 10
+--     AfterEvents          what demand 3 says of the monitor by the events since its start
 --     AfterCalls           all that demand 3 says of the monitor after the calls
--- The laws are in `History/`: `Laws`; `Begun`, of what Start gives. Assumes nothing.
+-- The laws are in `History/`: `Laws`; `Begun`, of what Start gives; `Verdicts`, `Peaks` and `After`, of what a list
+-- calls for. Assumes nothing.
 use Prim.Native.Nat.{ℕ, _≤_, _<_}
 use mathlib.Core.Path.{_≡_}
 use mathlib.Core.List.{List, [], _∷_}
@@ -27,6 +29,9 @@ use Rattle.monitor_spec.specs.Feed.{feedOf}
 use Rattle.monitor_spec.specs.Joined.{Call, residualCount}
 pub mod Laws
 pub mod Begun
+pub mod Verdicts
+pub mod Peaks
+pub mod After
 
 -- "After a refusal without a record, the record that went in stands."
 unfoldable pub standing : State → Answer → State
@@ -95,9 +100,8 @@ abbrev pub Along : List ℕ → Monitor → List Call → Type 0
 Along l m [] = Unit
 Along l m (c ∷ cs) = Eventful (c .work) (feedOf l m (c .events) (c .work) .answer) × Along l (callOn l m c) cs
 
--- of the joined events s and the monitor m after the calls
-pub record AfterCalls (l : List ℕ) (t : Table) (H : Term → TraceSet) (n : ℕ) (fresh : Monitor) (s : List ℕ)
-    (m : Monitor) : Type 0 where
+-- of the events s joined since a start on the table t, with n slots, and the monitor m after them
+pub record AfterEvents (t : Table) (H : Term → TraceSet) (n : ℕ) (s : List ℕ) (m : Monitor) : Type 0 where
   -- "the monitor is running exactly when the trace set holds the joined events"
   pub running-traces : (m .state .verdict ≡ running) ↔ H (start t) s
   -- "and exactly when some such chain emits them": one that "ends in a term not doomed"
@@ -110,6 +114,11 @@ pub record AfterCalls (l : List ℕ) (t : Table) (H : Term → TraceSet) (n : �
   pub peak : GreatestOver (residualCount t) s (m .state .peak)
   -- "and the monitor holds just their residuals"
   pub holds : HoldsJust n (residualsOf t s) m
+
+-- of the joined events s and the monitor m after the calls
+pub record AfterCalls (l : List ℕ) (t : Table) (H : Term → TraceSet) (n : ℕ) (fresh : Monitor) (s : List ℕ)
+    (m : Monitor) : Type 0 where
+  pub after : AfterEvents t H n s m
   -- "Record and both areas equal what one feeding call on them all, from the same fresh monitor, leaves"; 01: "The
   -- one call that it compares with has a work area of the right length"
   pub one-call : (work : List ℕ) → T (workMeasured work) → Leaves (feedOf l fresh s work) m

@@ -6,7 +6,7 @@
 --     CallRefused      the refusals of Feed and Offer before an event: 1, 2 to 9, 10
 --     Offers           the word that Offer gives
 --     WorkLeft         what stands in the work area after a call
--- What Feed does with its events is in `Progress.antt`. Assumes nothing.
+-- The laws are in `Refusals/Laws.antt`. What Feed does with its events is in `Progress.antt`. Assumes nothing.
 use Prim.Native.Nat.{ℕ, _/_, _%_, _^_, _≤_, _<_}
 use mathlib.Core.Path.{_≡_}
 use mathlib.Core.List.{List, []}
@@ -25,6 +25,7 @@ use Rattle.monitor_spec.specs.State.{running, failedAt, Monitor, slotCou
 use Rattle.monitor_spec.specs.Joined.{residualCount}
 use Rattle.monitor_spec.specs.Expected.{ifNone}
 use Rattle.monitor_spec.specs.Sensible.{Laid}
+pub mod Laws
 
 -- 01, "Operations": "Lent areas 0 and 1: u64 words, equal lengths, a multiple of 16 from 16 to 4,096. The work area,
 -- .., is 8,192 u64 words"

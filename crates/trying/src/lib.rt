@@ -3,4 +3,5 @@
 mod copy;
 mod trier;
 
+pub use copy::copy_words;
 pub use trier::try_feed;

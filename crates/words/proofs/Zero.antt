@@ -1,12 +1,12 @@
 -- The number returned is 0 exactly where the operation refused nothing: no refusal's number is 0. Assumes nothing.
-use Prim.Native.Nat.{ℕ, suc}
+use Prim.Native.Nat.{ℕ}
 use native.Mathlib.Omega.{arith}
 use mathlib.Core.Path.{_≡_, refl, subst}
 use mathlib.Core.Bool.{Bool, true, false, cond, _&&_}
-use mathlib.Core.List.{List, [], _∷_, _++_}
+use mathlib.Core.List.{List, [], _++_}
 use mathlib.Core.Option.{Option, none, some}
 use lib.ListN.{length, drop}
-use lib.Dec.{T, eqb, ltb, leb}
+use lib.Dec.{eqb, ltb, leb}
 use borrow.Author.Tests.{ne-eqb}
 use Rattle.numbers.specs.Number.{Bytes, listBytes}
 use Rattle.table.specs.Table.{Table}
@@ -14,21 +14,20 @@ use Rattle.table.specs.Judge.{Judgement, accepted, declined, judgeList, judgeBy
 use Rattle.table.specs.Operations.{done, refusal, Outcome, zeros, measured, readJudged, readOf, writeJudged, writeOf}
 use Rattle.monitor_spec.specs.State as state
 use Rattle.monitor_spec.specs.State.{Monitor, areasMeasured, workMeasured, slotCount}
-use Rattle.residuals.specs.Residual.{Residual, residualsOf}
+use Rattle.residuals.specs.Residual.{residualsOf}
 use Rattle.residuals.specs.Slots.{slotsOf}
-use Rattle.monitor_spec.specs.Fold.{Step, went, stops, Ended, through}
+use Rattle.monitor_spec.specs.Fold.{Ended}
 use Rattle.monitor_spec.specs.Start.{startAccepted, startOf}
 use Rattle.monitor_spec.specs.Start.Laws.{start-shut, start-admits}
 use Rattle.monitor_spec.specs.Feed.{takeEvent, endingOf, feedOf}
-use Rattle.monitor_spec.specs.Feed.Laws.{EventCase, meets, passes, event-case, metBy, take-refused}
-use Rattle.monitor_spec.specs.Feed.Laws.{take-passes, feed-shut, feed-admits}
+use Rattle.monitor_spec.specs.Feed.Laws.{feed-shut, feed-admits}
 use Rattle.monitor_spec.specs.Try.{furtherMeasured, onCopy, tryOf}
 use Rattle.monitor_spec.specs.Try.Laws.{try-alike, try-unlike}
 use Rattle.monitor_spec.specs.Entering.{Entrance, shut, admits, entrance, entranceOn, refusing}
 use Rattle.monitor_spec.specs.Entering.Laws.{shut-all, on-all}
 use Rattle.monitor_spec.specs.Offer.{OfferOutcome, offering, offerOf}
 use Rattle.monitor_spec.specs.Offer.Laws.{offer-shut, offer-admits}
-use Rattle.monitor_spec.specs.Progress.{Meets, unknown, full, exceeded}
+use Rattle.words.specs.Nonzero.{list-some, bytes-some, Why, event-stop, through-why}
 use Rattle.words.specs.Words.{recordMeasured}
 use Rattle.words.specs.Tables as tables
 use Rattle.words.specs.Tables.{isDone, tableCall, readCall, writeCall}
@@ -36,7 +35,6 @@ use Rattle.words.specs.Calls.{numberOf, isGiven, monitorCall, monitorIn,
 use Rattle.words.specs.Calls.{tryCall}
 use Rattle.words.specs.Calls.{offerNumber, isOffered, offerCall}
 use Rattle.words.specs.Calls as calls
-use Rattle.words.proofs.Declined.{list-some, bytes-some}
 
 -- ---- Read and Write
 
@@ -114,42 +112,7 @@ start-zero l r a b w = go (recordMeasured r) refl
     go true e = rw (e, startCall) (start-said l a b w)
     go false e = rw (e, startCall)
 
--- ---- Feed: an event stops with 11, 12 or 13
-
-abbrev Why : Option ℕ → Type 0
-Why none = T true
-Why (some n) = n ≡ 0 → ⊥
-
-abbrev Stop : Step Monitor → Type 0
-Stop (went m) = T true
-Stop (stops n) = n ≡ 0 → ⊥
-
-meets-why : {t : Table} {cap k : ℕ} {rs : List Residual} {e n : ℕ} → Meets t cap k rs e n → n ≡ 0 → ⊥
-meets-why (unknown a) h = omega arith
-meets-why (full a b) h = omega arith
-meets-why (exceeded a b c) h = omega arith
-
-case-why : {t : Table} {cap k : ℕ} {rs : List Residual} {e : ℕ} {o : Option ℕ} → EventCase t cap k rs e o → Why o
-case-why (meets n x) = meets-why x
-case-why (passes a b c) = tt
-
-event-stop : (t : Table) (m : Monitor) (e : ℕ) → Stop (takeEvent t m e)
-event-stop t m e = go (metBy t m e) refl
-  where
-    go : (o : Option ℕ) → metBy t m e ≡ o → Stop (takeEvent t m e)
-    go none h = rw (take-passes t m e h) tt
-    go (some n) h = rw (take-refused t m e n h) (subst Why h (case-why (event-case t _ _ _ e)))
-
-through-why : (t : Table) (es : List ℕ) (m : Monitor) (k : ℕ) → Why (through (takeEvent t) m k es .why)
-unfolding through
-through-why t [] m k = tt
-through-why t (e ∷ es) m k = go (takeEvent t m e) refl (λ d. through-why t es d (suc k))
-  where
-    go : (x : Step Monitor) → takeEvent t m e ≡ x
-        → ((d : Monitor) → Why (through (takeEvent t) d (suc k) es .why))
-        → Why (through (takeEvent t) m k (e ∷ es) .why)
-    go (went d) h later = rw (h, through) (later d)
-    go (stops n) h later = rw (h, through) (subst Stop h (event-stop t m e))
+-- ---- Feed
 
 ending-said : (n : ℕ) (x : Ended Monitor) → Why (x .why) → Said (endingOf n x)
 unfolding endingOf numberOf isGiven
@@ -171,7 +134,8 @@ feed-said l m es w = go (entranceOn l m w) refl
   where
     go : (x : Entrance) → entranceOn l m w ≡ x → Said (feedOf l m es w)
     go (shut n p v) e = rw (feed-shut l m es w n p v e) (on-some l m w n p v e)
-    go (admits t) e = rw (feed-admits l m es w t e) (ending-said (length w) _ (through-why t es m 0))
+    go (admits t) e =
+        rw (feed-admits l m es w t e) (ending-said (length w) _ (through-why (takeEvent t) (event-stop t) es m 0))
 
 pub feed-zero : (l r a b es w : List ℕ)
     → eqb (feedCall l r a b es w .number) 0

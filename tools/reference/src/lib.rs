@@ -11,6 +11,7 @@
 //     cases        the test data file                      summary     what its test prints
 //     monitor      residuals, Start, Feed, Offer, View, and the test data of histories
 //     sheet        the lot sheet (02, W2), and its test data
+//     wash         wash hours (02, W5), and their test data
 
 pub mod case;
 pub mod cases;
@@ -27,6 +28,7 @@ pub mod role;
 pub mod sheet;
 pub mod summary;
 pub mod table;
+pub mod wash;
 pub mod worked;
 
 #[cfg(test)]

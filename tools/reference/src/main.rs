@@ -59,6 +59,13 @@ reference: another implementation of the CSP_E line monitor, for test answers
     reference sheets-summary FILE
         Prints the same of a file of lot books.
 
+    reference washes --seed N --count M
+        Writes test data of the wash hours to standard output: the histories worked by hand, and
+        about M drawn at random. The same seed and count give the same file.
+
+    reference washes-summary FILE
+        Prints the same of a file of calls in wash hours.
+
     reference --help
         Prints this text.
 ";
@@ -94,6 +101,9 @@ fn main() -> ExitCode {
         ["sheets", options @ ..] => written("sheets", options, reference::sheet::cases::file),
         ["sheets-summary", file] => summary(file, reference::sheet::cases::summary),
         ["sheets-summary", ..] => Err("sheets-summary takes one file".to_string()),
+        ["washes", options @ ..] => written("washes", options, reference::wash::histories::file),
+        ["washes-summary", file] => summary(file, reference::wash::histories::summary),
+        ["washes-summary", ..] => Err("washes-summary takes one file".to_string()),
         [] => Err("a command is missing".to_string()),
         [command, ..] => Err(format!("`{command}` is not a command")),
     };

@@ -22,6 +22,8 @@ pub const COUNTER_FULL: u8 = 12;
 pub const CAPACITY_EXCEEDED: u8 = 13;
 pub const BAD_BOOK: u8 = 14; // 02, W2
 pub const TOTAL_TOO_LARGE: u8 = 15;
+pub const BAD_TIMETABLE: u8 = 16; // 02, W5
+pub const CLOCK_BACK: u8 = 17;
 
 // The refusal of this number, as the answer of an operation.
 pub fn refuse<T>(number: u8, place: usize) -> Result<T, Refusal> {
@@ -46,6 +48,8 @@ pub fn word(number: u8) -> &'static str {
         CAPACITY_EXCEEDED => "crowded",
         BAD_BOOK => "bad book",
         TOTAL_TOO_LARGE => "total over 2^64-1",
+        BAD_TIMETABLE => "bad timetable",
+        CLOCK_BACK => "clock back",
         _ => "not a refusal",
     }
 }

@@ -151,3 +151,23 @@ module _ {C E : Type 0} (step : C → E → Step C) where
           → took step c (took step c (e ∷ es)) ≡ took step c (e ∷ es)
       by (went d) p ih = rw (took-went c d e es p) (took-went c d e (took step d es) p ∙ ap (e ∷_) (ih d))
       by (stops n) p ih = rw (took-stops c n e es p)
+
+  -- one element more
+  pub fold-snoc : (es : List E) (c d f : C) (k j : ℕ) (e : E)
+      → through step c k es ≡ record { at = d; taken = j; why = none } → step d e ≡ went f
+      → through step c k (es ++ e ∷ []) ≡ record { at = f; taken = suc j; why = none }
+  unfolding through
+  fold-snoc [] c d f k j e h p =
+      through-went c f k e [] (ap (λ (x : Ended C). step (x .at) e) h ∙ p)
+      ∙ ap (λ (x : Ended C). record { at = f; taken = suc (x .taken); why = none }) h
+  fold-snoc (x ∷ es) c d f k j e h p = by (step c x) refl (λ z. fold-snoc es z d f (suc k) j e)
+    where
+      by : (y : Step C) → step c x ≡ y
+          → ((z : C) → through step z (suc k) es ≡ record { at = d; taken = j; why = none } → step d e ≡ went f
+          → through step z (suc k) (es ++ e ∷ []) ≡ record { at = f; taken = suc j; why = none })
+          → through step c k (x ∷ es ++ e ∷ []) ≡ record { at = f; taken = suc j; why = none }
+      by (went z) q ih =
+          through-went c z k x (es ++ e ∷ []) q ∙ ih z (sym (through-went c z k x es q) ∙ h) p
+      by (stops n) q ih = absurd
+          (let w : some n ≡ none = ap (λ (y : Ended C). y .why) (sym (through-stops c k n x es q) ∙ h) in
+          let z : _≡_ {A = ℕ} 0 1 = cc in omega arith)

@@ -1,5 +1,6 @@
 -- On a monitor laid out of proper residuals, events that meet none of 11, 12 and 13 lead to the monitor that they call
 -- for, and the first that meets one stops the fold there.
+--     pass-went, meets-stops                  what one event comes to
 --     passes-then, passes-ends, halts-ends    what a fold comes to
 --     Course, course                          it comes to one of these
 -- Assumes nothing.
@@ -38,11 +39,11 @@ module _ (t : Table) (regular : Regular t) (n : ℕ) where
   abbrev after : State → List Residual → ℕ → State
   after s rs e = stateAfter s (length (slotsOf (afterAll t e rs)))
 
-  now-onward : (s : State) (rs : List Residual) → Sensible t n s rs → M s rs ≡ monitorOnward t n s rs []
+  pub now-onward : (s : State) (rs : List Residual) → Sensible t n s rs → M s rs ≡ monitorOnward t n s rs []
   unfolding monitorOnward run
   now-onward s rs ok = ap (λ (x : State). M x rs) (sym (onward-now t s rs (ok .agrees) (ok .counted)))
 
-  next-onward : (s : State) (rs : List Residual) (e : ℕ) (es : List ℕ) → Sensible t n s rs
+  pub next-onward : (s : State) (rs : List Residual) (e : ℕ) (es : List ℕ) → Sensible t n s rs
       → monitorOnward t n (after s rs e) (afterAll t e rs) es ≡ monitorOnward t n s rs (e ∷ es)
   unfolding monitorOnward run
   next-onward s rs e es ok =
@@ -50,7 +51,7 @@ module _ (t : Table) (regular : Regular t) (n : ℕ) where
 
   -- ---- one event
 
-  pass-went : (s : State) (rs : List Residual) (e : ℕ) → Sensible t n s rs → e < t .alphabet
+  pub pass-went : (s : State) (rs : List Residual) (e : ℕ) → Sensible t n s rs → e < t .alphabet
       → (s .taken ≡ counterMost → ⊥) → length (slotsOf (afterAll t e rs)) ≤ n
       → takeEvent t (M s rs) e ≡ went (M (after s rs e) (afterAll t e rs))
   unfolding sift
@@ -63,7 +64,7 @@ module _ (t : Table) (regular : Regular t) (n : ℕ) where
         sift,
       )
 
-  meets-stops : (s : State) (rs : List Residual) (e number : ℕ) → Sensible t n s rs
+  pub meets-stops : (s : State) (rs : List Residual) (e number : ℕ) → Sensible t n s rs
       → Meets t n (s .taken) rs e number → takeEvent t (M s rs) e ≡ stops number
   unfolding sift
   meets-stops s rs e number ok (unknown a) = laid-sift t regular n s rs ok e ∙ rw (le-leb (t .alphabet) e a, sift)
@@ -86,7 +87,7 @@ module _ (t : Table) (regular : Regular t) (n : ℕ) where
   abbrev ended : Monitor → ℕ → Option ℕ → Ended Monitor
   ended m j why = record { at = m; taken = j; why = why }
 
-  passes-sensible : (es : List ℕ) (s : State) (rs : List Residual) → Sensible t n s rs → Passes t n (s .taken) rs es
+  pub passes-sensible : (es : List ℕ) (s : State) (rs : List Residual) → Sensible t n s rs → Passes t n (s .taken) rs es
       → Sensible t n (recordOnward t s rs es) (run t rs es)
   unfolding run stateAfter counted holding
   passes-sensible [] s rs ok p = rw (onward-now t s rs (ok .agrees) (ok .counted)) ok

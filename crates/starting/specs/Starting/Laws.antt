@@ -1,6 +1,7 @@
 -- Start: one law per way out.
 --     areas-cleared                                      areas of the right lengths, all zero
---     last-resolves, started-given, started-exceeded     an accepted table
+--     is-last, known, last-resolves                      the last definition of an accepted table
+--     started-given, started-exceeded                    its Start
 --     start-enters, start-declined, start-accepted       any list and any lengths
 -- Assumes nothing.
 use Prim.Native.Nat.{ℕ, _-_, _*_, _%_, _<_, _≤_}
@@ -69,11 +70,11 @@ areas-cleared a b e =
 
 module _ {l w : List ℕ} (x : Indexed l w) (d n : ℕ) (en : n ≡ length (tableIn l .definitions)) (pos : 1 ≤ n)
     (ed : d ≡ n - 1) where
-  is-last : d ≡ last (tableIn l)
+  pub is-last : d ≡ last (tableIn l)
   unfolding bodyCount
   is-last = omega arith
 
-  known : d < bodyCount (tableIn l)
+  pub known : d < bodyCount (tableIn l)
   unfolding bodyCount
   known = omega arith
 

@@ -28,7 +28,7 @@ pub struct Outcome<T> {
 
 // "Lent areas 0 and 1: u64 words, equal lengths, a multiple of 16 from 16 to 4,096. The work
 // area .. is 8,192 u64 words"
-fn measured(areas: &Areas, work_len: usize) -> bool {
+pub(crate) fn measured(areas: &Areas, work_len: usize) -> bool {
     let length = areas[0].len();
     areas[1].len() == length
         && length % SLOT == 0
@@ -125,7 +125,7 @@ pub fn feed(
 }
 
 // One event: the record and the residuals after it, or the number of its refusal.
-fn take(
+pub(crate) fn take(
     terms: &Terms,
     record: Record,
     residuals: &Residuals,

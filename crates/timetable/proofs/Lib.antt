@@ -1,0 +1,2 @@
+-- The claims of this crate, proved. Assumes nothing.
+pub mod Theorems
