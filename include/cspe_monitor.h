@@ -13,8 +13,8 @@
  * at the same time.
  *
  * Stack. 42 KiB were measured on most tables, and 58 KiB where eight leaves of a residual move together and each has
- * several results (tools/stack). A start in wash hours (cspe_timed_feed) has an array of 32 KiB more. No proof bounds
- * it; a thread with 128 KiB has room.
+ * several results (tools/stack). A start in wash hours (cspe_timed_feed) has an array of 32 KiB more: 75 and 91 KiB
+ * were measured. No proof bounds it; a thread with 128 KiB has room.
  *
  * What is returned. Each function but cspe_view returns the refusal's number, 0 where there is none (enum
  * cspe_refusal). One more word is written through the last pointer on every call: the result, the

@@ -18,7 +18,7 @@ use Rattle.monitor_spec.specs.Expected.{monitorOnward}
 use Rattle.monitor_spec.specs.Sensible.{Laid}
 use Rattle.monitor_spec.specs.Refusals.{IsTable}
 use Rattle.monitor_spec.specs.Progress.{Meets, Passes}
-use Rattle.timetable.specs.Timetable.{minuteBound, Changes}
+use Rattle.timetable.specs.Timetable.{Changes}
 use Rattle.timetable.specs.Windows.{Windows}
 use Rattle.wash_spec.specs.Timed.{TimedState, notStarted, started, TimedMonitor, plain, stamped, stopped}
 use Rattle.wash_spec.specs.Timed.{TimedOutcome}
@@ -31,8 +31,8 @@ pub mod Lists
 
 -- "17 clock back, a minute below the last or 2^48 or more"
 abbrev pub ClockBack : TimedState → ℕ → Type 0
-ClockBack notStarted now = minuteBound ≤ now
-ClockBack (started s last) now = (now < last) ⊎ (minuteBound ≤ now)
+ClockBack notStarted now = 281474976710656 ≤ now
+ClockBack (started s last) now = (now < last) ⊎ (281474976710656 ≤ now)
 
 -- "The monitor starts with its first event"; "If the drawing in force changes at any minute after the last event's, up
 -- to and including the present one's, the monitor starts afresh"

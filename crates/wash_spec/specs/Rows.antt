@@ -1,6 +1,7 @@
 -- Worked calls in wash hours (ours, from 02, W5): whole outcomes with every lent word, beside what is expected.
---     Left, calls    what a call leaves;  RowsStand: that each leaves what is expected
--- Table B of document 01 is the everyday one; the tables of the wash hours are `rinse`, `forked` and `twofold`.
+--     Left    what a call leaves;  RowsStand: that each leaves what is expected
+-- Table B of document 01 is the everyday one, but in one row `twofold`; the tables of the wash hours are `rinse`,
+-- `forked` and `twofold`.
 -- Assumes nothing.
 use Prim.Native.Nat.{ℕ}
 use mathlib.Core.Path.{_≡_}
@@ -71,7 +72,7 @@ leaves o r x y w = record { got = o; expected = record { answer = r; area0 = x; 
 abbrev goes : List ℕ → List ℕ → TimedMonitor → List ℕ → List ℕ → TimedAnswer → List ℕ → List ℕ → Left
 goes l ws m es ms r x y = leaves (timedOf tableB l ws m es ms (sevens 8192)) r x y (zeros 8192)
 
--- the residual of `rinse`, after one event and after two
+-- what stands after an odd number of events on `rinse`
 abbrev rinsed : List ℕ → List ℕ → List ℕ → TimedState → Left
 rinsed ws es ms s = goes rinse ws fresh es ms (given s) (zeros 16) (oneNode 0)
 
@@ -115,11 +116,12 @@ started-rows =
 abbrev pub refused-rows : List Left
 refused-rows =
     -- 17: "a minute below the last or 2^48 or more", checked before crowded settling and 11; what stood still stands
-    goes rinse hour fresh (9 ∷ []) (minuteBound ∷ []) (stopped 17 0 notStarted) (zeros 16) (zeros 16)
+    goes rinse hour fresh (9 ∷ []) (281474976710656 ∷ []) (stopped 17 0 notStarted) (zeros 16) (zeros 16)
     ∷ goes forked hour (after 59) (9 ∷ []) (58 ∷ []) (stopped 17 0 (first 59)) (zeros 16) (oneNode (word 1 0))
-    ∷ goes forked hour (after 59) (9 ∷ []) (281474976710720 ∷ []) (stopped 17 0 (first 59)) (zeros 16)
+    ∷ goes forked hour (after 59) (9 ∷ []) (281474976716700 ∷ []) (stopped 17 0 (first 59)) (zeros 16)
     (oneNode (word 1 0))
-    -- a stored minute of 2^48 or more is read on its remainder
+    -- a stored minute of 2^48 or more is read on its remainder, here 60; every event is then 17
+    ∷ goes rinse hour (after 281474976716700) [] [] (refused 10 0) (zeros 16) (oneNode (word 1 0))
     ∷ goes rinse hour (after minuteBound) (1 ∷ []) (minuteBound ∷ []) (stopped 17 0 (first minuteBound)) (zeros 16)
     (oneNode (word 1 0))
     -- crowded settling, before 11: record, areas and minute are those of before; so before the first event

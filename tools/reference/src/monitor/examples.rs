@@ -214,7 +214,6 @@ mod tests {
     use crate::monitor::history::History;
     use crate::monitor::program::{line, peak};
     use crate::numbers::{bytes_of, bytes_of_list};
-    use std::time::{Duration, Instant};
 
     // The line of the program, where the example is lent 256 slots.
     fn program_line(list: &[u16], events: &[u8]) -> String {
@@ -225,7 +224,6 @@ mod tests {
     #[test]
     fn lines_worked_by_hand() {
         for (i, Example { list, slots, events, line }) in all().into_iter().enumerate() {
-            let began = Instant::now();
             if slots == 256 {
                 assert_eq!(program_line(&list, &events), line, "example {i}");
             }
@@ -245,7 +243,6 @@ mod tests {
                 history.known_line(line);
             }
             assert_eq!(history.wrong, None, "example {i}");
-            assert!(began.elapsed() < Duration::from_secs(5), "example {i}");
         }
     }
 

@@ -216,6 +216,8 @@ pub fn crowded_starts(history: &mut History) {
     history.known_not_started();
     refused(history, 255, 199, CAPACITY_EXCEEDED);
     refused(history, 255, MINUTES, CLOCK_BACK);
+    // a minute of the wash hours, by its remainder
+    refused(history, 255, MINUTES + 6_084, CLOCK_BACK);
     history.known_not_started();
     taken(history, 0, 99, running(1, 1, 1));
     refused(history, 0, 100, CAPACITY_EXCEEDED);
@@ -311,6 +313,7 @@ pub fn order(history: &mut History) {
     let zero = [vec![0; 16], vec![0; 16]];
     history.restore(Timed::Started { record: failed(u64::MAX, 0, 0), minute: 70 }, &zero);
     refused(history, 255, 69, CLOCK_BACK);
+    refused(history, 255, MINUTES + 6_084, CLOCK_BACK);
     refused(history, 255, 100, CAPACITY_EXCEEDED);
     refused(history, 255, 99, UNKNOWN_EVENT);
     refused(history, 2, 99, COUNTER_FULL);
