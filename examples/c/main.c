@@ -14,15 +14,11 @@
 #include <string.h>
 
 #include "cspe_monitor.h"
+/* the tables, which `tools/cspe c` writes: table B, and drawing K8 (prefix {0} to STOP, twice, side by side) */
+#include "k8.h"
+#include "table_b.h"
 
 enum { SLOTS = 4, AREA_WORDS = SLOTS * CSPE_SLOT_WORDS };
-
-static const uint8_t table_b[] = {0x03, 0x02, 0x00, 0x01, 0x00, 0x00, 0x01, 0x01,
-                                  0x01, 0x00, 0x02, 0x00, 0x02, 0x01, 0x05, 0x00};
-
-/* drawing K8 of document 01: prefix {0} to STOP, twice, side by side */
-static const uint8_t table_k8[] = {0x03, 0x03, 0x00, 0x01, 0x00, 0x00, 0x01, 0x01, 0x00, 0x00,
-                                   0x01, 0x00, 0x04, 0x02, 0x02, 0x00, 0x00, 0x02, 0x00, 0x00};
 
 static uint16_t list[CSPE_NUMBERS];
 static size_t list_length;
@@ -101,14 +97,16 @@ static void show_view(size_t words_due, uint64_t area_due) {
 
 static void read_and_write(void) {
     uint64_t value;
-    expect(cspe_read(table_b, sizeof table_b, list, CSPE_NUMBERS, work, CSPE_WORK_WORDS, &value) == CSPE_NONE, "read");
+    uint32_t number =
+        cspe_read(table_b_table, sizeof table_b_table, list, CSPE_NUMBERS, work, CSPE_WORK_WORDS, &value);
+    expect(number == CSPE_NONE, "read");
     list_length = (size_t)value;
-    expect(list_length == sizeof table_b, "how many numbers are read");
+    expect(list_length == sizeof table_b_table, "how many numbers are read");
     printf("read: %zu numbers\n", list_length);
 
     uint8_t bytes[CSPE_TABLE_BYTES];
     expect(cspe_write(list, list_length, bytes, sizeof bytes, work, CSPE_WORK_WORDS, &value) == CSPE_NONE, "write");
-    expect(value == sizeof table_b && memcmp(bytes, table_b, sizeof table_b) == 0, "what is written");
+    expect(value == sizeof table_b_table && memcmp(bytes, table_b_table, sizeof table_b_table) == 0, "what is written");
     printf("write: %" PRIu64 " bytes\n", value);
 }
 
@@ -169,15 +167,15 @@ static void refuse_and_fail(void) {
     show_refusal("feed with a changed area", number, place, CSPE_INCONSISTENT, 0);
 
     uint64_t value;
-    number = cspe_read(table_b, sizeof table_b - 1, list, CSPE_NUMBERS, work, CSPE_WORK_WORDS, &value);
-    show_refusal("read without the last byte", number, value, CSPE_TRUNCATED, sizeof table_b - 1);
+    number = cspe_read(table_b_table, sizeof table_b_table - 1, list, CSPE_NUMBERS, work, CSPE_WORK_WORDS, &value);
+    show_refusal("read without the last byte", number, value, CSPE_TRUNCATED, sizeof table_b_table - 1);
 }
 
 /* The areas of a table, sized by a trial lot: the largest areas, and then as many slots as the peak. */
 static void size_areas(void) {
     const uint8_t lot[] = {0, 0};
     uint64_t value;
-    uint32_t number = cspe_read(table_k8, sizeof table_k8, list, CSPE_NUMBERS, work, CSPE_WORK_WORDS, &value);
+    uint32_t number = cspe_read(k8_table, sizeof k8_table, list, CSPE_NUMBERS, work, CSPE_WORK_WORDS, &value);
     expect(number == CSPE_NONE, "read of another table");
     list_length = (size_t)value;
 

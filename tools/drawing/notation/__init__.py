@@ -1,6 +1,7 @@
 """The text notation of CSP_E tables and their bytes, both ways.
 
     source      a text, its tokens, and problems with their place
+    foreign     signs and words of other notations, and how they are written here
     syntax      the tree of a drawing
     cursor      a place among the tokens
     parse       text to tree

@@ -8,8 +8,8 @@ from .source import WORDS, Problem, tokens
 
 
 class Cursor:
-    def __init__(self, source):
-        self.tokens = tokens(source)
+    def __init__(self, source, problems=None):
+        self.tokens = tokens(source, problems)
         self.tokens.append(self.tokens[-1])  # the end, for a look at the token after next
         self.next = 0
 

@@ -5,6 +5,7 @@
     rows        the rows of a named set: one, or one for each event
 """
 
+from . import foreign
 from .source import Problem, near
 from .syntax import Definition, NamedEvent, NamedSet
 
@@ -43,6 +44,7 @@ class Names:
         named = self.meaning.get(name)
         if named is None:
             close = near(name, [n for n, m in self.meaning.items() if isinstance(m, kinds)])
+            close = f": {foreign.WORDS[name]}." if name in foreign.WORDS else close
             raise Problem(f"`{name}` is not the name of {wanted}{close or '.'}", at)
         if not isinstance(named, kinds):
             raise Problem(f"`{name}` is the name of {WHAT[type(named)]}, not of {wanted}.", at)

@@ -22,36 +22,69 @@ from .syntax import (
 )
 
 
-def parse(source):
-    """The drawing of a source."""
-    return Parser(source).drawing()
+def parse(source, problems=None):
+    """The drawing of a source. With a list of problems, all that are found are put there."""
+    return Parser(source, problems).drawing()
 
 
 class Parser(Cursor):
-    def __init__(self, source):
-        super().__init__(source)
+    def __init__(self, source, problems=None):
+        super().__init__(source, problems)
+        self.problems = problems
         self.depth = 0
 
     # ---- statements
 
     def drawing(self):
-        at = self.expect("alphabet", "A drawing begins with `alphabet`")
-        size, events = self.alphabet(at)
-        sets, definitions = [], []
+        at, size, events, sets, definitions = self.here(), 1, [], [], []
+
+        def begin():
+            nonlocal size
+            self.expect("alphabet", "A drawing begins with `alphabet`")
+            size, named = self.alphabet(at)
+            events.extend(named)
+
+        self.attempt(begin)
         while not self.sees("end"):
-            self.new_line()
-            if self.sees("event"):
-                events.append(self.event_name())
-            elif self.sees("set"):
-                sets.append(self.named_set())
-            elif self.sees("alphabet"):
-                raise Problem("A drawing has one alphabet.", self.here())
-            else:
-                definitions.append(self.definition())
+            self.attempt(lambda: self.statement(events, sets, definitions))
         end = self.here()
-        if not definitions:
+        if not definitions and not self.problems:
             raise Problem("A drawing has at least one definition.", end)
         return Drawing(size, events, sets, definitions, at, end)
+
+    def attempt(self, read):
+        """Reads a statement. Where problems are collected, an error leads on to the next statement."""
+        before = self.next
+        try:
+            read()
+        except Problem as problem:
+            if self.problems is None:
+                raise
+            self.problems.append(problem)
+            self.depth = 0
+            self.skip(before)
+
+    def skip(self, before):
+        """To the next token that begins a statement, behind the one where this statement began."""
+        self.next = max(self.next, before + 1) if not self.tokens[before].kind == "end" else before
+        while not (self.sees("end") or self.begins_statement()):
+            self.next += 1
+
+    def begins_statement(self):
+        if not self.here().first:
+            return False
+        return self.here().kind in ("alphabet", "event", "set", "level") or self.sees("name", "=")
+
+    def statement(self, events, sets, definitions):
+        self.new_line()
+        if self.sees("event"):
+            events.append(self.event_name())
+        elif self.sees("set"):
+            sets.append(self.named_set())
+        elif self.sees("alphabet"):
+            raise Problem("A drawing has one alphabet.", self.here())
+        else:
+            definitions.append(self.definition())
 
     def new_line(self):
         at = self.here()

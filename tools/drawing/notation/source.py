@@ -10,10 +10,15 @@ import difflib
 import re
 from typing import NamedTuple
 
+from . import foreign
+
 WORDS = ("alphabet", "event", "set", "level", "else", "STOP", "FAIL")
 
 # Longer signs first. `[]` is the choice, also where nothing else is meant.
 SIGNS = ("|||", "|[", "]|", "[]", "->", "..", "=", "{", "}", "[", "]", "(", ")", ",", ":", "^", "?")
+
+# Signs of other notations that begin with a sign of this one.
+FOREIGN_FIRST = ("[|", "[[", "{|")
 
 PATTERN = re.compile(
     r"(?P<space>[ \t\r]+|--[^\n]*)"
@@ -72,15 +77,29 @@ def near(word, names):
     return f"; is `{found[0]}` meant?" if found else ""
 
 
-def tokens(source):
+def strange(text, place):
+    """A sign that the notation does not have, and what is said of it."""
+    for sign, answer in foreign.SIGNS.items():
+        if text.startswith(sign, place):
+            return sign, f"`{sign}` is no sign of the notation: {answer}."
+    return text[place], f"{text[place]!r} is no sign of the notation."
+
+
+def tokens(source, problems=None):
+    """With a list of problems, a sign that the notation does not have is put there and left out."""
     found = []
     place, line, start, first = 0, 1, 0, True
     text = source.text
     while place < len(text):
         match = PATTERN.match(text, place)
-        if match is None:
-            at = Token(source, "unknown", text[place], line, place - start + 1, first)
-            raise Problem(f"{text[place]!r} is no sign of the notation.", at)
+        if match is None or text.startswith(FOREIGN_FIRST, place):
+            sign, message = strange(text, place)
+            problem = Problem(message, Token(source, "unknown", sign, line, place - start + 1, first))
+            if problems is None:
+                raise problem
+            problems.append(problem)
+            place, first = place + len(sign), False
+            continue
         kind, word = match.lastgroup, match.group()
         if kind == "line":
             line, start, first = line + 1, match.end(), True

@@ -1,0 +1,222 @@
+"""cspe run, explain and step: verdicts in words, live streams, and what is said of wrong input."""
+
+import os
+import shutil
+import subprocess
+import sys
+import tempfile
+import unittest
+from pathlib import Path
+
+from places import CSPE, EXAMPLES, ROOT, cspe, text_of
+
+PACKING = "packing_line"
+
+
+class Run(unittest.TestCase):
+    def test_verdicts(self):
+        """Each verdict with its words and its exit status."""
+        for words, status, line in [
+            ("stamp left", 0, "running after 2 events; permitted next: stamp, crack\n"),
+            ("0 3", 0, "running after 2 events; permitted next: stamp, crack\n"),
+            ("stamp left left stamp", 1, "failed at event 3: left came; permitted: stamp, crack\n"),
+        ]:
+            self.assertEqual(cspe("run", PACKING, *words.split()), (status, line, ""), words)
+        status, output, _ = cspe("run", "table_b", "0", "1", "3")
+        self.assertEqual(status, 2)
+        self.assertIn("refused 11 (strange event) at event 3: 3 is not in the alphabet", output)
+        self.assertEqual(cspe("run", "worked/k5")[:2], (1, "failed at 0: this drawing permits no run at all\n"))
+        status, output, _ = cspe("run", "--slots", "1", "worked/k8", "0", "0")
+        self.assertEqual(status, 2)
+        self.assertIn("refused 13 (crowded) at event 1", output)
+
+    def test_examples(self):
+        """The stored lines of examples/, but for the residuals: status and place."""
+        words = {"running": 0, "failed": 1, "refused": 2}
+        for file in sorted(EXAMPLES.glob("*.runs")):
+            for line in file.read_text().splitlines():
+                events, arrow, expected = line.partition("--")[0].partition("=>")
+                if arrow:
+                    status, output, errors = cspe("run", file.with_suffix(".csp"), *events.split())
+                    verdict, first, _ = expected.split()
+                    self.assertEqual((status, errors), (words[verdict], ""), (file, line))
+                    if verdict == "failed":
+                        self.assertIn(f"failed at event {first}:", output)
+
+    def test_peak(self):
+        output = cspe("run", "worked/k8", "0", "0", "--peak")[1]
+        self.assertIn("peak 2: as many slots would have done", output)
+
+    def test_file_and_raw(self):
+        with tempfile.TemporaryDirectory() as folder:
+            events = Path(folder) / "events"
+            events.write_text("stamp\nleft -- a comment\n0 4\n")
+            self.assertIn("running after 4 events", cspe("run", PACKING, f"@{events}")[1])
+            events.write_bytes(bytes([0, 3, 0, 4]))
+            self.assertIn("running after 4 events", cspe("run", PACKING, "--raw", f"@{events}")[1])
+        self.assertIn("running after 2 events", cspe("run", PACKING, "-", "--raw", stdin="\0\3")[1])
+        self.assertEqual(cspe("run", PACKING, "--raw", "stamp")[0], 3)
+
+    def test_live(self):
+        """A line of a stream is judged while the stream is open; a failure ends it."""
+        command = [sys.executable, str(CSPE), "run", "--each", PACKING, "-"]
+        with subprocess.Popen(command, stdin=subprocess.PIPE, stdout=subprocess.PIPE, text=True, cwd=ROOT) as live:
+            self.assertIn("running after 0", live.stdout.readline())
+            live.stdin.write("stamp\n")
+            live.stdin.flush()
+            self.assertIn("stamp: running after 1", live.stdout.readline())
+            live.stdin.write("stamp\n")
+            live.stdin.flush()
+            self.assertIn("failed at event 2: stamp came; permitted: crack, left, right", live.stdout.readline())
+            self.assertEqual(live.wait(20), 1)
+
+    def test_nothing_is_lost(self):
+        """What stands before a word that is no event is judged and told."""
+        status, output, errors = cspe("run", PACKING, "-", stdin="stamp left stmp right\n")
+        self.assertEqual((status, output), (3, "running after 2 events; permitted next: stamp, crack\n"))
+        self.assertIn("standard input, line 1: `stmp` is not the name of an event; is `stamp` meant?", errors)
+
+
+class WrongUse(unittest.TestCase):
+    def bad(self, status, message, *words, stdin="", **how):
+        found, output, errors = cspe(*words, stdin=stdin, **how)
+        self.assertEqual((found, output), (status, ""), words)
+        self.assertIn(message, errors)
+
+    def test_messages(self):
+        self.bad(3, "there is no drawing packing_lin; is packing_line meant?", "run", "packing_lin")
+        self.bad(3, "tools is a directory", "run", "tools")
+        self.bad(3, "`stmp` is not the name of an event; is `stamp` meant?", "run", PACKING, "stmp")
+        self.bad(3, "an event is one byte", "run", PACKING, "256")
+        self.bad(3, "cannot read none: No such file", "run", PACKING, "@none")
+        self.bad(3, "cannot read tools: Is a directory", "run", PACKING, "@tools")
+        self.bad(3, "`frob` is no command", "frob")
+        self.bad(3, "see cspe run --help", "run", "--frob")
+        self.bad(2, "-:1:1: error: A drawing begins with `alphabet`", "run", "-", stdin="P = STOP")
+        self.bad(3, "cannot both come from standard input", "run", "-", "-", stdin="alphabet 1\nP = STOP")
+        self.bad(3, "the drawing is a file", "step", "-", stdin="alphabet 1\nP = STOP")
+        with text_of("\n \n") as file:
+            self.bad(2, "is empty", "check", file)
+            file.write_bytes(b"alphabet 1\n\xff")
+            self.bad(2, ":2:1: error: Byte FF is not UTF-8 here.", "run", file)
+
+    def test_help(self):
+        self.assertEqual(cspe("--help")[0], 0)
+        self.assertEqual(cspe()[0], 3)
+        for command in ("run", "explain", "step", "check", "picture", "c"):
+            self.assertIn(command, cspe("--help")[1])
+            status, output, errors = cspe(command, "--help")
+            self.assertEqual((status, errors), (0, ""))
+            self.assertIn("Exit status: 0", output)
+
+    def test_no_library(self):
+        with tempfile.TemporaryDirectory() as folder:
+            tools = Path(folder) / "tools"
+            for name in ("commands", "drawing"):
+                shutil.copytree(ROOT / "tools" / name, tools / name)
+            shutil.copy(CSPE, tools)
+            with text_of("alphabet 1\nP = STOP\n") as own:
+                found = subprocess.run([tools / "cspe", "run", own], capture_output=True, text=True, check=False)
+        self.assertEqual((found.returncode, found.stdout), (3, ""))
+        self.assertIn("the library is not built; `rt staticlib monitor_c` proves and builds it", found.stderr)
+
+    def test_full_disk_and_closed_pipe(self):
+        with open("/dev/full", "w") as full:
+            found = subprocess.run(
+                [CSPE, "run", PACKING], stdout=full, stderr=subprocess.PIPE, text=True, check=False, cwd=ROOT
+            )
+        self.assertEqual(found.returncode, 3)
+        self.assertIn("standard output is not whole: No space left on device", found.stderr)
+        self.bad(3, "cannot write /dev/full: No space left on device", "c", "table_b", "-o", "/dev/full")
+        reader, writer = os.pipe()
+        os.close(reader)
+        try:
+            found = subprocess.run(
+                [CSPE, "run", PACKING], stdout=writer, stderr=subprocess.PIPE, text=True, check=False, cwd=ROOT
+            )
+        finally:
+            os.close(writer)
+        self.assertEqual(found.returncode, 3)
+        self.assertIn("standard output is not whole: nobody reads it any more", found.stderr)
+
+    def test_an_output_that_cannot_be_written_is_as_before(self):
+        with tempfile.TemporaryDirectory() as folder:
+            file = Path(folder) / "kept.h"
+            file.write_text("kept")
+            with text_of("alphabet 1\nP = P\n") as own:
+                self.assertEqual(cspe("c", own, "-o", file)[0], 2)
+            self.assertEqual(file.read_text(), "kept")
+            self.bad(3, "cannot write", "c", "table_b", "-o", Path(folder) / "none" / "x.h")
+
+
+class Explain(unittest.TestCase):
+    def test_failure(self):
+        status, output, _ = cspe("explain", PACKING, "stamp", "left", "crack", "right")
+        self.assertEqual(status, 1)
+        for words in (
+            "failed at event 4: right came; permitted: reject\n",
+            "         4  right    <- not permitted\n",
+            "     10 | Grader = stamp -> Stamped [] crack -> reject -> Grader\n"
+            "        |                                       ^^^^^^ 10:39 Grader waits for reject\n",
+            "^^^^^ 15:9 Right waits for right; right needs both sides of the parallel at 18:23\n",
+        ):
+            self.assertIn(words, output)
+
+    def test_ways(self):
+        """Each residual is a way; what a variable stands for; FAIL behind an event."""
+        output = cspe("explain", "sent_lane", "send_1", "arrive_2")[1]
+        self.assertIn("may stand in 2 ways just before it", output)
+        self.assertIn("Egg waits for arrive_1 (x is send_1)\n", output)
+        output = cspe("explain", "interlock", "shut", "open", "down")[1]
+        self.assertIn("Unlocked waits for down; behind down all ways are FAIL\n", output)
+        output = cspe("explain", "worked/k5")[1]
+        self.assertIn("K5, the start, is doomed", output)
+
+    def test_many_ways(self):
+        with text_of("alphabet 1\nP = " + " [] ".join(["{0} -> STOP"] * 20)) as own:
+            self.assertIn("and 8 ways more; --all shows them", cspe("explain", own)[1])
+            self.assertIn("way 20", cspe("explain", own, "--all")[1])
+
+    def test_long_run(self):
+        output = cspe("explain", "table_b", "-", stdin="0 1\n" * 10 + "1\n")[1]
+        self.assertIn("            .. 12 events before\n        13  0\n", output)
+        self.assertIn("        21  1    <- not permitted\n", output)
+
+    def test_refusal(self):
+        with text_of("alphabet 1\nQ = {0} -> Q\nLine = Q ||| Q\n") as own:
+            status, output, _ = cspe("explain", own)
+        self.assertEqual(status, 2)
+        self.assertIn(":3:8: refused 7 (wrong reference): Q is called under a parallel", output)
+        mend = "give Line, the definition that calls it, a higher level: `level 1 Line = ..`"
+        self.assertIn(f"to mend it: {mend}", output)
+
+
+class Step(unittest.TestCase):
+    def test_words(self):
+        words = "stamp\nleft left undo frob\nwhere help again quit stamp\n"
+        status, output, errors = cspe("step", PACKING, stdin=words)
+        self.assertEqual(status, 0)
+        lines = output.splitlines()
+        self.assertEqual(lines[0], "running after 0 events; permitted next: stamp, crack")
+        self.assertEqual(lines[3], "failed at event 3: left came; permitted: stamp, crack; not taken")
+        self.assertEqual(lines[4], "undo: running after 1 event; permitted next: crack, left, right")
+        self.assertIn("Stamped waits for left, right", output)
+        self.assertIn("takes back the last event", output)
+        self.assertTrue(output.endswith("running after 0 events; permitted next: stamp, crack\n"))
+        self.assertIn("`frob` is not the name of an event", errors)
+
+    def test_status(self):
+        self.assertEqual(cspe("step", "table_b", stdin="0 0")[0], 1)
+        self.assertEqual(cspe("step", "table_b", stdin="0 3")[0], 2)
+        self.assertEqual(cspe("step", "table_b", stdin="0 0 1")[0], 0)
+        self.assertIn("nothing to take back", cspe("step", "table_b", stdin="undo")[1])
+
+    def test_an_event_with_a_command_s_name(self):
+        with text_of("alphabet undo\nP = undo -> P\n") as own:
+            output = cspe("step", own, stdin="undo undo :undo")[1]
+        self.assertTrue(output.endswith("undo: running after 1 event; permitted next: undo\n"))
+        self.assertIn("undo: running after 2 events", output)
+
+
+if __name__ == "__main__":
+    unittest.main()
