@@ -21,7 +21,7 @@
 #include "cspe_monitor.h"
 
 /* Of this header: it goes up by one where a caller must change. CSPE_VERSION is the library's. */
-#define CSPE_HEADER_VERSION 1
+#define CSPE_HEADER_VERSION 2
 
 /* How many residuals a monitor has room for; the same wherever a struct is handed over. The peak of a trial lot says
    how many are needed (docs/GUIDE.md). */
@@ -33,7 +33,7 @@
 #endif
 
 /* How many words Offer writes: a bit for each event, 64 to a word. */
-#define CSPE_OFFER_WORDS 1
+#define CSPE_OFFER_WORDS 2
 /* The largest number of a refusal. */
 #define CSPE_REFUSALS 17
 
@@ -97,12 +97,14 @@ static inline uint32_t cspe_monitor_step(cspe_monitor *m, uint8_t event) {
 
 /* Bit e % 64 of bits[e / 64] is set exactly where event e may come next; all are 0 on a refusal and after a failure. */
 static inline uint32_t cspe_monitor_offer(cspe_monitor *m, uint64_t bits[CSPE_OFFER_WORDS]) {
-    uint64_t value = 0;
     uint32_t refusal =
         cspe_offer(m->list, m->list_length, m->record, CSPE_RECORD_WORDS, m->areas[0], m->area_words, m->areas[1],
-                   m->area_words, m->work, CSPE_WORK_WORDS, &value);
-    m->place = refusal == CSPE_NONE ? 0 : value;
-    bits[0] = refusal == CSPE_NONE ? value : 0;
+                   m->area_words, m->work, CSPE_WORK_WORDS, &bits[0], &bits[1]);
+    m->place = 0;
+    if (refusal != CSPE_NONE) {
+        m->place = bits[0];
+        bits[0] = 0;
+    }
     return refusal;
 }
 

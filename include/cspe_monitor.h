@@ -1,16 +1,16 @@
 /*
  * A runtime monitor for tables in the process algebra CSP_E, as a static library for C: the six operations of
  * document 01 (Read, Write, Start, Feed, Offer, View), and of document 02 the office's lot sheet (W2), Try (W4) and
- * Feed in wash hours (W5). `rt staticlib monitor_c` proves and writes it (target/staticlib/libmonitor_c.a, for x86-64
- * Linux). Each function is proved to return, and to leave in every word that it is lent, what crates/words/specs
- * defines (of cspe_sheet crates/sheet_words/specs, of cspe_timed_feed crates/wash_words/specs), on every input: no call
- * has a condition but those below.
+ * Feed in wash hours (W5); tables have up to 128 events (W6). `rt staticlib monitor_c` proves and writes it
+ * (target/staticlib/libmonitor_c.a, for x86-64 Linux). Each function is proved to return, and to leave in every word
+ * that it is lent, what crates/words/specs defines (of cspe_sheet crates/sheet_words/specs, of cspe_timed_feed
+ * crates/wash_words/specs), on every input: no call has a condition but those below.
  *
  * What is lent. Every buffer is the caller's, and is lent for one call: a pointer, and after it how many elements it
  * points to. A pointer is aligned for its type and is never NULL, also where its length is 0. A buffer that a call may
  * write (its pointer is not const) overlaps no other buffer of that call, and the word behind the last pointer lies in
- * none of them. The library allocates nothing and keeps nothing between calls, so calls on different buffers may run
- * at the same time.
+ * none of them (of cspe_offer the two words behind the last two, which are two). The library allocates nothing and
+ * keeps nothing between calls, so calls on different buffers may run at the same time.
  *
  * Stack. 42 KiB were measured on most tables, and 58 KiB where eight leaves of a residual move together and each has
  * several results (tools/stack). A start in wash hours (cspe_timed_feed) has an array of 32 KiB more: 75 and 91 KiB
@@ -18,7 +18,7 @@
  *
  * What is returned. Each function but cspe_view returns the refusal's number, 0 where there is none (enum
  * cspe_refusal). One more word is written through the last pointer on every call: the result, the
- * refusal's place, or 0.
+ * refusal's place, or 0. cspe_offer writes two, through its last two pointers.
  *
  * The record of a monitor is CSPE_RECORD_WORDS words, at these indices:
  *     CSPE_TAKEN        how many events were taken
@@ -53,10 +53,12 @@ extern "C" {
 #endif
 
 /* It goes up by one where the library changes for a caller; docs/CHANGELOG.md says how. */
-#define CSPE_VERSION 5
+#define CSPE_VERSION 6
 
 /* A table has at most so many bytes. */
 #define CSPE_TABLE_BYTES 16384
+/* The largest alphabet: events are below it. */
+#define CSPE_EVENTS 128
 /* The length of cspe_read's output, in numbers. */
 #define CSPE_NUMBERS 16384
 /* The length of the work area, in words. */
@@ -95,7 +97,8 @@ enum cspe_refusal {
     CSPE_TOO_LONG = 2,           /* long table: more than CSPE_TABLE_BYTES bytes; place 0 */
     CSPE_TRUNCATED = 3,          /* cut short: the input ends within the table; place: its length */
     CSPE_MALFORMED = 4,          /* loose number: a number that is not written as it must be; place: its first byte */
-    CSPE_OUT_OF_RANGE = 5,       /* off scale: a field, an order or a term's bound is broken; place: that number */
+    CSPE_OUT_OF_RANGE = 5,       /* off scale: a field, an order or a term's bound is broken, or above 64 events that of
+                                    3,072 rows in all sets together; place: that number, of rows the set's kind */
     CSPE_TRAILING_INPUT = 6,     /* left over: input after the table; place: the first such */
     CSPE_BAD_REFERENCE = 7,      /* wrong reference: a rule of references is broken; place: that number */
     CSPE_TOO_WIDE = 8,           /* too many hands: a level's width is above 8; place: the lowest such level */
@@ -232,14 +235,15 @@ uint32_t cspe_timed_feed(const uint16_t *everyday, size_t everyday_length, const
  *     list                    the number list that the monitor was started with
  *     record, area0, area1    the monitor, which is only read
  *     work                    CSPE_WORK_WORDS words, of any content
- * 0           bit e of *value is set exactly when residuals are left after the event e, whether or not the areas have
- *             room for them; *value is 0 after a failure
- * 1 to 10     *value is the place
+ * 0           a bit for each event below the alphabet's size: bit e of *value is event e, of *second event 64 + e. It
+ *             is set exactly when residuals are left after that event, whether or not the areas have room for them.
+ *             All other bits are 0, so *second is 0 where the alphabet's size is at most 64; both are 0 after a failure
+ * 1 to 10     *value is the place, *second is 0
  * The work area is zeroed, but kept on 1.
  */
 uint32_t cspe_offer(const uint16_t *list, size_t list_length, const uint64_t *record, size_t record_length,
                     const uint64_t *area0, size_t area0_length, const uint64_t *area1, size_t area1_length,
-                    uint64_t *work, size_t work_length, uint64_t *value);
+                    uint64_t *work, size_t work_length, uint64_t *value, uint64_t *second);
 
 /*
  * View: where the residuals stand. It takes no table and never refuses.
@@ -247,6 +251,9 @@ uint32_t cspe_offer(const uint16_t *list, size_t list_length, const uint64_t *re
  * It returns how many words the residuals' slots are; they begin area *area, which is 0 or 1. It returns 0, and *area is
  * 0, after a failure, where the record holds no residual or more than that area has room for, and where record is not
  * of CSPE_RECORD_WORDS words. The peak is not read.
+ * A slot is CSPE_SLOT_WORDS words: how many nodes the residual has, a word for each node, each parallel before its
+ * sides, and zeros. A node's word is its term's number times 2^28 and the last four events that it remembers, the
+ * nearest first, times 2^21, 2^14, 2^7 and 1.
  */
 size_t cspe_view(const uint64_t *record, size_t record_length, const uint64_t *area0, size_t area0_length,
                  const uint64_t *area1, size_t area1_length, uint64_t *area);

@@ -53,9 +53,9 @@ static uint32_t try_events(const uint8_t *events, size_t events_length, uint64_t
                     events_length, work, CSPE_WORK_WORDS, place);
 }
 
-static uint32_t offer(uint64_t *value) {
+static uint32_t offer(uint64_t *value, uint64_t *second) {
     return cspe_offer(list, list_length, record, CSPE_RECORD_WORDS, area[0], area_words, area[1], area_words, work,
-                      CSPE_WORK_WORDS, value);
+                      CSPE_WORK_WORDS, value, second);
 }
 
 /* Prints the record, which must be the one given. */
@@ -78,10 +78,11 @@ static void show_refusal(const char *call, uint32_t number, uint64_t place, uint
     printf("%s: refused %" PRIu32 " at %" PRIu64 "\n", call, number, place);
 }
 
+/* Prints the events that may come next, as two words of bits: of an alphabet of 3 the second is 0. */
 static void show_offer(uint64_t bits_due) {
-    uint64_t bits;
-    expect(offer(&bits) == CSPE_NONE && bits == bits_due, "offer");
-    printf("offer: %" PRIu64 "\n", bits);
+    uint64_t first, second;
+    expect(offer(&first, &second) == CSPE_NONE && first == bits_due && second == 0, "offer");
+    printf("offer: %" PRIu64 " %" PRIu64 "\n", first, second);
 }
 
 static void show_view(size_t words_due, uint64_t area_due) {
@@ -90,8 +91,8 @@ static void show_view(size_t words_due, uint64_t area_due) {
     expect(words == words_due && which == area_due, "view");
     printf("view: %zu words of area %" PRIu64 "\n", words, which);
     for (size_t i = 0; i < words; i += CSPE_SLOT_WORDS) {
-        /* a slot's first word is how many nodes the residual has; then the nodes, the term in the bits from 24 on */
-        printf("    nodes: %" PRIu64 ", term of the first: %" PRIu64 "\n", area[which][i], area[which][i + 1] >> 24);
+        /* a slot's first word is how many nodes the residual has; then the nodes, the term in the bits from 28 on */
+        printf("    nodes: %" PRIu64 ", term of the first: %" PRIu64 "\n", area[which][i], area[which][i + 1] >> 28);
     }
 }
 

@@ -20,6 +20,7 @@ from .words import many
 
 MOST_SETS, MOST_DEFINITIONS, MOST_TERMS, MOST_DEEP = 64, 32, 1024, 32
 MOST_WIDTH, MOST_BRANCHES = 8, 256
+LARGE_ABOVE, MOST_LARGE_ROWS = 64, 3072  # 02, W6: above 64 events all rows together are at most 3,072
 
 
 class Fault(NamedTuple):
@@ -64,6 +65,7 @@ class Rules:
             at = self.assembled.numbers[1].at
             message = f"there are {len(sets)} sets, and at most {MOST_SETS} are allowed"
             self.add(5, 1, at, message, "name a set that several terms write out, or draw like terms alike")
+        self.row_bound(drawing.size, sets)
         first = self.terms.begin() - 1
         if len(self.definitions) > MOST_DEFINITIONS:
             at = self.definitions[MOST_DEFINITIONS].at
@@ -75,6 +77,19 @@ class Rules:
                 message = f"the level of {definition.name} is {definition.level}, and {MOST_LEVEL} is the highest"
                 self.add(5, place, definition.level_at, message, "give it the least level that its calls allow")
         self.term_bounds()
+
+    def row_bound(self, size, sets):
+        """The set that passes the bound on all rows, at its kind."""
+        rows, kind_at = 0, 2
+        for _, written_rows in sets:
+            rows += len(written_rows)
+            if size > LARGE_ABOVE and rows > MOST_LARGE_ROWS:
+                most = f"with more than {LARGE_ABOVE} events {MOST_LARGE_ROWS:,} are the most"
+                message = f"up to this set there are {rows:,} rows, and {most}"
+                mend = f"a family has {size} rows, a set one: leave out a family, or draw one as sets"
+                self.add(5, kind_at, self.assembled.numbers[kind_at].at, message, mend)
+                return
+            kind_at += 1 + sum(1 + len(row) for _, row in written_rows)
 
     def term_bounds(self):
         for place in self.terms.places:

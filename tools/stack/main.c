@@ -24,7 +24,7 @@ static uint8_t events[1] = {0};
 static uint64_t minutes[1] = {0};
 static uint16_t windows[1];
 static uint32_t said;
-static uint64_t word;
+static uint64_t word, second;
 
 static void put(uint16_t n) { list[length++] = n; }
 
@@ -105,7 +105,7 @@ static void *timed(void *unused) {
 static void *offer(void *unused) {
     (void)unused;
     said = cspe_offer(list, length, record, CSPE_RECORD_WORDS, area0, CSPE_AREA_WORDS_MOST, area1,
-                      CSPE_AREA_WORDS_MOST, work, CSPE_WORK_WORDS, &word);
+                      CSPE_AREA_WORDS_MOST, work, CSPE_WORK_WORDS, &word, &second);
     return NULL;
 }
 

@@ -1,11 +1,11 @@
 -- What the words of an index say: of an accepted number list, whose table keeps the rules. Each law is what one
 -- accessor of `index` answers.
 --     indexed-rules                             the rules
---     terms-few, definitions-few                what keeps the words inside the work area
+--     terms-few, definitions-few, events-few    what keeps the words inside the work area
 --     alphabet-is, definitions-are, terms-are, body-is                 of the table and its definitions
 --     kind-is, right-is, called-is, parameter-is, enclosing-is         of a term, by the digits of its word
 --     branches-is, reach-is                                            likewise
---     fixed-holds, family-holds                 the word of the row that a prefix or a parallel reads
+--     fixed-holds, family-holds                 the words of the row that a prefix or a parallel reads
 -- Assumes nothing.
 use Prim.Native.Nat.{ℕ, _+_, _<_, _≤_}
 use native.Mathlib.Omega.{arith}
@@ -15,6 +15,7 @@ use mathlib.Core.List.{List}
 use lib.ListN.{length, getD}
 use Rattle.table.specs.Table.{SetRef, fixed, family, Term, stop, fail, prefix, choice, par, call, SetDef}
 use Rattle.table.specs.Table.{Table, termCount, bodyNumber, enclosing}
+use Rattle.table.specs.Rows.{alphabetMost}
 use Rattle.table.specs.Context.{Each}
 use Rattle.table.specs.Fields.{Fields, OfRef, RefExists, ParamSmall}
 use Rattle.table_index.specs.References.Nodes.{node-links}
@@ -49,6 +50,9 @@ terms-few x = indexed-rules x .fields .terms-most
 
 pub definitions-few : {l w : List ℕ} → Indexed l w → length (tableIn l .definitions) ≤ 32
 definitions-few x = indexed-rules x .fields .definitions-most
+
+pub events-few : {l w : List ℕ} → Indexed l w → tableIn l .alphabet ≤ alphabetMost
+events-few x = indexed-rules x .fields .alphabet-most
 
 -- ---- bounds
 
@@ -118,7 +122,7 @@ call-known t r n h k =
 -- ---- the answers
 
 module _ {l w : List ℕ} (x : Indexed l w) where
-  pub alphabet-is : (getD w alphabetAt 0 ≡ tableIn l .alphabet) × (getD w alphabetAt 0 ≤ 64)
+  pub alphabet-is : (getD w alphabetAt 0 ≡ tableIn l .alphabet) × (getD w alphabetAt 0 ≤ alphabetMost)
   alphabet-is = let e = x .structure .alphabet in (e, rw e (indexed-rules x .fields .alphabet-most))
 
   pub definitions-are :
@@ -205,7 +209,7 @@ row-ref X (choice p q) h o = absurd (⊎-elim (λ z. omega arith) (λ z. omega a
 row-ref X (par r p q) h o = o
 row-ref X (call d) h o = absurd (⊎-elim (λ z. omega arith) (λ z. omega arith) h)
 
--- of a prefix or a parallel: where its row's mask stands
+-- of a prefix or a parallel: where its row's words stand
 module _ {l w : List ℕ} (i : Indexed l w) (n : ℕ) (h : n < termCount (tableIn l))
     (k : HasRow (termOf (tableIn l) n)) where
   exists : RefExists (tableIn l .sets) (refOf (termOf (tableIn l) n))
@@ -217,14 +221,16 @@ module _ {l w : List ℕ} (i : Indexed l w) (n : ℕ) (h : n < termCount (tableI
   from = indexed-digits i n h .target ∙ row-target (tableIn l .sets) (termOf (tableIn l) n) k
 
   pub fixed-holds : parameterDigit (getD w (termsAt + n) 0) ≡ 0 → (v : ℕ)
-      → RowAt w (targetDigit (getD w (termsAt + n) 0)) (rowOf (tableIn l) (refOf (termOf (tableIn l) n)) v)
+      → RowAt (tableIn l .alphabet) w (targetDigit (getD w (termsAt + n) 0))
+      (rowOf (tableIn l) (refOf (termOf (tableIn l) n)) v)
   fixed-holds e v =
       rw from
       (fixed-row (tableIn l) w (indexed-rules i .fields) (i .structure .sets) (refOf (termOf (tableIn l) n)) exists
       (sym (indexed-digits i n h .parameter) ∙ e) v)
 
   pub family-holds : (parameterDigit (getD w (termsAt + n) 0) ≡ 0 → ⊥) → (v : ℕ) → v < tableIn l .alphabet
-      → RowAt w (targetDigit (getD w (termsAt + n) 0) + v) (rowOf (tableIn l) (refOf (termOf (tableIn l) n)) v)
+      → RowAt (tableIn l .alphabet) w (targetDigit (getD w (termsAt + n) 0) + v)
+      (rowOf (tableIn l) (refOf (termOf (tableIn l) n)) v)
   family-holds e v b =
       rw from
       (family-row (tableIn l) w (indexed-rules i .fields) (i .structure .sets) (refOf (termOf (tableIn l) n)) exists

@@ -1,8 +1,9 @@
--- Rows as masks, and where the mask of a set reference stands (01, "Numbers and table": "row v is the set for
+-- Rows as masks, and where the words of a set reference's row stand (01, "Numbers and table": "row v is the set for
 -- parameter v").
 --     mask-bit                 bit e of an ascending row's mask says whether the row has e
---     RowAt                    the word that holds a row's mask
---     fixed-row, family-row    the word of a reference's row, by the kind of its set
+--     first-bit, second-bit    bit e of a mask is a bit of its first word, or of its second
+--     RowAt                    the words of a row
+--     fixed-row, family-row    the words of a reference's row, by the kind of its set
 -- Assumes nothing.
 use Prim.Native.Nat.{ℕ, zero, suc, _+_, _*_, _/_, _%_, _^_, _-_, _<_, _≤_}
 use native.Mathlib.Omega.{arith}
@@ -13,16 +14,18 @@ use mathlib.Core.Bool.{true, false}
 use mathlib.Core.List.{List, [], _∷_, flatMap}
 use lib.ListN.{length, getD, take, length-append, length-map, List·getD-append, List·getD-map}
 use lib.Seq.{getD-append-add}
-use lib.Pow.{pow-add, pow-lt, shl-shr, shr-shr, high}
+use lib.Pow.{pow-add, pow-lt, shl-shr, shr-shr, high, field, mod-mod-pow}
 use lib.Dec.{eqb}
 use borrow.Author.Tests.{eq-eqb, ne-eqb}
 use Rattle.numbers.specs.Every.{All, all-imp}
 use Rattle.table.specs.Table.{SetRef, fixed, family, SetDef, one, each, Table}
 use Rattle.table.specs.Fields.{Ascending, EachRow, FamilyRows, IsOne, IsEach, RefExists, Fields}
+use Rattle.table.specs.Rows.{alphabetMost, largeAbove, RowsFit}
+use Rattle.table.specs.Rows.Laws.{fit-less}
 use Rattle.table.specs.Node.{setOf, parameterOf}
 use Rattle.table.specs.Member.{elem, rowIn, rowOf}
-use Rattle.table_index.specs.Layout.{rowsMost}
-use Rattle.table_index.specs.Index.{maskOf, setMasks, firstRow, SetsIndexed}
+use Rattle.table_index.specs.Layout.{rowsMost, wordEvents, secondAt, termsAt}
+use Rattle.table_index.specs.Index.{maskOf, firstWord, secondWord, setMasks, firstRow, SetsIndexed}
 
 -- ---- masks
 
@@ -93,6 +96,24 @@ mask-bit (x ∷ xs) h e = go (mask-bit xs (h .1) e) (decLt e x) (decLt x e)
         let q : (2 ^ x + maskOf xs) / 2 ^ e % 2 ≡ 1 = rw (s, p) (own-bit k x) in
         rw (n, elem) (eq-eqb _ 1 q)
 
+-- ---- the two words
+
+pub first-bit : (m e : ℕ) → e < wordEvents → firstWord m / 2 ^ e % 2 ≡ m / 2 ^ e % 2
+unfolding firstWord
+first-bit m e h =
+    let j = 63 - e in
+    let s : wordEvents ≡ j + 1 + e = omega arith in
+    let f : m % 2 ^ wordEvents / 2 ^ e ≡ m / 2 ^ e % 2 ^ (j + 1) =
+    ap (λ (y : ℕ). m % 2 ^ y / 2 ^ e) s ∙ field m (j + 1) e in
+    let g : m / 2 ^ e % 2 ^ (j + 1) % 2 ^ 1 ≡ m / 2 ^ e % 2 ^ 1 = mod-mod-pow (m / 2 ^ e) j 1 in
+    ap (λ (y : ℕ). y % 2) f ∙ g
+
+pub second-bit : (m e : ℕ) → wordEvents ≤ e → secondWord m / 2 ^ (e - wordEvents) % 2 ≡ m / 2 ^ e % 2
+unfolding secondWord
+second-bit m e h =
+    let s : wordEvents + (e - wordEvents) ≡ e = omega arith in
+    ap (λ (y : ℕ). y % 2) (shr-shr m wordEvents (e - wordEvents) ∙ ap (λ (y : ℕ). m / 2 ^ y) s)
+
 -- ---- rows of sets
 
 all-at : {A : Type 0} (X : A → Type 0) (z : A) (l : List A) (i : ℕ) → All X l → i < length l → X (getD l i z)
@@ -136,23 +157,52 @@ unfolding setMasks rowIn
 ordered (one r) v h l = h
 ordered (each rs) v h l = all-at Ascending [] rs v h (omega (arith, length-map rs maskOf))
 
--- word i is a mask, whose bits are the events of a row
-pub record RowAt (w : List ℕ) (i : ℕ) (row : List ℕ) : Type 0 where
-  pub inside : i < rowsMost
-  pub bit : (e : ℕ) → eqb (getD w i 0 / 2 ^ e % 2) 1 ≡ elem e row
+-- the words of row i of an alphabet of size A: their bits are the events of the row
+pub record RowAt (A : ℕ) (w : List ℕ) (i : ℕ) (row : List ℕ) : Type 0 where
+  pub inside : (e : ℕ) → e < A → i + e / wordEvents * secondAt < termsAt
+  pub bit : (e : ℕ) → e < A
+      → eqb (getD w (i + e / wordEvents * secondAt) 0 / 2 ^ (e % wordEvents) % 2) 1 ≡ elem e row
 
-row-at : (t : Table) (w : List ℕ) → Fields t → SetsIndexed (t .sets) w → (s v : ℕ) → s < length (t .sets)
+-- from the words of a mask
+module _ (A : ℕ) (w : List ℕ) (i m : ℕ) (row : List ℕ) (most : A ≤ alphabetMost) (few : i < rowsMost)
+    (fit : RowsFit A (i + 1)) (first : getD w i 0 ≡ firstWord m)
+    (second : largeAbove < A → getD w (secondAt + i) 0 ≡ secondWord m)
+    (bits : (e : ℕ) → eqb (m / 2 ^ e % 2) 1 ≡ elem e row) where
+  inside-by : (e : ℕ) → e < A → Dec (e < wordEvents) → i + e / wordEvents * secondAt < termsAt
+  inside-by e l (yes k) = omega arith
+  inside-by e l (no k) = let f = fit (omega arith) in omega arith
+
+  bit-by : (e : ℕ) → e < A → Dec (e < wordEvents)
+      → eqb (getD w (i + e / wordEvents * secondAt) 0 / 2 ^ (e % wordEvents) % 2) 1 ≡ elem e row
+  bit-by e l (yes k) =
+      let z : i + e / wordEvents * secondAt ≡ i = omega arith in
+      let y : e % wordEvents ≡ e = omega arith in
+      rw (z, y, first) (ap (λ (x : ℕ). eqb x 1) (first-bit m e k) ∙ bits e)
+  bit-by e l (no k) =
+      let z : i + e / wordEvents * secondAt ≡ secondAt + i = omega arith in
+      let y : e % wordEvents ≡ e - wordEvents = omega arith in
+      rw (z, y, second (omega arith)) (ap (λ (x : ℕ). eqb x 1) (second-bit m e (omega arith)) ∙ bits e)
+
+  row-words : RowAt A w i row
+  row-words =
+      record {
+        inside = λ e l. inside-by e l (decLt e wordEvents);
+        bit = λ e l. bit-by e l (decLt e wordEvents);
+      }
+
+row-at : (t : Table) (w : List ℕ) → Fields t → SetsIndexed (t .alphabet) (t .sets) w → (s v : ℕ)
+    → s < length (t .sets)
     → v < length (setMasks (getD (t .sets) s (one [])))
-    → RowAt w (firstRow (t .sets) s + v) (rowIn (getD (t .sets) s (one [])) v)
+    → RowAt (t .alphabet) w (firstRow (t .sets) s + v) (rowIn (getD (t .sets) s (one [])) v)
 row-at t w f x s v h l =
     let d = getD (t .sets) s (one []) in
+    let i = firstRow (t .sets) s + v in
     let (b, e) = mask-at (t .sets) s v h l in
-    let m : getD w (firstRow (t .sets) s + v) 0 ≡ maskOf (rowIn d v) = x .rows _ b ∙ e ∙ mask-of d v l in
+    let m = e ∙ mask-of d v l in
     let o = ordered d v (all-at (EachRow Ascending) (one []) (t .sets) s (f .row-order) h) l in
-    record {
-      inside = omega (arith, x .rows-few);
-      bit = λ k. rw m (mask-bit (rowIn d v) o k);
-    }
+    row-words (t .alphabet) w i (maskOf (rowIn d v)) (rowIn d v) (f .alphabet-most) (omega (arith, x .rows-few))
+    (fit-less (t .alphabet) (i + 1) _ (omega arith) (x .rows-fit)) (x .firsts i b ∙ ap firstWord m)
+    (λ large. x .seconds large i b ∙ ap secondWord m) (mask-bit (rowIn d v) o)
 
 -- ---- rows of references
 
@@ -167,8 +217,9 @@ each-rows A (one r) h k = absurd h
 each-rows A (each rs) h k = length-map rs maskOf ∙ k
 
 -- a reference to a set of kind 0 reads the set's only row
-pub fixed-row : (t : Table) (w : List ℕ) → Fields t → SetsIndexed (t .sets) w → (r : SetRef) → RefExists (t .sets) r
-    → parameterOf r ≡ 0 → (v : ℕ) → RowAt w (firstRow (t .sets) (setOf r)) (rowOf t r v)
+pub fixed-row : (t : Table) (w : List ℕ) → Fields t → SetsIndexed (t .alphabet) (t .sets) w → (r : SetRef)
+    → RefExists (t .sets) r
+    → parameterOf r ≡ 0 → (v : ℕ) → RowAt (t .alphabet) w (firstRow (t .sets) (setOf r)) (rowOf t r v)
 unfolding rowOf
 fixed-row t w f x (fixed s) h p v =
     let d = getD (t .sets) s (one []) in
@@ -178,9 +229,10 @@ fixed-row t w f x (fixed s) h p v =
 fixed-row t w f x (family s k) h p v = absurd (omega arith)
 
 -- one to a set of kind 1 reads row v
-pub family-row : (t : Table) (w : List ℕ) → Fields t → SetsIndexed (t .sets) w → (r : SetRef) → RefExists (t .sets) r
+pub family-row : (t : Table) (w : List ℕ) → Fields t → SetsIndexed (t .alphabet) (t .sets) w → (r : SetRef)
+    → RefExists (t .sets) r
     → (parameterOf r ≡ 0 → ⊥) → (v : ℕ) → v < t .alphabet
-    → RowAt w (firstRow (t .sets) (setOf r) + v) (rowOf t r v)
+    → RowAt (t .alphabet) w (firstRow (t .sets) (setOf r) + v) (rowOf t r v)
 unfolding rowOf
 family-row t w f x (fixed s) h p v l = absurd (p refl)
 family-row t w f x (family s k) h p v l =

@@ -7,18 +7,20 @@ ghost use mathlib.Core.Logic.{_⊎_};
 ghost use Prim.Native.Nat.{ℕ, _+_, _/_, _%_, _^_, _<_, _≤_};
 ghost use lib.Dec.{eqb};
 ghost use lib.ListN.{length};
+ghost use Rattle.table.specs.Rows.{alphabetMost};
 ghost use Rattle.table.specs.Table.{termCount, bodyNumber, enclosing as enclosingOf};
 ghost use Rattle.table.specs.Width.{reach as reachOf};
 ghost use Rattle.table.specs.Branches.{branches as branchesOf};
 ghost use Rattle.table.specs.Branches.Capped.{capped};
 ghost use Rattle.table.specs.Node.{termOf, kindOf, leftSize, calledOf, refOf, parameterOf};
 ghost use Rattle.table.specs.Member.{inRow};
+ghost use Rattle.table_index.specs.Layout.{wordEvents};
 ghost use Rattle.table_index.specs.Index.{tableIn, Indexed};
 
 // The alphabet size.
 pub fn alphabet(list: &[u16], work: &[u64]) -> u64
     requires { ⌜ Indexed (now list) (now work) ⌝ }
-    ensures { λ r. ⌜ (r ≡ tableIn (now (list .entry)) .alphabet) × (r ≤ 64) ⌝ }
+    ensures { λ r. ⌜ (r ≡ tableIn (now (list .entry)) .alphabet) × (r ≤ alphabetMost) ⌝ }
 {
     work[layout::ALPHABET_AT]
 }
@@ -123,12 +125,11 @@ pub fn reach(list: &[u16], work: &[u64], n: usize) -> u64
     work[layout::TERMS_AT + n] / layout::WIDTH_UNIT % layout::REACHES
 }
 
-// Whether a row's mask has the bit of an event.
-fn bit(mask: u64, e: u64) -> bool
-    requires { ⌜ e < 64 ⌝ }
-    ensures { λ r. ⌜ r ≡ eqb (mask / 2 ^ e % 2) 1 ⌝ }
+// Whether the word of a row that has a bit for an event has that bit.
+fn bit(word: u64, e: u64) -> bool
+    ensures { λ r. ⌜ r ≡ eqb (word / 2 ^ (e % wordEvents) % 2) 1 ⌝ }
 {
-    (mask >> e) % 2 == 1
+    (word >> (e % layout::WORD_EVENTS)) % 2 == 1
 }
 
 // Whether the set of the prefix or parallel n, with v for the event that it recalls, holds event e.
@@ -137,15 +138,16 @@ pub fn holds(list: &[u16], work: &[u64], n: usize, v: u64, e: u64) -> bool
     requires { ⌜ n < termCount (tableIn (now list)) ⌝ }
     requires { ⌜ (kindOf (termOf (tableIn (now list)) n) ≡ 2)
         ⊎ (kindOf (termOf (tableIn (now list)) n) ≡ 4) ⌝ }
-    requires { ⌜ (v < tableIn (now list) .alphabet) × (e < 64) ⌝ }
+    requires { ⌜ (v < tableIn (now list) .alphabet) × (e < tableIn (now list) .alphabet) ⌝ }
     ensures { λ r.
         ⌜ r ≡ inRow (tableIn (now (list .entry))) (refOf (termOf (tableIn (now (list .entry))) n)) v
         e ⌝ }
 {
     let w = work[layout::TERMS_AT + n];
     let row = (w / layout::TARGET_UNIT % layout::TARGETS) as usize;
+    let second = (e / layout::WORD_EVENTS) as usize * layout::SECOND_AT;
     if w / layout::PARAMETER_UNIT % layout::PARAMETERS == 0 {
-        return bit(work[row], e);
+        return bit(work[row + second], e);
     }
-    bit(work[row + v as usize], e)
+    bit(work[row + v as usize + second], e)
 }

@@ -6,8 +6,9 @@ use Rattle.table.specs.Table.{prefixesIn, enclosingIn, enclosing}
 use Rattle.numbers.specs.Number.{listBytes, bytesOf, groups, carry, later, scanWith, readNumber}
 use Rattle.table.specs.Tokens.{byteToken, byteTokensWith, byteTokens, listTokens, trailing, placeOf}
 use Rattle.table.specs.Parser.{number, pure, next, andThen, times}
-use Rattle.table.specs.Grammar.{events, row, setOfKind, eventSet, refOfKind, setRef, termOfKind, termWith, definition}
-use Rattle.table.specs.Grammar.{definitionsOf, table}
+use Rattle.table.specs.Rows.{rowCount, rowsOf, rowsFit}
+use Rattle.table.specs.Grammar.{events, row, setOfKind, kindFits, eventSet, eventSets, refOfKind, setRef, termOfKind}
+use Rattle.table.specs.Grammar.{termWith, definition, definitionsOf, table}
 use Rattle.table.specs.Writing.{rowNumbers, setNumbers, refNumbers, termNumbers, definitionNumbers, numbersOf}
 use Rattle.table.specs.First.{orElse, unless}
 use Rattle.table.specs.References.{levelIn, paramFits, callFits, wrongRef, wrongIn, wrongFrom, firstWrong}
@@ -44,23 +45,19 @@ use Rattle.line_spec.specs.Line.{startedLine, readLine, headLine, lineOf
 use Rattle.line_spec.specs.Claims.{drawn, Rows}
 
 pub rows : Rows
-unfolding flatMap size sizes bodyOf bodyNumber termIn termOfDefs termAt prefixesIn enclosingIn enclosing
-    listBytes bytesOf groups listTokens trailing placeOf number pure next andThen times
-    events row setOfKind eventSet refOfKind setRef termOfKind termWith definition definitionsOf table
-    rowNumbers setNumbers refNumbers termNumbers definitionNumbers numbersOf orElse unless
-    levelIn paramFits callFits wrongRef wrongIn wrongFrom firstWrong grow
-    widthWith widest callWidth nextWidth allWidths levelWidth reach firstAbove tooWide
-    branchesWith branchesAt bodyIn nextBranches allBranches followerAbove bodyAbove tooManyBranches
-    unlessMet placed judgeRead judge sized judgeList digit remember elem rowIn rowOf inRow recalled member bodyCount
-    pairs resolveIn resolveDef resolve afterLeaf afterPair after afterAll run fromDefinition residualsOf
-    digitBits digitBound pack termOfWord memoryOf keep nodes slotOf compareWords insertSorted canon slotsOf
-    joinTrees plant plantWord forest oneTree slotResidual held digitFits memoryFits memoriesFit reachAt reachSum
-    validSlot
-    areasMeasured workMeasured slotCount even choose chunks flatten fill
-    every allZero ascendsFrom ascends verdictFits peakFits recordFits areaFits consistent through
-    presentSlots nextSlots nextVerdict freshState stateAfter counted holding taking eventRefused takeEvent endingOf feedOf
-    measuring judging entrance agreeing entranceOn entering refusing startAccepted startOf
-    carry later scanWith readNumber byteToken byteTokensWith byteTokens judgeBytes
-    cut headBy headOf verdictLine stateLine answerLine fresh monitorLeft startedBy startedLine readLine headLine lineOf
-    drawn Rows
+unfolding flatMap size sizes bodyOf bodyNumber termIn termOfDefs termAt prefixesIn enclosingIn enclosing listBytes
+    bytesOf groups listTokens trailing placeOf number pure next andThen times events row setOfKind eventSet eventSets
+    kindFits rowCount rowsOf rowsFit refOfKind setRef termOfKind termWith definition definitionsOf table rowNumbers
+    setNumbers refNumbers termNumbers definitionNumbers numbersOf orElse unless levelIn paramFits callFits wrongRef
+    wrongIn wrongFrom firstWrong grow widthWith widest callWidth nextWidth allWidths levelWidth reach firstAbove tooWide
+    branchesWith branchesAt bodyIn nextBranches allBranches followerAbove bodyAbove tooManyBranches unlessMet placed
+    judgeRead judge sized judgeList digit remember elem rowIn rowOf inRow recalled member bodyCount pairs resolveIn
+    resolveDef resolve afterLeaf afterPair after afterAll run fromDefinition residualsOf digitBits digitBound pack
+    termOfWord memoryOf keep nodes slotOf compareWords insertSorted canon slotsOf joinTrees plant plantWord forest
+    oneTree slotResidual held digitFits memoryFits memoriesFit reachAt reachSum validSlot areasMeasured workMeasured
+    slotCount even choose chunks flatten fill every allZero ascendsFrom ascends verdictFits peakFits recordFits areaFits
+    consistent through presentSlots nextSlots nextVerdict freshState stateAfter counted holding taking eventRefused
+    takeEvent endingOf feedOf measuring judging entrance agreeing entranceOn entering refusing startAccepted startOf
+    carry later scanWith readNumber byteToken byteTokensWith byteTokens judgeBytes cut headBy headOf verdictLine
+    stateLine answerLine fresh monitorLeft startedBy startedLine readLine headLine lineOf drawn Rows
 rows = (refl, refl, refl, refl, refl, refl, refl, refl, refl, refl, refl, refl, refl, refl, refl, refl, refl)

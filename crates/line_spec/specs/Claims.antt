@@ -179,7 +179,7 @@ exceeding = choice (prefix (fixed 0) stop) filling
 
 -- "The whole input `10`, table B, `00 01 00` prints `running 3 1`."; a place and the number taken; 11; "256 slots": 256
 -- residuals stand, 257 are 13; the length number cut short, loose, over 16,384, and 16,384; no table; the table cut
--- short, by Read; an alphabet of 65; the table cut short "before Read", whatever it has
+-- short, by Read; an alphabet of 129; the table cut short "before Read", whatever it has
 unfoldable pub Rows : Type 0
 Rows =
     (lineOf (16 ∷ tableB ++ (0 ∷ 1 ∷ 0 ∷ [])) ≡ runs 3 1)
@@ -196,6 +196,6 @@ Rows =
     × (lineOf (128 ∷ 128 ∷ 1 ∷ []) ≡ refused 3 0)
     × (lineOf (0 ∷ []) ≡ refused 3 0)
     × (lineOf (1 ∷ 3 ∷ []) ≡ refused 3 1)
-    × (lineOf (2 ∷ 65 ∷ 2 ∷ []) ≡ refused 5 0)
+    × (lineOf (3 ∷ 129 ∷ 1 ∷ 2 ∷ []) ≡ refused 5 0)
     × (lineOf (16 ∷ 3 ∷ 2 ∷ []) ≡ refused 3 2)
-    × (lineOf (16 ∷ 65 ∷ 2 ∷ []) ≡ refused 3 2)
+    × (lineOf (16 ∷ 129 ∷ 1 ∷ 2 ∷ []) ≡ refused 3 3)

@@ -5,6 +5,7 @@ pub use feeding::feed;
 pub use offering::offer;
 pub use starting::start;
 pub use state::Answer;
+pub use state::EventBits;
 pub use state::Offered;
 pub use state::State;
 pub use state::Verdict;

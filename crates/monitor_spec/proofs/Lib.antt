@@ -5,6 +5,7 @@ pub mod Endings
 pub mod Exceeds
 pub mod Histories
 pub mod Answers
+pub mod Counts
 pub mod Offers
 pub mod Gate
 pub mod Starts

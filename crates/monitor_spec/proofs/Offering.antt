@@ -1,7 +1,8 @@
--- Offer on every input: 1 to 10, or the word whose bits are those of the residuals held. Assumes nothing.
-use Prim.Native.Nat.{ℕ, _/_, _%_, _^_, _<_}
+-- Offer on every input: 1 to 10, or the words whose bits are those of the residuals held. Assumes nothing.
+use Prim.Native.Nat.{ℕ, _/_, _%_, _^_, _≤_}
 use native.Mathlib.Omega.{arith}
-use mathlib.Core.Path.{_≡_, ap, sym, _∙_}
+use native.Mathlib.Nat.{zero-div}
+use mathlib.Core.Path.{_≡_, ap, ap₂, sym, _∙_}
 use mathlib.Core.List.{List}
 use mathlib.Core.Logic.{_↔_}
 use lib.ListN.{length}
@@ -12,9 +13,10 @@ use Rattle.residuals.specs.Residual.{afterAll}
 use Rattle.monitor_spec.specs.Meaning.{Some}
 use Rattle.residuals.specs.Slots.{slotsOf}
 use Rattle.monitor_spec.specs.State.{failedAt, Monitor, slotCount, laid}
-use Rattle.monitor_spec.specs.Offer.{Offered, offers, refused, OfferOutcome, offerBits, offering}
+use Rattle.monitor_spec.specs.Offer.{EventBits, Offered, offers, refused, OfferOutcome, offerBits, offering}
 use Rattle.monitor_spec.specs.Offer.{offerOf}
 use Rattle.monitor_spec.specs.Offer.Laws.{bits-tell, offer-shut, offer-admits}
+use Rattle.monitor_spec.specs.Offers.{BitsJust, WordsJust}
 use Rattle.monitor_spec.specs.Refusals.{CallRefused, Offers, WorkLeft}
 use Rattle.monitor_spec.specs.Refusals.Laws.{is-table-in, is-table-out, accepts, Lent, Held}
 use Rattle.monitor_spec.proofs.Gate.{entrance-1, entrance-table, entrance-10, entrance-open}
@@ -25,11 +27,31 @@ use Rattle.monitor_spec.proofs.Offers.{bits-exact}
 refused-same : (n p k q : ℕ) → refused n p ≡ refused k q → (n ≡ k) × (p ≡ q)
 refused-same n p k q e = (cc, cc)
 
-offers-same : (x y : ℕ) → offers x ≡ offers y → x ≡ y
+offers-same : (x y : EventBits) → offers x ≡ offers y → x ≡ y
 offers-same x y e = cc
 
-refused-offers : {X : Type 0} {o : Offered} (n p x : ℕ) → o ≡ refused n p → o ≡ offers x → X
+refused-offers : {X : Type 0} {o : Offered} (n p : ℕ) (x : EventBits) → o ≡ refused n p → o ≡ offers x → X
 refused-offers n p x e f = absurd (let z : _≡_ {A = ℕ} 0 1 = cc in omega arith)
+
+-- what the bits say fixes the words
+just-same : (A : ℕ) (X : ℕ → Type 0) (b x y : ℕ) → BitsJust A X b x → BitsJust A X b y → x ≡ y
+unfolding BitsJust
+just-same A X b x y f g = bits-tell x y (λ e. (λ h. g e .1 (f e .0 h), λ h. f e .1 (g e .0 h)))
+
+words-tell : (A : ℕ) (X : ℕ → Type 0) (x y : EventBits) → WordsJust A X x → WordsJust A X y → x ≡ y
+words-tell A X x y f g =
+    ap₂ (λ (u v : ℕ). record { first = u; second = v })
+    (just-same A X 0 (x .first) (y .first) (f .first) (g .first))
+    (just-same A X 64 (x .second) (y .second) (f .second) (g .second))
+
+-- a word of no events is 0
+just-none : (A : ℕ) (X : ℕ → Type 0) (x : ℕ) → A ≤ 64 → BitsJust A X 64 x → x ≡ 0
+unfolding BitsJust
+just-none A X x few f =
+    bits-tell x 0 (λ e. (
+      λ h. absurd (let (i, j, k) = f e .0 h in omega arith),
+      λ h. absurd (let z : 0 / 2 ^ e % 2 ≡ 0 = ap (λ (j : ℕ). j % 2) (zero-div (2 ^ e)) in omega arith),
+    ))
 
 module _ (l : List ℕ) (m : Monitor) (w : List ℕ) where
   -- ---- the whole outcome
@@ -67,56 +89,58 @@ module _ (l : List ℕ) (m : Monitor) (w : List ℕ) where
       (λ x ns t d h n p e. refused-offers n p (offerBits t m (m .state .verdict)) e
       (says (offers (offerBits t m (m .state .verdict))) (zeros (length w)) (on-open x ns t d h)))
 
-  -- ---- the word
+  -- ---- the words
 
-  word : Table → ℕ
-  word t = offerBits t m (m .state .verdict)
+  bits : Table → EventBits
+  bits t = offerBits t m (m .state .verdict)
 
-  word-exact : (ns : List ℕ) (t : Table) → judgeList l ≡ accepted ns t → (h : Held l m w t) → (e : ℕ)
-      → (word t / 2 ^ e % 2 ≡ 1) ↔ ((e < t .alphabet) × Some (afterAll t e (h .residuals)))
-  unfolding laid word
-  word-exact ns t d h e =
+  bits-held : (ns : List ℕ) (t : Table) → judgeList l ≡ accepted ns t → (h : Held l m w t)
+      → WordsJust (t .alphabet) (λ (e : ℕ). Some (afterAll t e (h .residuals))) (bits t)
+  unfolding laid bits
+  bits-held ns t d h =
       let n : ℕ = slotCount (m .area0) in
-      let q : word t ≡ offerBits t (laid n (m .state) (slotsOf (h .residuals))) (m .state .verdict) =
+      let q : bits t ≡ offerBits t (laid n (m .state) (slotsOf (h .residuals))) (m .state .verdict) =
       ap (λ (z : Monitor). offerBits t z (z .state .verdict)) (h .same) in
-      rw q (bits-exact l ns t d (accepts l ns t d) n (m .state) (h .residuals) (h .sensible) e)
+      rw q (bits-exact l ns t d (accepts l ns t d) n (m .state) (h .residuals) (h .sensible))
 
-  word-failed : (t : Table) (p : ℕ) → m .state .verdict ≡ failedAt p → word t ≡ 0
-  unfolding offerBits word
-  word-failed t p e = ap (offerBits t m) e
+  bits-failed : (t : Table) (p : ℕ) → m .state .verdict ≡ failedAt p → bits t ≡ record { first = 0; second = 0 }
+  unfolding offerBits bits
+  bits-failed t p e = ap (offerBits t m) e
 
-  says-word : Lent l m w → (ns : List ℕ) (t : Table) → judgeList l ≡ accepted ns t → Held l m w t
-      → said ≡ offers (word t)
-  unfolding word
-  says-word x ns t d h = says (offers (word t)) (zeros (length w)) (on-open x ns t d h)
+  says-bits : Lent l m w → (ns : List ℕ) (t : Table) → judgeList l ≡ accepted ns t → Held l m w t
+      → said ≡ offers (bits t)
+  unfolding bits
+  says-bits x ns t d h = says (offers (bits t)) (zeros (length w)) (on-open x ns t d h)
 
-  word-to : (bits : ℕ) → said ≡ offers bits → Gate l m w → Offers l m w bits
-  word-to b e (shut-1 x) = refused-offers 1 0 b (says (refused 1 0) w (on-1 x)) e
-  word-to b e (shut-table x n p d) =
+  bits-to : (b : EventBits) → said ≡ offers b → Gate l m w → Offers l m w b
+  bits-to b e (shut-1 x) = refused-offers 1 0 b (says (refused 1 0) w (on-1 x)) e
+  bits-to b e (shut-table x n p d) =
       refused-offers n p b (says (refused n p) (zeros (length w)) (on-table x n p d)) e
-  word-to b e (shut-10 x ns t d h) =
+  bits-to b e (shut-10 x ns t d h) =
       refused-offers 10 0 b (says (refused 10 0) (zeros (length w)) (on-10 x ns t d h)) e
-  word-to b e (clear x ns t d h) =
-      let q : b ≡ word t = offers-same b (word t) (sym e ∙ says-word x ns t d h) in
+  bits-to b e (clear x ns t d h) =
+      let q : b ≡ bits t = offers-same b (bits t) (sym e ∙ says-bits x ns t d h) in
+      let exact : WordsJust (t .alphabet) (λ (e : ℕ). Some (afterAll t e (h .residuals))) b =
+      rw q (bits-held ns t d h) in
       record {
         measured = x;
         table = t;
         is-table = is-table-out l ns t d;
         laid = h;
-        exact = λ i. rw q (word-exact ns t d h i);
-        failed = λ p f. q ∙ word-failed t p f;
+        exact = exact;
+        one-word = λ few. just-none _ _ _ few (exact .second);
+        failed = λ p f. q ∙ bits-failed t p f;
       }
 
-  word-from : (bits : ℕ) → Offers l m w bits → said ≡ offers bits
-  word-from b o =
+  bits-from : (b : EventBits) → Offers l m w b → said ≡ offers b
+  bits-from b o =
       let t : Table = o .table in
       let d = is-table-in l t (o .is-table) in
-      says-word (o .measured) l t d (o .laid)
-      ∙ ap offers (bits-tell (word t) b (λ e. let f = word-exact l t d (o .laid) e in let g = o .exact e in
-      (λ h. g .1 (f .0 h), λ h. f .1 (g .0 h))))
+      says-bits (o .measured) l t d (o .laid)
+      ∙ ap offers (words-tell _ _ (bits t) b (bits-held l t d (o .laid)) (o .exact))
 
-  pub offer-word : (bits : ℕ) → (said ≡ offers bits) ↔ Offers l m w bits
-  offer-word b = (λ e. word-to b e (gate l m w), word-from b)
+  pub offer-bits : (b : EventBits) → (said ≡ offers b) ↔ Offers l m w b
+  offer-bits b = (λ e. bits-to b e (gate l m w), bits-from b)
 
   -- ---- what stands in the lent buffers
 

@@ -6,8 +6,9 @@ use Rattle.table.specs.Table.{prefixesIn, enclosingIn, enclosing}
 use Rattle.numbers.specs.Number.{listBytes, bytesOf, groups}
 use Rattle.table.specs.Tokens.{listTokens, trailing, placeOf}
 use Rattle.table.specs.Parser.{number, pure, next, andThen, times}
-use Rattle.table.specs.Grammar.{events, row, setOfKind, eventSet, refOfKind, setRef, termOfKind, termWith, definition}
-use Rattle.table.specs.Grammar.{definitionsOf, table}
+use Rattle.table.specs.Rows.{rowCount, rowsOf, rowsFit}
+use Rattle.table.specs.Grammar.{events, row, setOfKind, kindFits, eventSet, eventSets, refOfKind, setRef, termOfKind}
+use Rattle.table.specs.Grammar.{termWith, definition, definitionsOf, table}
 use Rattle.table.specs.Writing.{rowNumbers, setNumbers, refNumbers, termNumbers, definitionNumbers, numbersOf}
 use Rattle.table.specs.First.{orElse, unless}
 use Rattle.table.specs.References.{levelIn, paramFits, callFits, wrongRef, wrongIn, wrongFrom, firstWrong}
@@ -41,7 +42,7 @@ use Rattle.monitor_spec.specs.Feed.{presentSlots, nextSlots, taking, eve
 use Rattle.monitor_spec.specs.Feed.{endingOf}
 use Rattle.monitor_spec.specs.Feed.{feedOf}
 use Rattle.monitor_spec.specs.Start.{startAccepted, startOf}
-use Rattle.monitor_spec.specs.Offer.{bitOf, bitsBelow, offerBits, offering, offerOf}
+use Rattle.monitor_spec.specs.Offer.{bitOf, bitsFrom, wordBits, wordFrom, allBits, offerBits, offering, offerOf}
 use Rattle.monitor_spec.specs.View.{partBy, viewPart, wordsIn, viewOf}
 use Rattle.monitor_spec.specs.History.{standing, callOn, history}
 use Rattle.monitor_spec.specs.Examples.{drawn, feedAfter, startAndFeed, rows, saysAll}
@@ -52,7 +53,8 @@ use Rattle.monitor_spec.specs.Buffers.{deep, BuffersStand}
 pub marked : saysAll rows
 unfolding flatMap size sizes bodyOf bodyNumber termIn termOfDefs termAt prefixesIn enclosingIn enclosing
     listBytes bytesOf groups listTokens trailing placeOf number pure next andThen times
-    events row setOfKind eventSet refOfKind setRef termOfKind termWith definition definitionsOf table
+    events row setOfKind eventSet eventSets kindFits rowCount rowsOf rowsFit refOfKind setRef termOfKind termWith
+    definition definitionsOf table
     rowNumbers setNumbers refNumbers termNumbers definitionNumbers numbersOf orElse unless
     levelIn paramFits callFits wrongRef wrongIn wrongFrom firstWrong grow
     widthWith widest callWidth nextWidth allWidths levelWidth reach firstAbove tooWide
@@ -71,7 +73,8 @@ marked = refl
 pub further : casesHold (cases ++ peakCases)
 unfolding flatMap size sizes bodyOf bodyNumber termIn termOfDefs termAt prefixesIn enclosingIn enclosing
     listBytes bytesOf groups listTokens trailing placeOf number pure next andThen times
-    events row setOfKind eventSet refOfKind setRef termOfKind termWith definition definitionsOf table
+    events row setOfKind eventSet eventSets kindFits rowCount rowsOf rowsFit refOfKind setRef termOfKind termWith
+    definition definitionsOf table
     rowNumbers setNumbers refNumbers termNumbers definitionNumbers numbersOf orElse unless
     levelIn paramFits callFits wrongRef wrongIn wrongFrom firstWrong grow
     widthWith widest callWidth nextWidth allWidths levelWidth reach firstAbove tooWide
@@ -91,7 +94,8 @@ further = refl
 pub outcomes-stand : BuffersStand
 unfolding flatMap size sizes bodyOf bodyNumber termIn termOfDefs termAt prefixesIn enclosingIn enclosing
     listBytes bytesOf groups listTokens trailing placeOf number pure next andThen times
-    events row setOfKind eventSet refOfKind setRef termOfKind termWith definition definitionsOf table
+    events row setOfKind eventSet eventSets kindFits rowCount rowsOf rowsFit refOfKind setRef termOfKind termWith
+    definition definitionsOf table
     rowNumbers setNumbers refNumbers termNumbers definitionNumbers numbersOf orElse unless
     levelIn paramFits callFits wrongRef wrongIn wrongFrom firstWrong grow
     widthWith widest callWidth nextWidth allWidths levelWidth reach firstAbove tooWide
@@ -105,5 +109,5 @@ unfolding flatMap size sizes bodyOf bodyNumber termIn termOfDefs termAt prefixes
     every allZero ascendsFrom ascends verdictFits peakFits recordFits areaFits consistent through
     presentSlots nextSlots nextVerdict freshState stateAfter counted holding taking eventRefused takeEvent endingOf feedOf
     measuring judging entrance agreeing entranceOn entering refusing startAccepted startOf drawn feedAfter startAndFeed
-    bitOf bitsBelow offerBits offering offerOf partBy viewPart wordsIn viewOf deep
+    bitOf bitsFrom wordBits wordFrom allBits offerBits offering offerOf partBy viewPart wordsIn viewOf deep
 outcomes-stand = (refl, refl, refl)

@@ -35,7 +35,7 @@ use Rattle.monitor_spec.specs.Try.{tryOf}
 use Rattle.monitor_spec.specs.Tried.{tried}
 use Rattle.monitor_spec.specs.History.Begun.{start-never}
 use Rattle.monitor_spec.specs.Claims.{ResidualsAreTraces, DefinitionsAreTraces, LastIsTraces, ResolvesReach}
-use Rattle.monitor_spec.specs.Claims.{SlotsTell, ValidExactly, ConsistentExactly}
+use Rattle.monitor_spec.specs.Claims.{SlotsTell, CountsDistinct, ValidExactly, ConsistentExactly}
 use Rattle.monitor_spec.specs.Claims.{StartRefusedExactly, StartGives, StartAnswers, StartBuffers, StartExceeds}
 use Rattle.monitor_spec.specs.Claims.{FeedRefusedExactly, FeedStopsExactly, FeedGivesExactly, FeedBuffers}
 use Rattle.monitor_spec.specs.Claims.{StartFits, FeedPeaks, OfferRefusedExactly, OfferBits, OfferBuffers, ViewsPart}
@@ -53,6 +53,7 @@ use Rattle.monitor_spec.proofs.Exceeds.{start-exceeds-exactly}
 use Rattle.monitor_spec.proofs.Histories.{reached, history-holds}
 use Rattle.monitor_spec.specs.History.Verdicts.{held-some}
 use Rattle.monitor_spec.proofs.Answers.{answers-one, judges-one}
+use Rattle.monitor_spec.proofs.Counts.{slot-once, counts}
 use Rattle.monitor_spec.proofs.Offers.{offers-after, views-after}
 use Rattle.monitor_spec.proofs.Keeps.{call-keeps}
 use Rattle.monitor_spec.proofs.Tries as tries
@@ -76,12 +77,11 @@ last-is-traces t rules H model s = held-some t (regular t rules) H model s
 
 pub slots-tell : SlotsTell
 unfolding SlotsTell
-slots-tell t rules r q x y e =
-    let reg = regular t rules in
-    some-same r q (sym (read-back t reg r x) ∙ ap (slotResidual t) e ∙ read-back t reg q y)
-  where
-    some-same : (u v : Residual) → some u ≡ some v → u ≡ v
-    some-same u v p = cc
+slots-tell t rules r q x y e = slot-once t (regular t rules) r q x y e
+
+pub counts-distinct : CountsDistinct
+unfolding CountsDistinct
+counts-distinct t rules s small = counts t (regular t rules) s small
 
 pub valid-exactly : ValidExactly
 unfolding ValidExactly
@@ -153,7 +153,7 @@ offer-refused-exactly l m w = offering.offer-refused l m w
 
 pub offer-bits : OfferBits
 unfolding OfferBits
-offer-bits l m w = offering.offer-word l m w
+offer-bits l m w = offering.offer-bits l m w
 
 pub start-buffers : StartBuffers
 unfolding StartBuffers

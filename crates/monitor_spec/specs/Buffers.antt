@@ -103,14 +103,14 @@ outcomes =
     -- 12: as before the event
     ∷ leaves (feedOf tableB (mon counterMost 1 running (zeros 16) (oneNode 0)) (0 ∷ []) (sevens 8192))
     (stopped 12 0 (st counterMost 1 running)) (zeros 16) (oneNode 0) (zeros 8192)
-    -- "term × 2^24 + m0 × 2^18 + m1 × 2^12 + m2 × 2^6 + m3": term 4 with the memory 4, 3, 2, 1; with 63 four times, and
-    -- after 63 once more term 5
+    -- 02, W6: term × 2^28 + m0 × 2^21 + m1 × 2^14 + m2 × 2^7 + m3: term 4 with the memory 4, 3, 2, 1; with 127 four
+    -- times, and after 127 once more term 5
     ∷ leaves (feedOf (deep 5 (1 ∷ 2 ∷ 3 ∷ 4 ∷ []) stop) (mon 0 1 running (oneNode 0) (zeros 16))
     (1 ∷ 2 ∷ 3 ∷ 4 ∷ []) (sevens 8192))
-    (given (st 4 1 running)) (1 ∷ 68169857 ∷ zeros 14) (zeros 16) (zeros 8192)
-    ∷ leaves (feedOf (deep 64 (63 ∷ []) (prefix (fixed 0) stop)) (mon 4 1 running (1 ∷ 83886079 ∷ zeros 14) (zeros 16))
-    (63 ∷ []) (sevens 8192))
-    (given (st 5 1 running)) (zeros 16) (1 ∷ 100663295 ∷ zeros 14) (zeros 8192)
+    (given (st 4 1 running)) (1 ∷ 1082179841 ∷ zeros 14) (zeros 16) (zeros 8192)
+    ∷ leaves (feedOf (deep 128 (127 ∷ []) (prefix (fixed 0) stop)) (mon 4 1 running (oneNode 1342177279) (zeros 16))
+    (127 ∷ []) (sevens 8192))
+    (given (st 5 1 running)) (zeros 16) (oneNode 1610612735) (zeros 8192)
     -- "A slot is 16 words": one with no word left over
     ∷ leaves (startOf full (sevens 16) (sevens 16) (sevens 8192))
     (given (st 0 1 running)) fullSlot (zeros 16) (zeros 8192)
@@ -155,16 +155,24 @@ pub record Shown : Type 0 where
 abbrev shows : OfferOutcome → Offer.Offered → List ℕ → List ℕ → List ℕ → Shown
 shows o r x y w = record { got = o; expected = record { answer = r; area0 = x; area1 = y; work = w } }
 
+abbrev gives : ℕ → ℕ → Offer.Offered
+gives x y = Offer.offers (record { first = x; second = y })
+
 -- "areas kept"; "0 after failure"; "crowded or not": with one slot too
 abbrev pub offered : List Shown
 offered =
-    shows (offerOf seven (mon 0 2 running both (zeros 32)) (sevens 8192)) (Offer.offers 1) both (zeros 32)
+    shows (offerOf seven (mon 0 2 running both (zeros 32)) (sevens 8192)) (gives 1 0) both (zeros 32)
     (zeros 8192)
     ∷ shows (offerOf tableB (mon 1 1 running (zeros 16) (oneNode (word 1 0))) (sevens 8192))
-    (Offer.offers 2) (zeros 16) (oneNode (word 1 0)) (zeros 8192)
+    (gives 2 0) (zeros 16) (oneNode (word 1 0)) (zeros 8192)
     ∷ shows (offerOf eight (mon 0 1 running (threeNodes (word 0 0) (word 1 0) (word 3 0)) (zeros 16)) (sevens 8192))
-    (Offer.offers 1) (threeNodes (word 0 0) (word 1 0) (word 3 0)) (zeros 16) (zeros 8192)
-    ∷ shows (offerOf tableB (mon 3 0 (failedAt 2) (zeros 16) (zeros 16)) (sevens 8192)) (Offer.offers 0) (zeros 16)
+    (gives 1 0) (threeNodes (word 0 0) (word 1 0) (word 3 0)) (zeros 16) (zeros 8192)
+    -- 02, W6: "two words, events 0 to 63 in the first"
+    ∷ shows (offerOf (deep 64 (0 ∷ 63 ∷ []) stop) (mon 0 1 running (oneNode 0) (zeros 16)) (sevens 8192))
+    (gives 9223372036854775809 0) (oneNode 0) (zeros 16) (zeros 8192)
+    ∷ shows (offerOf (deep 128 (63 ∷ 64 ∷ 127 ∷ []) stop) (mon 0 1 running (oneNode 0) (zeros 16)) (sevens 8192))
+    (gives 9223372036854775808 9223372036854775809) (oneNode 0) (zeros 16) (zeros 8192)
+    ∷ shows (offerOf tableB (mon 3 0 (failedAt 2) (zeros 16) (zeros 16)) (sevens 8192)) (gives 0 0) (zeros 16)
     (zeros 16) (zeros 8192)
     ∷ shows (offerOf tableB (mon 3 0 (failedAt 4) (zeros 16) (zeros 16)) (sevens 8192)) (Offer.refused 10 0)
     (zeros 16) (zeros 16) (zeros 8192)

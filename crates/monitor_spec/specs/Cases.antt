@@ -113,11 +113,11 @@ threeNodes u v w = 3 ∷ u ∷ v ∷ w ∷ zeros 12
 
 -- the node word of a term and the nearest event
 abbrev pub word : ℕ → ℕ → ℕ
-word n d = n * 16777216 + d * 262144
+word n d = n * 268435456 + d * 2097152
 
 -- the node word of a term and four events, the nearest first
 abbrev full : ℕ → ℕ → ℕ → ℕ → ℕ → ℕ
-full n d0 d1 d2 d3 = n * 16777216 + d0 * 262144 + d1 * 4096 + d2 * 64 + d3
+full n d0 d1 d2 d3 = n * 268435456 + d0 * 2097152 + d1 * 16384 + d2 * 128 + d3
 
 -- x in {0,1}
 abbrev either : Term → Term

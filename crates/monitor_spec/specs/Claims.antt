@@ -5,6 +5,7 @@
 --     StartFits               at most 256 residuals at Start
 --     ResolvesReach           the leaves of a term's residual together have at most the reach of the term
 --     SlotsTell               a slot tells its residual
+--     CountsDistinct          how many residuals there are, by the residuals and not by their words
 --     ValidExactly            the valid slots are those of proper residuals
 --     ConsistentExactly       the consistent monitors are those laid out of proper residuals
 --     StartRefusedExactly, StartGives, StartAnswers           demand 1, on every input: Start
@@ -50,10 +51,11 @@ use Rattle.monitor_spec.specs.Consistent.{consistent}
 use Rattle.monitor_spec.specs.Start.{startOf}
 use Rattle.monitor_spec.specs.Feed.{feedOf}
 use Rattle.monitor_spec.specs.Offer as Offer
-use Rattle.monitor_spec.specs.Offer.{offers, offerOf}
+use Rattle.monitor_spec.specs.Offer.{EventBits, offers, offerOf}
 use Rattle.monitor_spec.specs.View.{viewPart, viewOf}
 use Rattle.monitor_spec.specs.Try.{tryOf}
 use Rattle.monitor_spec.specs.Joined.{Call, residualCount, joined}
+use Rattle.monitor_spec.specs.Counted.{Counts}
 use Rattle.monitor_spec.specs.Meaning.{denote, Sound, Some}
 use Rattle.monitor_spec.specs.Proper.{Proper}
 use Rattle.monitor_spec.specs.Sensible.{Laid}
@@ -101,6 +103,12 @@ StartFits = (t : Table) → Rules t → residualCount t [] ≤ 256
 -- 01, "Residuals": "Two residuals are equal when their words are."
 unfoldable pub SlotsTell : Type 0
 SlotsTell = (t : Table) → Rules t → (r q : Residual) → Proper t r → Proper t q → slotOf r ≡ slotOf q → r ≡ q
+
+-- 01, "Residuals": "A residual already held is not held twice." The count, and so the peak (02, W1) and when the slots
+-- are too few, does not depend on how node words are laid out: with seven bits to an event (02, W6) they are as before.
+unfoldable pub CountsDistinct : Type 0
+CountsDistinct =
+    (t : Table) → Rules t → (s : List ℕ) → All (λ e. e < t .alphabet) s → Counts (residualsOf t s) (residualCount t s)
 
 -- 01, "Disturbed": "A valid slot is one whole residual tree .."
 unfoldable pub ValidExactly : Type 0
@@ -156,10 +164,12 @@ OfferRefusedExactly =
     (l : List ℕ) (m : Monitor) (w : List ℕ) (n p : ℕ)
     → (offerOf l m w .answer ≡ Offer.refused n p) ↔ CallRefused l m w n p
 
--- 01: "a u64 whose bit e is set exactly when the residuals after e, crowded or not, are not empty; 0 after failure"
+-- 01: "bit e is set exactly when the residuals after e, crowded or not, are not empty; 0 after failure"; 02, W6: "Offer
+-- gives two words, events 0 to 63 in the first"
 unfoldable pub OfferBits : Type 0
 OfferBits =
-    (l : List ℕ) (m : Monitor) (w : List ℕ) (bits : ℕ) → (offerOf l m w .answer ≡ offers bits) ↔ Offers l m w bits
+    (l : List ℕ) (m : Monitor) (w : List ℕ) (bits : EventBits)
+    → (offerOf l m w .answer ≡ offers bits) ↔ Offers l m w bits
 
 -- 01: "Refusals 1 to 10 .. keep areas"; "Start crowded (place 0) zeroes both areas"; the work area is "all zero after
 -- each call, but kept on refusal 1"

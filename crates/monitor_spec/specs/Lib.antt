@@ -12,15 +12,16 @@ pub mod Offer
 pub mod View
 pub mod Try
 pub mod Joined
+pub mod Counted
 pub mod Meaning
 pub mod Proper
 pub mod Sensible
 pub mod Expected
+pub mod Offers
 pub mod Refusals
 pub mod Progress
 pub mod History
 pub mod Stops
-pub mod Offers
 pub mod Views
 pub mod Tried
 pub mod Examples

@@ -1,8 +1,11 @@
--- Offer: its whole outcome (01, "Operations").
---     offerBits    the word: a bit for each event
---     offerOf      answer, areas and work words of a call
+-- Offer: its whole outcome (01, "Operations"; 02, W6: "Offer gives two words, events 0 to 63 in the first").
+--     EventBits             the two words
+--     wordBits              how many events a word has bits for
+--     bitsFrom, wordFrom    the bits of k events from b on; of as many as a word has room for
+--     allBits, offerBits    both words, of the residuals held and by the verdict
+--     offerOf               answer, areas and work words of a call
 -- The laws are in `Offer/Laws.antt`. Assumes nothing.
-use Prim.Native.Nat.{ℕ, zero, suc, _+_, _^_}
+use Prim.Native.Nat.{ℕ, zero, suc, _+_, _-_, _^_, min}
 use mathlib.Core.List.{List, [], _∷_}
 use lib.ListN.{length}
 use Rattle.table.specs.Table.{Table}
@@ -14,8 +17,13 @@ use Rattle.monitor_spec.specs.Entering.{entranceOn, entering}
 use Rattle.monitor_spec.specs.Feed.{presentSlots}
 pub mod Laws
 
+-- 02, W6: "Offer gives two words"
+pub record EventBits : Type 0 where
+  pub first : ℕ
+  pub second : ℕ
+
 pub data Offered : Type 0 where
-  offers : ℕ → Offered
+  offers : EventBits → Offered
   refused : ℕ → ℕ → Offered
 
 pub record OfferOutcome : Type 0 where
@@ -29,15 +37,26 @@ unfoldable pub bitOf : ℕ → List Residual → ℕ
 bitOf e [] = 0
 bitOf e (r ∷ rs) = 2 ^ e
 
--- the bits of the events below k
-unfoldable pub bitsBelow : Table → List Residual → ℕ → ℕ
-bitsBelow t rs zero = 0
-bitsBelow t rs (suc k) = bitsBelow t rs k + bitOf k (afterAll t k rs)
+-- the bits of the k events from b on: bit i is that of the event b + i
+unfoldable pub bitsFrom : Table → List Residual → ℕ → ℕ → ℕ
+bitsFrom t rs b zero = 0
+bitsFrom t rs b (suc k) = bitsFrom t rs b k + bitOf k (afterAll t (b + k) rs)
+
+-- 02, W6: "events 0 to 63 in the first"
+unfoldable pub wordBits : ℕ
+wordBits = 64
+
+-- the word of the events from b on; "events are 0 to A-1"
+unfoldable pub wordFrom : Table → List Residual → ℕ → ℕ
+wordFrom t rs b = bitsFrom t rs b (min wordBits (t .alphabet - b))
+
+unfoldable pub allBits : Table → List Residual → EventBits
+allBits t rs = record { first = wordFrom t rs 0; second = wordFrom t rs wordBits }
 
 -- "0 after failure"
-unfoldable pub offerBits : Table → Monitor → Verdict → ℕ
-offerBits t m running = bitsBelow t (held t (presentSlots m)) (t .alphabet)
-offerBits t m (failedAt p) = 0
+unfoldable pub offerBits : Table → Monitor → Verdict → EventBits
+offerBits t m running = allBits t (held t (presentSlots m))
+offerBits t m (failedAt p) = record { first = 0; second = 0 }
 
 -- "areas kept"
 unfoldable pub offering : Offered → Monitor → List ℕ → OfferOutcome

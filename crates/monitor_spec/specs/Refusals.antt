@@ -4,13 +4,12 @@
 --     IsTable          a number list meets none of 2 to 9
 --     StartRefused     Start's refusals: 1, 2 to 9, 13;  Starts: what it gives
 --     CallRefused      the refusals of Feed and Offer before an event: 1, 2 to 9, 10
---     Offers           the word that Offer gives
+--     Offers           the two words that Offer gives
 --     WorkLeft         what stands in the work area after a call
 -- The laws are in `Refusals/Laws.antt`. What Feed does with its events is in `Progress.antt`. Assumes nothing.
-use Prim.Native.Nat.{ℕ, _/_, _%_, _^_, _≤_, _<_}
+use Prim.Native.Nat.{ℕ, _%_, _≤_, _<_}
 use mathlib.Core.Path.{_≡_}
 use mathlib.Core.List.{List, []}
-use mathlib.Core.Logic.{_↔_}
 use lib.ListN.{length}
 use Rattle.numbers.specs.Number.{listBytes}
 use Rattle.table.specs.Table.{Table}
@@ -23,6 +22,8 @@ use Rattle.residuals.specs.Slots.{slotsOf}
 use Rattle.monitor_spec.specs.Meaning.{Some}
 use Rattle.monitor_spec.specs.State.{running, failedAt, Monitor, slotCount, fill}
 use Rattle.monitor_spec.specs.Joined.{residualCount}
+use Rattle.monitor_spec.specs.Offer.{EventBits}
+use Rattle.monitor_spec.specs.Offers.{WordsJust}
 use Rattle.monitor_spec.specs.Expected.{ifNone}
 use Rattle.monitor_spec.specs.Sensible.{Laid}
 pub mod Laws
@@ -79,16 +80,19 @@ pub data CallRefused (l : List ℕ) (m : Monitor) (w : List ℕ) (n p : ℕ) : T
   inconsistent : Measured (m .area0) (m .area1) w → (t : Table) → IsTable l t
       → (Laid t (slotCount (m .area0)) m → ⊥) → n ≡ 10 → p ≡ 0 → CallRefused l m w n p
 
--- Offer's word, of a monitor that holds residuals
-pub record Offers (l : List ℕ) (m : Monitor) (w : List ℕ) (bits : ℕ) : Type 0 where
+-- Offer's words, of a monitor that holds residuals
+pub record Offers (l : List ℕ) (m : Monitor) (w : List ℕ) (bits : EventBits) : Type 0 where
   pub measured : Measured (m .area0) (m .area1) w
   pub table : Table
   pub is-table : IsTable l table
   pub laid : Laid table (slotCount (m .area0)) m
-  -- "bit e is set exactly when the residuals after e, crowded or not, are not empty"
-  pub exact : (e : ℕ) → (bits / 2 ^ e % 2 ≡ 1) ↔ ((e < table .alphabet) × Some (afterAll table e (laid .residuals)))
+  -- "bit e is set exactly when the residuals after e, crowded or not, are not empty"; 02, W6: "two words, events 0 to
+  -- 63 in the first"
+  pub exact : WordsJust (table .alphabet) (λ (e : ℕ). Some (afterAll table e (laid .residuals))) bits
+  -- where no event is from 64 on, the second word is 0
+  pub one-word : table .alphabet ≤ 64 → bits .second ≡ 0
   -- "0 after failure"
-  pub failed : (p : ℕ) → m .state .verdict ≡ failedAt p → bits ≡ 0
+  pub failed : (p : ℕ) → m .state .verdict ≡ failedAt p → bits ≡ record { first = 0; second = 0 }
 
 -- ---- the work area
 

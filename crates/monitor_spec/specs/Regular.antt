@@ -2,6 +2,7 @@
 -- keeps them. No claim names it. Assumes nothing.
 use Prim.Native.Nat.{ℕ, _≤_, _<_}
 use Rattle.table.specs.Table.{Table, termCount, bodyOf}
+use Rattle.table.specs.Rows.{alphabetMost}
 use Rattle.meaning.specs.Figure1.{bodyCount, GuardedTable}
 use Rattle.meaning.specs.Closing.{Scoped}
 use Rattle.table.specs.References.{levelIn}
@@ -10,9 +11,9 @@ pub mod Least
 pub mod Laws
 
 pub record Regular (t : Table) : Type 0 where
-  -- "alphabet size A, 1 to 64"
+  -- 02, W6: "A may be 1 to 128"
   pub alphabet-some : 1 ≤ t .alphabet
-  pub alphabet-most : t .alphabet ≤ 64
+  pub alphabet-most : t .alphabet ≤ alphabetMost
   -- "Terms are numbered from 0 in reading order over the table, at most 1,024"
   pub terms-most : termCount t ≤ 1024
   -- "number of definitions, 1 to 32"

@@ -2,7 +2,7 @@
 // "When the monitor declines").
 //     judge            of Start and Feed: NUMBER PLACE HAS TAKEN COUNT PEAK FAILED AT DIGEST KEPT
 //     judge_trial      of Try: the same with FURTHER, a digest, before KEPT
-//     judge_offered    of Offer: NUMBER PLACE MASK DIGEST KEPT
+//     judge_offered    of Offer: NUMBER PLACE FIRST SECOND DIGEST KEPT
 //     judge_part       of View: AREA LENGTH
 use crate::areas;
 use crate::lent::Done;
@@ -75,9 +75,9 @@ fn answer_right(f: Fields, stored: &[u64]) -> bool {
 
 fn offered_right(answer: Offered, stored: &[u64]) -> bool {
     match answer {
-        Offered::Offers(mask) => areas::begins(stored, &[0, 0, mask]),
+        Offered::Offers(bits) => areas::begins(stored, &[0, 0, bits.first, bits.second]),
         Offered::Refused(refusal) => {
-            let answer = [refusal.number as u64, refusal.place as u64, 0];
+            let answer = [refusal.number as u64, refusal.place as u64, 0, 0];
             areas::begins(stored, &answer)
         }
     }
@@ -151,13 +151,13 @@ pub fn judge_offered(
     work: &[u64],
     stored: &[u64],
 ) -> Outcome {
-    if stored.len() != 5 {
+    if stored.len() != 6 {
         return Outcome::Malformed;
     }
     if !offered_right(answer, stored) {
         return Outcome::Wrong;
     }
-    let from = 3;
+    let from = 4;
     outcome_of(lent_right(area0, area1, work, &stored[from..]))
 }
 

@@ -1,2 +1,3 @@
--- The worked examples of `specs/Examples.antt` hold. Assumes nothing.
+-- The claims of `specs/Claims.antt`, and that the worked examples of `specs/Examples.antt` hold. Assumes nothing.
+pub mod Theorems
 pub mod Rows

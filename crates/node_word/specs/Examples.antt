@@ -1,4 +1,4 @@
--- Node words as numbers (01, "Residuals": "A node word is term × 2^24 + m0 × 2^18 + m1 × 2^12 + m2 × 2^6 + m3").
+-- Node words as numbers: term × 2^28 + m0 × 2^21 + m1 × 2^14 + m2 × 2^7 + m3 (02, W6).
 --     WordIs    the word of term 4 with the memory 4, 3, 2, 1, and what it gives back; the largest events
 -- Assumes nothing.
 use Prim.Native.Nat.{ℕ}
@@ -11,5 +11,5 @@ four a b c d = record { m0 = a; m1 = b; m2 = c; m3 = d }
 
 unfoldable pub WordIs : Type 0
 WordIs =
-    (pack 4 (four 4 3 2 1) ≡ 68169857) × (termOfWord 68169857 ≡ 4) × (memoryOf 68169857 ≡ four 4 3 2 1)
-    × (pack 1023 (four 63 63 63 63) ≡ 17179869183) × (memoryOf 17179869183 ≡ four 63 63 63 63)
+    (pack 4 (four 4 3 2 1) ≡ 1082179841) × (termOfWord 1082179841 ≡ 4) × (memoryOf 1082179841 ≡ four 4 3 2 1)
+    × (pack 1023 (four 127 127 127 127) ≡ 274877906943) × (memoryOf 274877906943 ≡ four 127 127 127 127)

@@ -9,9 +9,9 @@ use Prim.Native.Nat.{ℕ, _+_, _*_, _/_, _%_, _^_, _<_}
 use Rattle.table.specs.Memory.{Memory}
 pub mod Laws
 
--- "m2 × 2^6"
+-- 02, W6: "memory digits take seven bits"
 unfoldable pub digitBits : ℕ
-digitBits = 6
+digitBits = 7
 
 unfoldable pub digitBound : ℕ
 digitBound = 2 ^ digitBits
@@ -19,7 +19,8 @@ digitBound = 2 ^ digitBits
 unfoldable pub memoryBound : ℕ
 memoryBound = 2 ^ (4 * digitBits)
 
--- "A node word is term × 2^24 + m0 × 2^18 + m1 × 2^12 + m2 × 2^6 + m3."
+-- 01: "A node word is term × 2^24 + m0 × 2^18 + m1 × 2^12 + m2 × 2^6 + m3"; 02, W6: "so a node word is term × 2^28 and
+-- so on down"
 unfoldable pub pack : ℕ → Memory → ℕ
 pack n m =
     n * 2 ^ (4 * digitBits) + m .m0 * 2 ^ (3 * digitBits) + m .m1 * 2 ^ (2 * digitBits) + m .m2 * 2 ^ digitBits + m .m3

@@ -1,5 +1,5 @@
-// Node words (document 01, "Residuals": "A node word is term × 2^24 + m0 × 2^18 + m1 × 2^12 + m2 ×
-// 2^6 + m3"). No other code packs a word or takes one apart. The definitions are in
+// Node words: term × 2^28 + m0 × 2^21 + m1 × 2^14 + m2 × 2^7 + m3 (document 02, W6: "memory digits
+// take seven bits"). No other code packs a word or takes one apart. The definitions are in
 // `specs/Word.antt`, their laws in `specs/Word/Laws.antt`.
 ghost use mathlib.Core.Path.{_≡_};
 ghost use Prim.Native.Nat.{_<_};
@@ -7,7 +7,7 @@ ghost use Rattle.table.specs.Memory.{digit as eventAt, remember as remembered};
 ghost use Rattle.node_word.specs.Word.{digitBound, memoryBound, pack, termOfWord, memoryOf};
 
 // The bits of an event in a word; where the second, the first event and the term begin.
-const DIGIT_BITS: u64 = 6;
+const DIGIT_BITS: u64 = 7;
 
 const SECOND: u64 = 2 * DIGIT_BITS;
 

@@ -5,6 +5,7 @@ use table::Judged;
 use table::Place;
 use table::Refusal;
 use table::TermEnd;
+use table::bounds;
 use table_index::layout;
 ghost use mathlib.Core.Path.{_≡_};
 ghost use lib.ListN.{length};
@@ -84,7 +85,7 @@ pub fn parse(list: &[u16], work: &mut [u64]) -> Judged
             place: 0,
         });
     }
-    if 64 < alphabet {
+    if bounds::ALPHABET_MOST < alphabet {
         return Judged::Declined(Refusal {
             number: 5,
             place: 0,

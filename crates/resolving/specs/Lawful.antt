@@ -11,6 +11,7 @@ use mathlib.Core.List.{List, [], _∷_}
 use mathlib.Core.Option.{none}
 use lib.ListN.{length}
 use Rattle.numbers.specs.Every.{All, AllFrom, all-imp, from-at}
+use Rattle.table.specs.Rows.{alphabetMost}
 use Rattle.table.specs.Table.{Term, stop, fail, prefix, choice, par, call, Definition, Table, termCount}
 use Rattle.table.specs.Context.{Context, outermost, underPrefix, underParallel, Throughout, Each, Followers}
 use Rattle.table.specs.Fields.{OfCall, depthOf}
@@ -40,7 +41,7 @@ pub record Lawful (t : Table) : Type 0 where
   -- 7 is not met
   pub references : firstWrong t ≡ none
   pub events-least : 1 ≤ t .alphabet
-  pub events-most : t .alphabet ≤ 64
+  pub events-most : t .alphabet ≤ alphabetMost
   pub named : (n : ℕ) → n < termCount t → Below (length (t .definitions)) (termOf t n)
   pub lower : (d : ℕ) → d < length (t .definitions) → Below d (bodyIn (t .definitions) d)
   pub shallow : (n : ℕ) → n < termCount t → depthOf (termOf t n) ≤ 32

@@ -1,4 +1,4 @@
--- What a node word says of its term, by number (01, "Residuals": "A node word is term × 2^24 + ..").
+-- What a node word says of its term, by number (02, W6: "a node word is term × 2^28 and so on down").
 --     kindAt, holdsAt     the kind of a word's term; whether its set, at the word's memory, has an event
 --     KnownWord           a word of a term of the table, whose memory has events of the table
 -- Node words are in crate node_word. The laws are in `Words/Laws.antt`. Assumes nothing.

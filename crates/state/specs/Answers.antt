@@ -1,16 +1,18 @@
 -- The code's answers as 01 has them (01, "Which form goes where": "Where an answer is an enum, the promises use a
 -- definition"; "When the monitor declines").
 --     answerOf, outcome          an answer of Start or Feed; with what stands in the lent areas
+--     bitsOf                     two words of bits
 --     offeredOf, offerOutcome    the same of Offer
 -- Assumes nothing.
 use Prim.Native.Nat.{ℕ}
 use mathlib.Core.List.{List}
 use Rattle.state.specs.declared.answer.Answer as code
 use Rattle.state.specs.declared.answer.Answer.the-variants.{Given, Refused, Stopped}
+use Rattle.state.specs.declared.answer.EventBits as words
 use Rattle.state.specs.declared.answer.Offered as offer
 use Rattle.state.specs.declared.answer.Offered.the-variants as said
 use Rattle.monitor_spec.specs.State.{Answer, given, refused, stopped, Outcome}
-use Rattle.monitor_spec.specs.Offer.{Offered, offers, OfferOutcome}
+use Rattle.monitor_spec.specs.Offer.{EventBits, Offered, offers, OfferOutcome}
 use Rattle.monitor_spec.specs.Offer as operation
 use Rattle.state.specs.Record.{stateOf}
 
@@ -24,8 +26,11 @@ answerOf (Stopped r s) = stopped (r .number) (r .place) (stateOf s)
 abbrev pub outcome : code.Answer → List ℕ → List ℕ → List ℕ → Outcome
 outcome r a b w = record { answer = answerOf r; area0 = a; area1 = b; work = w }
 
+abbrev pub bitsOf : words.EventBits → EventBits
+bitsOf b = record { first = b .first; second = b .second }
+
 abbrev pub offeredOf : offer.Offered → Offered
-offeredOf (said.Offers b) = offers b
+offeredOf (said.Offers b) = offers (bitsOf b)
 offeredOf (said.Refused r) = operation.refused (r .number) (r .place)
 
 abbrev pub offerOutcome : offer.Offered → List ℕ → List ℕ → List ℕ → OfferOutcome

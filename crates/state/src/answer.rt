@@ -10,8 +10,14 @@ pub enum Answer {
     Stopped(Refusal, State),
 }
 
-// The events that may come next, a bit for each; or a refusal.
+// A bit for each event (document 02, W6): bit e of the first word is event e, of the second 64 + e.
+pub struct EventBits {
+    pub first: u64,
+    pub second: u64,
+}
+
+// The events that may come next; or a refusal.
 pub enum Offered {
-    Offers(u64),
+    Offers(EventBits),
     Refused(Refusal),
 }

@@ -9,6 +9,7 @@ mod valid;
 mod viewer;
 
 pub use answer::Answer;
+pub use answer::EventBits;
 pub use answer::Offered;
 pub use consistency::consistent;
 pub use lengths::lengths_fit;

@@ -19,6 +19,8 @@ use Rattle.table.specs.Refusals.Lowest.{many-in}
 use Rattle.table.specs.Marks.Exact.{marks-out, marks-in}
 use Rattle.table.specs.BytesRefused.Exact.{refused-bytes-out}
 use Rattle.table.specs.BytesRefused.Given.{refused-bytes-in}
+use Rattle.table.specs.Grammar.Rows.{passing-refused}
+use Rattle.table.specs.Before.Laws.{list-before, bytes-before, was-refused}
 use Rattle.table.specs.Equations.{branches-call, width-level}
 use Rattle.table.specs.Examples.Laws.{numbers-hold, tables-hold, counts-hold, longs-hold}
 use Rattle.table.specs.Examples.Laws.{reads-hold, writes-hold}
@@ -30,7 +32,7 @@ use Rattle.table.specs.Claims.{NumberReadsBack, NumberCanonical, TableRe
 use Rattle.table.specs.Claims.{AcceptedExactly, AcceptedBytesExactly, AcceptedWritesBack, WrittenReadsBack}
 use Rattle.table.specs.Claims.{RefusedExactly, RefusedBytesExactly, ManyAtTerm, FieldsAreMarks}
 use Rattle.table.specs.Claims.{BranchesOfCall, WidthOfLevel, ReadFills, Examples}
-use Rattle.table.specs.Claims.{ReachMost, CappedBranches, Bounds}
+use Rattle.table.specs.Claims.{ReachMost, CappedBranches, Bounds, RowsBounded, OldTables}
 
 pub number-reads-back : NumberReadsBack
 unfolding NumberReadsBack
@@ -80,6 +82,14 @@ many-at-term t n = (many-at t n, many-in t n)
 pub fields-are-marks : FieldsAreMarks
 unfolding FieldsAreMarks
 fields-are-marks t = ((marks-out t, λ h. marks-in t (h .0) (h .1)), table-numbers t)
+
+pub rows-bounded : RowsBounded
+unfolding RowsBounded
+rows-bounded t c k more f h b d o = passing-refused t c k more f h b d o
+
+pub old-tables : OldTables
+unfolding OldTables
+old-tables = (list-before, bytes-before, was-refused)
 
 pub accepted-writes-back : AcceptedWritesBack
 unfolding AcceptedWritesBack

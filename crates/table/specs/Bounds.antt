@@ -1,6 +1,7 @@
 -- Both sides of each bound that 01's "Numbers and table" names, each rule kept and broken, and which of two refusals is
 -- given, as rows of computed tests beside those of `Examples`.
 --     alphabetRows, setRows, definitionRows, parameterRows    the bounds that one number breaks
+--     rowRows                                                 the bound of all rows together
 --     callRows                                                the rules on calls
 --     widthRows, branchRows                                   hands and openings
 --     orderRows                                               two refusals met at once
@@ -8,18 +9,29 @@
 use Prim.Native.Nat.{ℕ}
 use mathlib.Core.Bool.{Bool}
 use mathlib.Core.List.{List, [], _∷_, _++_}
+use lib.ListN.{replicate}
 use Rattle.table.specs.Examples.{bytesAre, listIs, S0, beside, balanced, copies}
 pub mod Laws
 
 -- ---- bounds that one number breaks
 
--- "alphabet size A, 1 to 64"
+-- 02, W6: "A may be 1 to 128"; 128 is written in two bytes
 unfoldable pub alphabetRows : List Bool
 alphabetRows =
     listIs (0 ∷ 0 ∷ 1 ∷ 0 ∷ 0 ∷ []) 5 0
     ∷ listIs (1 ∷ 0 ∷ 1 ∷ 0 ∷ 0 ∷ []) 0 5
     ∷ listIs (64 ∷ 0 ∷ 1 ∷ 0 ∷ 0 ∷ []) 0 5
-    ∷ listIs (65 ∷ 0 ∷ 1 ∷ 0 ∷ 0 ∷ []) 5 0
+    ∷ listIs (65 ∷ 0 ∷ 1 ∷ 0 ∷ 0 ∷ []) 0 5
+    ∷ listIs (127 ∷ 0 ∷ 1 ∷ 0 ∷ 0 ∷ []) 0 5
+    ∷ listIs (128 ∷ 0 ∷ 1 ∷ 0 ∷ 0 ∷ []) 0 5
+    ∷ listIs (129 ∷ 0 ∷ 1 ∷ 0 ∷ 0 ∷ []) 5 0
+    ∷ bytesAre (128 ∷ 1 ∷ 0 ∷ 1 ∷ 0 ∷ 0 ∷ []) 0 5
+    ∷ bytesAre (129 ∷ 1 ∷ 0 ∷ 1 ∷ 0 ∷ 0 ∷ []) 5 0
+    -- events 63, 64 and 127 stand in a row, 128 does not
+    ∷ listIs (128 ∷ 1 ∷ 0 ∷ 3 ∷ 63 ∷ 64 ∷ 127 ∷ 1 ∷ 0 ∷ 0 ∷ []) 0 10
+    ∷ listIs (128 ∷ 1 ∷ 0 ∷ 3 ∷ 63 ∷ 64 ∷ 128 ∷ 1 ∷ 0 ∷ 0 ∷ []) 5 6
+    ∷ bytesAre (128 ∷ 1 ∷ 1 ∷ 0 ∷ 3 ∷ 63 ∷ 64 ∷ 127 ∷ 1 ∷ 0 ∷ 0 ∷ []) 0 10
+    ∷ bytesAre (128 ∷ 1 ∷ 1 ∷ 0 ∷ 3 ∷ 63 ∷ 64 ∷ 128 ∷ 1 ∷ 1 ∷ 0 ∷ 0 ∷ []) 5 7
     ∷ []
 
 -- so many sets, all {}
@@ -47,6 +59,31 @@ setRows =
     -- "strictly ascending"
     ∷ listIs (2 ∷ 1 ∷ 0 ∷ 2 ∷ 0 ∷ 0 ∷ 1 ∷ 0 ∷ 0 ∷ []) 5 5
     ∷ listIs (2 ∷ 1 ∷ 0 ∷ 2 ∷ 1 ∷ 0 ∷ 1 ∷ 0 ∷ 0 ∷ []) 5 5
+    ∷ []
+
+-- so many sets of kind 1, each of A empty rows
+abbrev families : ℕ → ℕ → List ℕ
+families A n = copies n (1 ∷ replicate A 0)
+
+-- 02, W6: "With A above 64, all rows together number at most 3,072, else 5 at the kind of the set that passes it"
+unfoldable pub rowRows : List Bool
+rowRows =
+    -- 24 sets of 128 rows stand; the kind of one more set, of either kind, does not, whatever follows it or nothing
+    listIs (128 ∷ 24 ∷ families 128 24 ++ (1 ∷ 0 ∷ 0 ∷ [])) 0 3101
+    ∷ listIs (128 ∷ 25 ∷ families 128 24) 3 3098
+    ∷ listIs (128 ∷ 25 ∷ families 128 24 ++ (0 ∷ [])) 5 3098
+    ∷ listIs (128 ∷ 25 ∷ families 128 24 ++ (1 ∷ [])) 5 3098
+    ∷ listIs (128 ∷ 25 ∷ families 128 24 ++ (2 ∷ [])) 5 3098
+    ∷ listIs (128 ∷ 25 ∷ families 128 24 ++ (0 ∷ 129 ∷ [])) 5 3098
+    ∷ bytesAre (128 ∷ 1 ∷ 25 ∷ families 128 24 ++ (0 ∷ [])) 5 3099
+    -- a row of kind 0 before 23 such sets: the next makes 3,073
+    ∷ listIs (128 ∷ 25 ∷ 0 ∷ 0 ∷ families 128 23 ++ (1 ∷ [])) 5 2971
+    -- A = 65: 47 sets of 65 rows and 17 of one; a 48th of 65
+    ∷ listIs (65 ∷ 64 ∷ families 65 47 ++ copies 17 (0 ∷ 0 ∷ []) ++ (1 ∷ 0 ∷ 0 ∷ [])) 0 3141
+    ∷ listIs (65 ∷ 64 ∷ families 65 47 ++ (1 ∷ [])) 5 3104
+    ∷ listIs (65 ∷ 64 ∷ copies 17 (0 ∷ 0 ∷ []) ++ families 65 47 ++ (1 ∷ 0 ∷ 0 ∷ [])) 0 3141
+    -- A = 64: 4,096 rows stand as before
+    ∷ listIs (64 ∷ 64 ∷ families 64 64 ++ (1 ∷ 0 ∷ 0 ∷ [])) 0 4165
     ∷ []
 
 unfoldable pub definitionRows : List Bool
@@ -172,7 +209,7 @@ branchRows =
 unfoldable pub orderRows : List Bool
 orderRows =
     -- 5 before 4, 4 before 5; 4 and 5 after a number of two bytes; on a list "places are list places"
-    bytesAre (65 ∷ 128 ∷ 0 ∷ []) 5 0
+    bytesAre (0 ∷ 128 ∷ 0 ∷ []) 5 0
     ∷ bytesAre (3 ∷ 128 ∷ 0 ∷ 65 ∷ []) 4 1
     ∷ bytesAre (S0 ++ (2 ∷ 0 ∷ 2 ∷ 0 ∷ 5 ∷ 172 ∷ 2 ∷ 128 ∷ 0 ∷ [])) 4 12
     ∷ listIs (S0 ++ (2 ∷ 0 ∷ 2 ∷ 0 ∷ 5 ∷ 300 ∷ 0 ∷ 6 ∷ [])) 5 12

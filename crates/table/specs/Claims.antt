@@ -8,6 +8,8 @@
 --     RefusedBytesExactly                 the bytes that are refused, with which number and place
 --     ManyAtTerm                          refusal 9's place is the number of a body or a follower with over 256 branches
 --     FieldsAreMarks                      the field rules hold where each number keeps its own bound
+--     RowsBounded                         the kind of the set that passes the bound of the rows is refused
+--     OldTables                           with a first number of at most 64 all is judged as before W6
 --     AcceptedWritesBack                  what Read accepts, Write writes back byte for byte
 --     WrittenReadsBack                    what Write writes, Read reads back number for number
 --     ReachMost                           the reach of a term is at most 8
@@ -21,7 +23,7 @@ use Prim.Native.Nat.{ℕ, _+_, _≤_, _<_, _-_}
 use mathlib.Core.Path.{_≡_}
 use mathlib.Core.Bool.{true, false}
 use mathlib.Core.Logic.{_↔_}
-use mathlib.Core.List.{List, _++_}
+use mathlib.Core.List.{List, _∷_, _++_, flatMap}
 use mathlib.Core.Option.{none}
 use lib.ListN.{length, take, drop, getD}
 use lib.Dec.{T}
@@ -29,10 +31,12 @@ use Rattle.numbers.specs.Every.{All}
 use Rattle.table.specs.Table.{Term, call, Table}
 use Rattle.numbers.specs.Number.{bytesOf, value, readNumber, listBytes}
 use Rattle.numbers.specs.Number.{Bytes}
-use Rattle.table.specs.Tokens.{Tokens, listTokens}
+use Rattle.table.specs.Rows.{rowCount, allRows}
+use Rattle.table.specs.Before.{judgeBefore, judgeListBefore, judgeBytesBefore, FirstMost, FirstOver}
+use Rattle.table.specs.Tokens.{Tokens, listTokens, byteTokens, placeOf}
 use Rattle.table.specs.Parser.{got}
 use Rattle.table.specs.Grammar.{table}
-use Rattle.table.specs.Writing.{numbersOf}
+use Rattle.table.specs.Writing.{setNumbers, numbersOf}
 use Rattle.table.specs.Context.{Each}
 use Rattle.table.specs.Fields.{Fields}
 use Rattle.table.specs.References.{firstWrong}
@@ -41,8 +45,8 @@ use Rattle.table.specs.Branches.{branchesAt, allBranches, branches, body
 use Rattle.table.specs.Branches.Capped.{capped, cappedWith, allCapped}
 use Rattle.table.specs.Equations.{callCount}
 use Rattle.table.specs.Examples.{every, numberRows, tableRows, countRows, longRows, readRows, writeRows}
-use Rattle.table.specs.Bounds.{alphabetRows, setRows, definitionRows, parameterRows, callRows, widthRows}
-use Rattle.table.specs.Bounds.{branchRows, orderRows}
+use Rattle.table.specs.Bounds.{alphabetRows, setRows, rowRows, definitionRows, parameterRows, callRows}
+use Rattle.table.specs.Bounds.{widthRows, branchRows, orderRows}
 use Rattle.table.specs.Rules.{Rules}
 use Rattle.table.specs.Marks.{tableMarks, Shape}
 use Rattle.table.specs.Parser.Mark.{Mark, numbers, Pass}
@@ -93,6 +97,23 @@ ManyAtTerm =
 
 unfoldable pub FieldsAreMarks : Type 0
 FieldsAreMarks = (t : Table) → (Fields t ↔ (Shape t × Pass (tableMarks t))) × (numbers (tableMarks t) ≡ numbersOf t)
+
+-- 02, W6: "With A above 64, all rows together number at most 3,072, else 5 at the kind of the set that passes it": the
+-- sets of a table that keeps the field rules, and then the kind of one set more, whatever stands behind it. Of a number
+-- list; on bytes the refusal is the same by RefusedBytesExactly, at that number's first byte
+unfoldable pub RowsBounded : Type 0
+RowsBounded = (t : Table) (c k : ℕ) (more : List ℕ) → Fields t → 64 < t .alphabet → length (t .sets) < c → c ≤ 64
+    → 3072 < length (allRows (t .sets)) + rowCount k (t .alphabet)
+    → judgeList (t .alphabet ∷ c ∷ (flatMap setNumbers (t .sets) ++ (k ∷ more)))
+    ≡ declined 5 (2 + length (flatMap setNumbers (t .sets)))
+
+-- 02, W6: "every old table is read as before": numbers, and bytes, whose first number is at most 64 are judged as 01
+-- alone has it, and that refuses every other input with 5 at its first number
+unfoldable pub OldTables : Type 0
+OldTables =
+    ((l : List ℕ) → FirstMost 64 (listTokens 0 l) → judgeList l ≡ judgeListBefore l)
+    × ((s : List ℕ) → FirstMost 64 (byteTokens s) → judgeBytes s ≡ judgeBytesBefore s)
+    × ((ts : Tokens) → FirstOver 64 ts → judgeBefore ts ≡ declined 5 (placeOf ts 0))
 
 -- 00, demand 2: "An accepted table writes back to its own bytes"
 unfoldable pub AcceptedWritesBack : Type 0
@@ -151,5 +172,5 @@ Examples =
 -- 01, "Numbers and table": each number of it, on both sides; "When the monitor declines": "Order"
 unfoldable pub Bounds : Type 0
 Bounds =
-    T (every alphabetRows) × T (every setRows) × T (every definitionRows) × T (every parameterRows)
-    × T (every callRows) × T (every widthRows) × T (every branchRows) × T (every orderRows)
+    T (every alphabetRows) × T (every setRows) × T (every rowRows) × T (every definitionRows)
+    × T (every parameterRows) × T (every callRows) × T (every widthRows) × T (every branchRows) × T (every orderRows)

@@ -164,6 +164,10 @@ nearlyFull n =
     let full : List ℕ = 64 ∷ upTo 64 [] in
     64 ∷ 4 ∷ (copies 3 (1 ∷ copies 64 full) ++ (1 ∷ (copies 59 full ++ (n ∷ upTo n (replicate 4 0)))))
 
+-- A = 128, one kind 1 set: 125 full rows, whose count takes two bytes, one of n events and two of none
+abbrev pub nearlyFullLarge : ℕ → List ℕ
+nearlyFullLarge n = 128 ∷ 1 ∷ 1 ∷ (copies 125 (128 ∷ upTo 128 []) ++ (n ∷ upTo n (replicate 2 0)))
+
 -- 01: "A table is at most 16,384 bytes"; "2 (its bytes would be too many) stands right after 9"
 unfoldable pub longRows : List Bool
 longRows =
@@ -171,6 +175,8 @@ longRows =
     ∷ listIs (nearlyFull 55 ++ (1 ∷ 0 ∷ 0 ∷ [])) 0 16384
     ∷ bytesAre (nearlyFull 56 ++ (1 ∷ 0 ∷ 0 ∷ [])) 2 0
     ∷ listIs (nearlyFull 56 ++ (1 ∷ 0 ∷ 0 ∷ [])) 2 0
+    ∷ listIs (nearlyFullLarge 124 ++ (1 ∷ 0 ∷ 0 ∷ [])) 0 16258
+    ∷ listIs (nearlyFullLarge 125 ++ (1 ∷ 0 ∷ 0 ∷ [])) 2 0
     ∷ listIs (overlong ++ (1 ∷ 0 ∷ 0 ∷ [])) 2 0
     ∷ listIs (overlong ++ (1 ∷ 0 ∷ 5 ∷ 9 ∷ [])) 7 16651
     ∷ listIs (overlong ++ (1 ∷ 0 ∷ copies 8 (4 ∷ 4 ∷ 0 ∷ [])) ++ (0 ∷ [])) 8 0

@@ -9,6 +9,7 @@ use lib.ListN.{length, getD}
 use Rattle.numbers.specs.Every.{All}
 use Rattle.table.specs.Table.{SetRef, fixed, family, Term, stop, fail, prefix, choice, par, call, SetDef, one}
 use Rattle.table.specs.Table.{each, Definition, Table, termCount}
+use Rattle.table.specs.Rows.{alphabetMost, rowsIn, RowsFit}
 use Rattle.table.specs.Context.{Each}
 pub mod Laws
 
@@ -68,13 +69,15 @@ depthOf (par r p q) = suc (max (depthOf p) (depthOf q))
 depthOf (call d) = 1
 
 pub record Fields (t : Table) : Type 0 where
-  -- "alphabet size A, 1 to 64"
+  -- 02, W6: "A may be 1 to 128"
   pub alphabet-least : 1 ≤ t .alphabet
-  pub alphabet-most : t .alphabet ≤ 64
+  pub alphabet-most : t .alphabet ≤ alphabetMost
   -- "number of sets, 0 to 64"
   pub sets-most : length (t .sets) ≤ 64
   -- "or kind 1 and A rows"
   pub family-rows : All (FamilyRows (t .alphabet)) (t .sets)
+  -- 02, W6: "With A above 64, all rows together number at most 3,072"
+  pub rows-most : RowsFit (t .alphabet) (rowsIn (t .alphabet) (t .sets))
   -- "A row is a count, 0 to A"
   pub row-counts : All (EachRow (λ r. length r ≤ t .alphabet)) (t .sets)
   -- "events are 0 to A-1"

@@ -2,6 +2,7 @@
 -- then the contracts of the code; then the examples and what is proved. The laws of each file stand below it.
 -- Assumes nothing.
 pub mod Table
+pub mod Rows
 pub mod Part
 pub mod Tokens
 pub mod Parser
@@ -18,6 +19,7 @@ pub mod Memory
 pub mod Rules
 pub mod Equations
 pub mod Judge
+pub mod Before
 pub mod Marks
 pub mod Refusals
 pub mod BytesRefused

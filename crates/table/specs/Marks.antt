@@ -14,6 +14,7 @@ use lib.Dec.{ltb, leb}
 use Rattle.numbers.specs.Every.{All}
 use Rattle.table.specs.Table.{SetRef, fixed, family, Term, stop, fail, prefix, choice, par, call, SetDef, one}
 use Rattle.table.specs.Table.{each, Definition, Table, size}
+use Rattle.table.specs.Rows.{alphabetMost, rowsOf, rowsFit}
 use Rattle.table.specs.Context.{Each}
 use Rattle.table.specs.Fields.{FamilyRows, IsOne, IsEach, OfRef}
 use Rattle.table.specs.Parser.Mark.{Mark, mark, numbers, Pass}
@@ -36,9 +37,14 @@ eventMarks A low (e ∷ es) = mark e (leb low e && ltb e A) ∷ eventMarks A (su
 unfoldable pub rowMarks : ℕ → List ℕ → List Mark
 rowMarks A r = mark (length r) (leb (length r) A) ∷ eventMarks A 0 r
 
-unfoldable pub setMarks : ℕ → SetDef → List Mark
-setMarks A (one r) = mark 0 true ∷ rowMarks A r
-setMarks A (each rs) = mark 1 true ∷ flatMap (rowMarks A) rs
+-- 02, W6: "else 5 at the kind of the set that passes it": of a set after n rows
+unfoldable pub setMarks : ℕ → ℕ → SetDef → List Mark
+setMarks A n (one r) = mark 0 (rowsFit A (n + 1)) ∷ rowMarks A r
+setMarks A n (each rs) = mark 1 (rowsFit A (n + A)) ∷ flatMap (rowMarks A) rs
+
+unfoldable pub setsMarks : ℕ → ℕ → List SetDef → List Mark
+setsMarks A n [] = []
+setsMarks A n (s ∷ ss) = setMarks A n s ++ setsMarks A (n + rowsOf A s) ss
 
 -- "a set number that does not exist is 5"; "a parameter k, 0 to 3"
 unfoldable pub refMarks : List SetDef → SetRef → List Mark
@@ -75,14 +81,14 @@ unfoldable pub definitionsMarks : List SetDef → ℕ → List Definition → Li
 definitionsMarks sets n [] = []
 definitionsMarks sets n (d ∷ ds) = definitionMarks sets n d ++ definitionsMarks sets (n + size (d .body)) ds
 
--- "alphabet size A, 1 to 64", "number of sets, 0 to 64", "number of definitions, 1 to 32"
+-- 02, W6: "A may be 1 to 128"; "number of sets, 0 to 64", "number of definitions, 1 to 32"
 unfoldable pub tableMarks : Table → List Mark
 tableMarks t =
     let A = t .alphabet in
     let c = length (t .sets) in
     let n = length (t .definitions) in
-    mark A (leb 1 A && leb A 64) ∷ mark c (leb c 64)
-    ∷ (flatMap (setMarks A) (t .sets) ++ (mark n (leb 1 n && leb n 32) ∷ definitionsMarks (t .sets) 0 (t .definitions)))
+    mark A (leb 1 A && leb A alphabetMost) ∷ mark c (leb c 64)
+    ∷ (setsMarks A 0 (t .sets) ++ (mark n (leb 1 n && leb n 32) ∷ definitionsMarks (t .sets) 0 (t .definitions)))
 
 abbrev pub RefShape : List SetDef → SetRef → Type 0
 RefShape sets (fixed s) = IsOne (getD sets s (one []))

@@ -3,6 +3,7 @@
 // parse, judge and codec. `specs/Lib.antt` lists the definitions in reading order,
 // `specs/Claims.antt` what is proved of them.
 mod answer;
+pub mod bounds;
 mod rows;
 mod terms;
 

@@ -1,9 +1,9 @@
 // What the reading of a set answers.
 use crate::answer::Refusal;
 
-// A row as a mask and the place after it, or why there is none.
+// A row as the two words of its mask and the place after it, or why there is none.
 pub enum Row {
-    Mask { mask: u64, next: usize },
+    Mask { low: u64, high: u64, next: usize },
     NoRow(Refusal),
 }
 

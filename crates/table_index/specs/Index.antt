@@ -1,12 +1,13 @@
 -- The index of a table in the work area (ours; 01 leaves the work area's use open).
---     maskOf, setMasks, firstRow, setWord    a row as a mask; a set's masks, first row and word
+--     maskOf, firstWord, secondWord          a row as a mask; the two words of a mask
+--     setMasks, firstRow, setWord            a set's masks, first row and word
 --     wordOf                                 the structure of a term's word
 --     SetsIndexed, Structured                the sets, and also the terms and definitions, stand in the work area
 --     Reaching, Branching                    so do reach and branches of the terms
 --     Indexed                                the index of an accepted number list
 -- `Layout.antt` has where each part stands, and the digits of a word. The laws are in `Index/Laws.antt`,
 -- `Index/Places.antt`, `Index/Heads.antt` and `Index/Sets.antt`. Assumes nothing.
-use Prim.Native.Nat.{ℕ, _+_, _*_, _^_, _<_, _≤_}
+use Prim.Native.Nat.{ℕ, _+_, _*_, _/_, _%_, _^_, _<_, _≤_}
 use mathlib.Core.Path.{_≡_}
 use mathlib.Core.List.{List, [], _∷_, flatMap, map}
 use lib.ListN.{length, getD, take}
@@ -15,17 +16,19 @@ use mathlib.Core.Bool.{_&&_}
 use Rattle.table.specs.declared.terms.Spot.{Spot}
 use Rattle.table.specs.Table.{Term, stop, fail, prefix, choice, par, call, SetDef, one, each}
 use Rattle.table.specs.Table.{Table, termCount, bodyNumber}
+use Rattle.table.specs.Rows.{alphabetMost, largeAbove, RowsFit}
 use Rattle.table.specs.Tokens.{listTokens}
-use Rattle.table.specs.Parser.{Result, got, refused, number, andThen, times}
-use Rattle.table.specs.Grammar.{eventSet, table}
+use Rattle.table.specs.Parser.{Result, got, refused, number, andThen}
+use Rattle.table.specs.Grammar.{eventSets, table}
 use Rattle.table.specs.References.{levelIn}
 use Rattle.table.specs.Width.{reach}
 use Rattle.table.specs.Branches.{branches}
 use Rattle.table.specs.Branches.Capped.{capped}
 use Rattle.table.specs.Judge.{accepted, judgeList}
 use Rattle.table.specs.Node.{Node, nodeAt, termOf, kindOf, leftSize, refOf, setOf, parameterOf, definitionsAt}
-use Rattle.table_index.specs.Layout.{rowsMost, termsAt, setsAt, bodiesAt, levelsAt, alphabetAt, definitionCountAt}
-use Rattle.table_index.specs.Layout.{termCountAt, startAt, parameterUnit, parallelUnit, entryUnit, prefixesUnit}
+use Rattle.table_index.specs.Layout.{rowsMost, wordEvents, secondAt, termsAt, setsAt, bodiesAt, levelsAt}
+use Rattle.table_index.specs.Layout.{alphabetAt, definitionCountAt, termCountAt, startAt, parameterUnit}
+use Rattle.table_index.specs.Layout.{parallelUnit, entryUnit, prefixesUnit}
 use Rattle.table_index.specs.Layout.{ownUnit, rightUnit, targetUnit, structureOf, reachDigit, branchesDigit}
 pub mod Laws
 pub mod Places
@@ -34,10 +37,17 @@ pub mod Sets
 
 -- ---- sets
 
--- a row as a word: bit e is 1 where the row has e
+-- a row as a number: bit e is 1 where the row has e
 unfoldable pub maskOf : List ℕ → ℕ
 maskOf [] = 0
 maskOf (e ∷ es) = 2 ^ e + maskOf es
+
+-- its events below 64, and those from 64 on
+unfoldable pub firstWord : ℕ → ℕ
+firstWord m = m % 2 ^ wordEvents
+
+unfoldable pub secondWord : ℕ → ℕ
+secondWord m = m / 2 ^ wordEvents
 
 unfoldable pub setMasks : SetDef → List ℕ
 setMasks (one r) = maskOf r ∷ []
@@ -54,10 +64,15 @@ firstRow sets s = length (flatMap setMasks (take s sets))
 unfoldable pub setWord : List SetDef → ℕ → ℕ
 setWord sets s = firstRow sets s * 2 + kindOfSet (getD sets s (one []))
 
-pub record SetsIndexed (sets : List SetDef) (w : List ℕ) : Type 0 where
+-- the sets of an alphabet of size A
+pub record SetsIndexed (A : ℕ) (sets : List SetDef) (w : List ℕ) : Type 0 where
   pub few : length sets ≤ 64
   pub rows-few : length (flatMap setMasks sets) ≤ rowsMost
-  pub rows : (i : ℕ) → i < length (flatMap setMasks sets) → getD w i 0 ≡ getD (flatMap setMasks sets) i 0
+  pub rows-fit : RowsFit A (length (flatMap setMasks sets))
+  pub firsts : (i : ℕ) → i < length (flatMap setMasks sets)
+      → getD w i 0 ≡ firstWord (getD (flatMap setMasks sets) i 0)
+  pub seconds : largeAbove < A → (i : ℕ) → i < length (flatMap setMasks sets)
+      → getD w (secondAt + i) 0 ≡ secondWord (getD (flatMap setMasks sets) i 0)
   pub words : (s : ℕ) → s < length sets → getD w (setsAt + s) 0 ≡ setWord sets s
 
 -- ---- terms
@@ -83,7 +98,7 @@ wordOf sets n x =
 
 pub record Structured (t : Table) (w : List ℕ) : Type 0 where
   pub whole : length w ≡ 8192
-  pub sets : SetsIndexed (t .sets) w
+  pub sets : SetsIndexed (t .alphabet) (t .sets) w
   pub words : (n : ℕ) → n < termCount t
       → structureOf (getD w (termsAt + n) 0) ≡ wordOf (t .sets) n (nodeAt t n)
   pub roots : (d : ℕ) → d ≤ length (t .definitions) → getD w (bodiesAt + d) 0 ≡ bodyNumber t d
@@ -120,8 +135,8 @@ setsGot (refused n at) = []
 -- the sets that a number list begins with, after the alphabet size
 unfoldable pub setsIn : List ℕ → List SetDef
 setsIn l =
-    setsGot (andThen (number (λ a. leb 1 a && leb a 64)) (λ a.
-    andThen (number (λ c. leb c 64)) (λ c. times c (eventSet a))) (listTokens 0 l))
+    setsGot (andThen (number (λ a. leb 1 a && leb a alphabetMost)) (λ a.
+    andThen (number (λ c. leb c 64)) (λ c. eventSets a c 0)) (listTokens 0 l))
 
 -- the table of a number list is accepted, and its index stands in the work area
 pub record Indexed (l w : List ℕ) : Type 0 where

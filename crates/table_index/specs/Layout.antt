@@ -1,17 +1,27 @@
 -- Where the parts of a table's index stand in the work area, and the digits of a term's word (ours; 01 leaves the work
 -- area's use open). `src/layout.rt` has the same numbers under the same names.
---     rowsMost, termsAt .. startAt               how many rows there may be, from word 0 on; where other parts begin
+--     rowsMost, wordEvents, secondAt             how many rows there may be, from word 0 on; how many events a row's
+--                                                word has bits for; where the second words of rows begin
+--     termsAt .. startAt                         where other parts begin
 --     kindDigit .. targetDigit, structureOf      what a term's word says of the term and where it stands; all of that
 --     widthDigit, withWidth                      above it, while widths are counted: the term's width in a level
 --     reachDigit, branchesDigit, withBranches    and then its reach and its branches; five bits are left
 -- The laws are in `Layout/Laws.antt`. Assumes nothing.
 use Prim.Native.Nat.{ℕ, _+_, _*_, _/_, _%_, _^_}
+use Rattle.table.specs.Rows.{largeAbove, largeRowsMost}
 pub mod Laws
 
 -- ---- parts
 
 abbrev pub rowsMost : ℕ
 rowsMost = 4096
+
+-- a row of an alphabet of more than 64 events has a second word, so far behind its first; such rows are 3,072 at most
+abbrev pub wordEvents : ℕ
+wordEvents = largeAbove
+
+abbrev pub secondAt : ℕ
+secondAt = largeRowsMost
 
 abbrev pub termsAt : ℕ
 termsAt = 6144

@@ -8,6 +8,8 @@
 use Prim.Native.Nat.{ℕ, zero, suc, _+_, _<_, _≤_}
 use mathlib.Core.Path.{_≡_}
 use mathlib.Core.List.{List, [], map}
+use mathlib.Core.Bool.{cond}
+use lib.Dec.{leb}
 use lib.ListN.{length, getD, set}
 use Rattle.table.specs.declared.answer.Refusal.{Refusal}
 use Rattle.table.specs.declared.answer.Place.{Place}
@@ -25,17 +27,18 @@ use Rattle.table.specs.declared.terms.Reference.the-variants.{Found, NoReferenc
 use Rattle.table.specs.declared.terms.TermEnd.{TermEnd}
 use Rattle.table.specs.declared.terms.TermEnd.the-variants.{NextTerm, NoTerm}
 use Rattle.table.specs.Table.{SetRef, Term, SetDef, Definition, size, sizes}
+use Rattle.table.specs.Rows.{largeAbove, rowsOf, RowsFit}
 use Rattle.table.specs.Tokens.{listTokens, tokensAt}
 use Rattle.table.specs.Parser.{Result, got, refused, times}
-use Rattle.table.specs.Grammar.{row, eventSet, setRef, termWith, definitionsOf, table}
+use Rattle.table.specs.Grammar.{row, eventSet, eventSets, setRef, termWith, definitionsOf, table}
 use Rattle.table.specs.References.{levelIn}
 use Rattle.table.specs.Judge.{declined, judge}
 use Rattle.table.specs.Node.{nodes, nodesFrom, noNode, setOf, parameterOf}
-use Rattle.table_index.specs.Layout.{rowsMost, termsAt, setsAt, bodiesAt, levelsAt, widthsAt, widthUnit, targets}
-use Rattle.table_index.specs.Layout.{structureOf}
-use Rattle.table_index.specs.Index.{maskOf, setMasks, kindOfSet, firstRow, packed, wordOf, SetsIndexed, Structured}
-use Rattle.table_index.specs.Index.{setsIn, tableIn}
-pub mod Overlay
+use Rattle.table_index.specs.Layout.{rowsMost, secondAt, termsAt, setsAt, bodiesAt, levelsAt, widthsAt}
+use Rattle.table_index.specs.Layout.{widthUnit, targets, structureOf}
+use Rattle.table_index.specs.Index.{maskOf, firstWord, secondWord, setMasks, kindOfSet, firstRow, packed, wordOf}
+use Rattle.table_index.specs.Index.{SetsIndexed, Structured, setsIn, tableIn}
+pub mod Rows
 pub mod Terms
 pub mod Header
 pub mod Structure
@@ -48,7 +51,7 @@ Stops x r = x ≡ refused (r .number) (r .place)
 pub record SetsReady (l w : List ℕ) (count : ℕ) : Type 0 where
   pub whole : length w ≡ 8192
   pub counted : count ≡ length (setsIn l)
-  pub indexed : SetsIndexed (setsIn l) w
+  pub indexed : SetsIndexed (getD l 0 0) (setsIn l) w
 
 -- what reading a term asks of where it stands
 pub record SpotFits (s : Spot) (deep : ℕ) : Type 0 where
@@ -69,32 +72,36 @@ pub record HeadFits (h : Head) : Type 0 where
 
 -- ---- sets
 
-pub record RowFound (l : List ℕ) (A i m j : ℕ) : Type 0 where
+pub record RowFound (l : List ℕ) (A i low high j : ℕ) : Type 0 where
   pub events : List ℕ
   pub parsed : row A (tokensAt l i) ≡ got events (tokensAt l j)
-  pub mask : m ≡ maskOf events
+  pub first : low ≡ firstWord (maskOf events)
+  pub second : high ≡ secondWord (maskOf events)
   pub within : j ≤ length l
 
 abbrev pub RowRead : List ℕ → ℕ → ℕ → Row → Type 0
-RowRead l A i (Mask m j) = RowFound l A i m j
+RowRead l A i (Mask low high j) = RowFound l A i low high j
 RowRead l A i (NoRow r) = Stops (row A (tokensAt l i)) r
 
--- how many rows a set of a kind has
-unfoldable pub rowCount : ℕ → ℕ → ℕ
-rowCount zero A = 1
-rowCount (suc k) A = A
+-- one row stored: its first word, and its second where the alphabet has more than 64 events
+unfoldable pub rowStored : ℕ → ℕ → ℕ → ℕ → List ℕ → List ℕ
+rowStored A row low high w = cond (leb A largeAbove) (set w row low) (set (set w row low) (secondAt + row) high)
 
--- the words w' are w with the words ws from place `at` on
-pub record Overlaid (w w' : List ℕ) (at : ℕ) (ws : List ℕ) : Type 0 where
+-- the words w' are w with the words of rows, given by their masks, from row `row₀` on
+pub record RowsStored (A row₀ : ℕ) (ms w w' : List ℕ) : Type 0 where
   pub same : length w' ≡ length w
-  pub written : (k : ℕ) → k < length ws → getD w' (at + k) 0 ≡ getD ws k 0
-  pub kept : (x : ℕ) → ((at ≤ x) × (x < at + length ws) → ⊥) → getD w' x 0 ≡ getD w x 0
+  pub firsts : (k : ℕ) → k < length ms → getD w' (row₀ + k) 0 ≡ firstWord (getD ms k 0)
+  pub seconds : largeAbove < A → (k : ℕ) → k < length ms
+      → getD w' (secondAt + (row₀ + k)) 0 ≡ secondWord (getD ms k 0)
+  pub kept : (x : ℕ) → ((row₀ ≤ x) × (x < row₀ + length ms) → ⊥)
+      → (largeAbove < A → (secondAt + row₀ ≤ x) × (x < secondAt + (row₀ + length ms)) → ⊥)
+      → getD w' x 0 ≡ getD w x 0
 
 pub record RowsFound (l : List ℕ) (A count i row₀ : ℕ) (w w' : List ℕ) (j : ℕ) : Type 0 where
   pub rows : List (List ℕ)
   pub parsed : times count (row A) (tokensAt l i) ≡ got rows (tokensAt l j)
   pub counted : length rows ≡ count
-  pub words : Overlaid w w' row₀ (map maskOf rows)
+  pub words : RowsStored A row₀ (map maskOf rows) w w'
   pub within : j ≤ length l
 
 abbrev pub RowsRead : List ℕ → ℕ → ℕ → ℕ → ℕ → List ℕ → List ℕ → Place → Type 0
@@ -103,28 +110,31 @@ RowsRead l A count i row₀ w w' (Stop r) = Stops (times count (row A) (tokensAt
 
 pub record SetFound (l : List ℕ) (A i row₀ : ℕ) (w w' : List ℕ) (j kind end : ℕ) : Type 0 where
   pub value : SetDef
-  pub parsed : eventSet A (tokensAt l i) ≡ got value (tokensAt l j)
+  pub parsed : eventSet A row₀ (tokensAt l i) ≡ got value (tokensAt l j)
   pub kinds : kind ≡ kindOfSet value
+  pub counted : length (setMasks value) ≡ rowsOf A value
   pub ends : end ≡ row₀ + length (setMasks value)
-  pub few : length (setMasks value) ≤ 64
-  pub words : Overlaid w w' row₀ (setMasks value)
+  pub few : length (setMasks value) ≤ A
+  pub fit : RowsFit A end
+  pub room : end ≤ rowsMost
+  pub words : RowsStored A row₀ (setMasks value) w w'
   pub within : j ≤ length l
 
 abbrev pub SetRead : List ℕ → ℕ → ℕ → ℕ → List ℕ → List ℕ → SetEnd → Type 0
 SetRead l A i row₀ w w' (NextSet j kind end) = SetFound l A i row₀ w w' j kind end
-SetRead l A i row₀ w w' (NoSet r) = Stops (eventSet A (tokensAt l i)) r × (length w' ≡ length w)
+SetRead l A i row₀ w w' (NoSet r) = Stops (eventSet A row₀ (tokensAt l i)) r × (length w' ≡ length w)
 
 pub record SetsFound (l : List ℕ) (A count i : ℕ) (w w' : List ℕ) (j : ℕ) : Type 0 where
   pub sets : List SetDef
-  pub parsed : times count (eventSet A) (tokensAt l i) ≡ got sets (tokensAt l j)
+  pub parsed : eventSets A count 0 (tokensAt l i) ≡ got sets (tokensAt l j)
   pub counted : length sets ≡ count
-  pub indexed : SetsIndexed sets w'
+  pub indexed : SetsIndexed A sets w'
   pub same : length w' ≡ length w
   pub within : j ≤ length l
 
 abbrev pub SetsRead : List ℕ → ℕ → ℕ → ℕ → List ℕ → List ℕ → Place → Type 0
 SetsRead l A count i w w' (At j) = SetsFound l A count i w w' j
-SetsRead l A count i w w' (Stop r) = Stops (times count (eventSet A) (tokensAt l i)) r × (length w' ≡ length w)
+SetsRead l A count i w w' (Stop r) = Stops (eventSets A count 0 (tokensAt l i)) r × (length w' ≡ length w)
 
 -- ---- terms
 

@@ -4,6 +4,10 @@
 //            + 2^19 * right + 2^30 * target + 2^46 * width
 //     width = reach + 2^4 * branches once both are known
 
+pub const WORD_EVENTS: u64 = 64;
+
+pub const SECOND_AT: usize = 3072;
+
 pub const TERMS_AT: usize = 6144;
 
 pub const SETS_AT: usize = TERMS_AT + 1024;

@@ -6,8 +6,9 @@ use Rattle.table.specs.Table.{prefixesIn, enclosingIn, enclosing}
 use Rattle.numbers.specs.Number.{listBytes, bytesOf, groups}
 use Rattle.table.specs.Tokens.{listTokens, trailing, placeOf}
 use Rattle.table.specs.Parser.{number, pure, next, andThen, times}
-use Rattle.table.specs.Grammar.{events, row, setOfKind, eventSet, refOfKind, setRef, termOfKind, termWith, definition}
-use Rattle.table.specs.Grammar.{definitionsOf, table}
+use Rattle.table.specs.Rows.{rowCount, rowsOf, rowsFit}
+use Rattle.table.specs.Grammar.{events, row, setOfKind, kindFits, eventSet, eventSets, refOfKind, setRef, termOfKind}
+use Rattle.table.specs.Grammar.{termWith, definition, definitionsOf, table}
 use Rattle.table.specs.Writing.{rowNumbers, setNumbers, refNumbers, termNumbers, definitionNumbers, numbersOf}
 use Rattle.table.specs.First.{orElse, unless}
 use Rattle.table.specs.References.{levelIn, paramFits, callFits, wrongRef, wrongIn, wrongFrom, firstWrong}
@@ -52,7 +53,8 @@ use Rattle.wash_spec.specs.Rows.{RowsStand}
 pub rows-stand : RowsStand
 unfolding flatMap size sizes bodyOf bodyNumber termIn termOfDefs termAt prefixesIn enclosingIn enclosing
     listBytes bytesOf groups listTokens trailing placeOf number pure next andThen times
-    events row setOfKind eventSet refOfKind setRef termOfKind termWith definition definitionsOf table
+    events row setOfKind eventSet eventSets kindFits rowCount rowsOf rowsFit refOfKind setRef termOfKind termWith
+    definition definitionsOf table
     rowNumbers setNumbers refNumbers termNumbers definitionNumbers numbersOf orElse unless
     levelIn paramFits callFits wrongRef wrongIn wrongFrom firstWrong grow
     widthWith widest callWidth nextWidth allWidths levelWidth reach firstAbove tooWide

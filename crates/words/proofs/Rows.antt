@@ -6,8 +6,9 @@ use Rattle.table.specs.Table.{prefixesIn, enclosingIn, enclosing}
 use Rattle.numbers.specs.Number.{listBytes, bytesOf, groups, carry, later, scanWith, readNumber}
 use Rattle.table.specs.Tokens.{byteToken, byteTokensWith, byteTokens, listTokens, trailing, placeOf}
 use Rattle.table.specs.Parser.{number, pure, next, andThen, times}
-use Rattle.table.specs.Grammar.{events, row, setOfKind, eventSet, refOfKind, setRef, termOfKind, termWith, definition}
-use Rattle.table.specs.Grammar.{definitionsOf, table}
+use Rattle.table.specs.Rows.{rowCount, rowsOf, rowsFit}
+use Rattle.table.specs.Grammar.{events, row, setOfKind, kindFits, eventSet, eventSets, refOfKind, setRef, termOfKind}
+use Rattle.table.specs.Grammar.{termWith, definition, definitionsOf, table}
 use Rattle.table.specs.Writing.{rowNumbers, setNumbers, refNumbers, termNumbers, definitionNumbers, numbersOf}
 use Rattle.table.specs.First.{orElse, unless}
 use Rattle.table.specs.References.{levelIn, paramFits, callFits, wrongRef, wrongIn, wrongFrom, firstWrong}
@@ -39,7 +40,7 @@ use Rattle.monitor_spec.specs.Feed.{presentSlots, nextSlots, taking, eventRefus
 use Rattle.monitor_spec.specs.Feed.{feedOf}
 use Rattle.monitor_spec.specs.Try.{furtherMeasured, leftIn, onCopy, tryOf}
 use Rattle.monitor_spec.specs.Start.{startAccepted, startOf}
-use Rattle.monitor_spec.specs.Offer.{bitOf, bitsBelow, offerBits, offering, offerOf}
+use Rattle.monitor_spec.specs.Offer.{bitOf, bitsFrom, wordBits, wordFrom, allBits, offerBits, offering, offerOf}
 use Rattle.monitor_spec.specs.View.{partBy, viewPart}
 use Rattle.table.specs.Operations.{measured, readJudged, readOf, writeJudged, writeOf}
 use Rattle.words.specs.Words.{recordMeasured, verdictIn, stateIn, failureWords, wordsOf}
@@ -47,14 +48,15 @@ use Rattle.words.specs.Tables as tables
 use Rattle.words.specs.Tables.{valueOf, tableCall, readCall, writeCall}
 use Rattle.words.specs.Calls as calls
 use Rattle.words.specs.Calls.{numberOf, recordAfter, monitorCall, monitorIn, unmeasured}
-use Rattle.words.specs.Calls.{startCall, feedCall, tryCall, offerNumber, offerValue, offerCall}
+use Rattle.words.specs.Calls.{startCall, feedCall, tryCall, offerNumber, offerValue, offerSecond, offerCall}
 use Rattle.words.specs.Calls.{viewing, viewCall}
 use Rattle.words.specs.Examples.{started, fed, tried, offered, viewed, RowsHold}
 
 pub rows-hold : RowsHold
 unfolding flatMap size sizes bodyOf bodyNumber termIn termOfDefs termAt prefixesIn enclosingIn enclosing
     listBytes bytesOf groups listTokens trailing placeOf number pure next andThen times
-    events row setOfKind eventSet refOfKind setRef termOfKind termWith definition definitionsOf table
+    events row setOfKind eventSet eventSets kindFits rowCount rowsOf rowsFit refOfKind setRef termOfKind termWith
+    definition definitionsOf table
     rowNumbers setNumbers refNumbers termNumbers definitionNumbers numbersOf orElse unless
     levelIn paramFits callFits wrongRef wrongIn wrongFrom firstWrong grow
     widthWith widest callWidth nextWidth allWidths levelWidth reach firstAbove tooWide
@@ -69,12 +71,13 @@ unfolding flatMap size sizes bodyOf bodyNumber termIn termOfDefs termAt prefixes
     presentSlots nextSlots nextVerdict freshState stateAfter counted holding taking eventRefused takeEvent endingOf feedOf
     measuring judging entrance agreeing entranceOn entering refusing startAccepted startOf
     carry later scanWith readNumber byteToken byteTokensWith byteTokens judgeBytes
-    measured readJudged readOf writeJudged writeOf bitOf bitsBelow offerBits offering offerOf
+    measured readJudged readOf writeJudged writeOf bitOf bitsFrom wordBits wordFrom allBits offerBits
+    offering offerOf
     partBy viewPart
     recordMeasured verdictIn stateIn failureWords wordsOf tables.numberOf valueOf tableCall readCall writeCall
     numberOf calls.placeOf recordAfter monitorCall monitorIn unmeasured startCall feedCall tryCall
     furtherMeasured leftIn onCopy tryOf tried
-    offerNumber offerValue calls.offering offerCall viewing viewCall started fed offered viewed RowsHold
+    offerNumber offerValue offerSecond calls.offering offerCall viewing viewCall started fed offered viewed RowsHold
 rows-hold = (
   refl,
   refl,

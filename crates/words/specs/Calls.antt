@@ -112,15 +112,17 @@ tryCall l r a b r′ c d es w =
 
 -- ---- Offer
 
+-- 02, W6: "Offer gives two words"
 pub record OfferCall : Type 0 where
   pub number : ℕ
   pub value : ℕ
+  pub second : ℕ
   pub area0 : List ℕ
   pub area1 : List ℕ
   pub work : List ℕ
 
-abbrev pub offerSaid : ℕ → ℕ → List ℕ → List ℕ → List ℕ → OfferCall
-offerSaid n v a b w = record { number = n; value = v; area0 = a; area1 = b; work = w }
+abbrev pub offerSaid : ℕ → ℕ → ℕ → List ℕ → List ℕ → List ℕ → OfferCall
+offerSaid n v s a b w = record { number = n; value = v; second = s; area0 = a; area1 = b; work = w }
 
 unfoldable pub offerNumber : Offered → ℕ
 offerNumber (offers bits) = 0
@@ -130,21 +132,28 @@ unfoldable pub isOffered : Offered → Bool
 isOffered (offers bits) = true
 isOffered (operation.refused n p) = false
 
--- the bits, or the refusal's place
+-- the first word, or the refusal's place
 unfoldable pub offerValue : Offered → ℕ
-offerValue (offers bits) = bits
+offerValue (offers bits) = bits .first
 offerValue (operation.refused n p) = p
 
+-- the second word, or 0
+unfoldable pub offerSecond : Offered → ℕ
+offerSecond (offers bits) = bits .second
+offerSecond (operation.refused n p) = 0
+
 -- the promise of `tell_offer`
-pub record OfferTold (x : Offered) (n v : ℕ) : Type 0 where
+pub record OfferTold (x : Offered) (n v s : ℕ) : Type 0 where
   pub number : n ≡ offerNumber x
   pub value : v ≡ offerValue x
+  pub second : s ≡ offerSecond x
 
 unfoldable pub offering : OfferOutcome → OfferCall
 offering o =
     record {
       number = offerNumber (o .answer);
       value = offerValue (o .answer);
+      second = offerSecond (o .answer);
       area0 = o .area0;
       area1 = o .area1;
       work = o .work;
@@ -155,7 +164,7 @@ unfoldable pub offerCall : List ℕ → List ℕ → List ℕ → List ℕ → L
 offerCall l r a b w =
     elim (recordMeasured r) [
       | true ↦ offering (offerOf l (monitorIn r a b) w)
-      | false ↦ record { number = 1; value = 0; area0 = a; area1 = b; work = w }
+      | false ↦ record { number = 1; value = 0; second = 0; area0 = a; area1 = b; work = w }
     ]
 
 -- ---- View

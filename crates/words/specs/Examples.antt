@@ -62,9 +62,9 @@ RowsHold =
     × (writeCall tableB (zeros 15) (zeros 8192) ≡ said 1 0 (zeros 15) (zeros 8192))
     -- Start, and Feed on K3, K1, and on an event that is A
     × (started ≡ left 0 0 (five 0 1 0 0 1) (slot 0) (zeros 32))
-    × (fed (0 ∷ 1 ∷ 0 ∷ []) ≡ left 0 0 (five 3 1 0 0 1) (zeros 32) (slot 16777216))
+    × (fed (0 ∷ 1 ∷ 0 ∷ []) ≡ left 0 0 (five 3 1 0 0 1) (zeros 32) (slot 268435456))
     × (fed (0 ∷ 0 ∷ []) ≡ left 0 0 (five 2 0 1 2 1) (zeros 32) (zeros 32))
-    × (fed (0 ∷ 3 ∷ 1 ∷ []) ≡ left 11 1 (five 1 1 0 0 1) (zeros 32) (slot 16777216))
+    × (fed (0 ∷ 3 ∷ 1 ∷ []) ≡ left 11 1 (five 1 1 0 0 1) (zeros 32) (slot 268435456))
     -- a record of four words, of six; one that the areas do not agree with
     × (startCall tableB (zeros 4) (zeros 32) (zeros 32) (zeros 9)
     ≡ calls.said 1 0 (zeros 4) (zeros 32) (zeros 32) (zeros 9))
@@ -73,7 +73,7 @@ RowsHold =
     ≡ left 10 0 (five 0 1 0 0 1) (zeros 32) (zeros 32))
     -- a peak above the count stays; one below it, one above the slots, and that after failure are refused
     × (feedCall tableB (five 0 1 0 0 2) (slot 0) (zeros 32) (0 ∷ []) (zeros 8192)
-    ≡ left 0 0 (five 1 1 0 0 2) (zeros 32) (slot 16777216))
+    ≡ left 0 0 (five 1 1 0 0 2) (zeros 32) (slot 268435456))
     × (feedCall tableB (five 0 1 0 0 0) (slot 0) (zeros 32) [] (zeros 8192)
     ≡ left 10 0 (five 0 1 0 0 0) (slot 0) (zeros 32))
     × (feedCall tableB (five 0 1 0 0 3) (slot 0) (zeros 32) [] (zeros 8192)
@@ -88,7 +88,7 @@ RowsHold =
     × (tried further (sevens 32) (sevens 16) [] ≡ left 1 0 further (sevens 32) (sevens 16))
     × (tried (sevens 4) (sevens 32) (sevens 32) [] ≡ left 1 0 (sevens 4) (sevens 32) (sevens 32))
     -- Offer and View after 0, after 0 and 1, after failure
-    × (offered (fed (0 ∷ [])) .value ≡ 2)
+    × (offered (fed (0 ∷ [])) ≡ calls.offerSaid 0 2 0 (zeros 32) (slot 268435456) (zeros 8192))
     × (offered (fed (0 ∷ 1 ∷ [])) .value ≡ 1)
     × (offered (fed (0 ∷ 0 ∷ [])) .value ≡ 0)
     × (map viewed (fed (0 ∷ []) ∷ fed (0 ∷ 1 ∷ []) ∷ fed (0 ∷ 0 ∷ []) ∷ [])

@@ -12,7 +12,7 @@ use lib.ListN.{length}
 use Rattle.table.specs.Operations.{done, refusal}
 use Rattle.table.specs.Operations as table
 use Rattle.monitor_spec.specs.State.{State, given, refused, stopped, Outcome}
-use Rattle.monitor_spec.specs.Offer.{offers, OfferOutcome}
+use Rattle.monitor_spec.specs.Offer.{EventBits, offers, OfferOutcome}
 use Rattle.monitor_spec.specs.Offer as operation
 use Rattle.words.specs.Words.{stateIn, wordsOf}
 use Rattle.words.specs.Tables.{TableCall}
@@ -64,11 +64,12 @@ pub data TryWay (r r′ c d w : List ℕ) (o : Outcome) (k : MonitorCall) : Type
 
 pub data OfferWay (r a b w : List ℕ) (o : OfferOutcome) : OfferCall → Type 0 where
   offerUnfit : (length r ≡ 5 → ⊥)
-      → OfferWay r a b w o (record { number = 1; value = 0; area0 = a; area1 = b; work = w })
-  offerGiven : (bits : ℕ) → length r ≡ 5 → o .answer ≡ offers bits
+      → OfferWay r a b w o (record { number = 1; value = 0; second = 0; area0 = a; area1 = b; work = w })
+  offerGiven : (bits : EventBits) → length r ≡ 5 → o .answer ≡ offers bits
       → OfferWay r a b w o (record {
         number = 0;
-        value = bits;
+        value = bits .first;
+        second = bits .second;
         area0 = o .area0;
         area1 = o .area1;
         work = o .work;
@@ -77,6 +78,7 @@ pub data OfferWay (r a b w : List ℕ) (o : OfferOutcome) : OfferCall → Type 0
       → OfferWay r a b w o (record {
         number = n;
         value = p;
+        second = 0;
         area0 = o .area0;
         area1 = o .area1;
         work = o .work;

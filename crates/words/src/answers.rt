@@ -33,17 +33,21 @@ pub fn tell(answer: Answer, record: &mut [u64], place: &mut u64) -> u32
     }
 }
 
-// Of Offer. The number to return; the bits or the place go into value.
-pub fn tell_offer(answer: Offered, value: &mut u64) -> u32
-    ensures { λ r. ⌜ OfferTold (offeredOf answer) r (now (value .exit)) ⌝ }
+// Of Offer. The number to return; the first word or the place goes into value, the second word or 0
+// into second.
+pub fn tell_offer(answer: Offered, value: &mut u64, second: &mut u64) -> u32
+    ensures { λ r.
+        ⌜ OfferTold (offeredOf answer) r (now (value .exit)) (now (second .exit)) ⌝ }
 {
     match answer {
         Offered::Offers(bits) => {
-            *value = bits;
+            *value = bits.first;
+            *second = bits.second;
             0
         }
         Offered::Refused(r) => {
             *value = r.place as u64;
+            *second = 0;
             r.number as u32
         }
     }

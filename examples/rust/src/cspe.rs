@@ -229,10 +229,11 @@ impl<'t> Monitor<'t> {
         Ok(copy)
     }
 
-    /// Offer: bit e is set exactly when residuals are left after the event e.
-    pub fn offer(&mut self) -> Result<u64, Refusal> {
+    /// Offer: two words, a bit for each event, which is set exactly when residuals are left after that event. Bit e of
+    /// the first is event e, of the second 64 + e.
+    pub fn offer(&mut self) -> Result<[u64; 2], Refusal> {
         let [area0, area1] = &self.parts.areas;
-        let mut value = 0;
+        let (mut value, mut second) = (0, 0);
         // SAFETY: as in `Table::read`
         let number = unsafe {
             library::cspe_offer(
@@ -247,9 +248,10 @@ impl<'t> Monitor<'t> {
                 self.work.as_mut_ptr(),
                 self.work.len(),
                 &mut value,
+                &mut second,
             )
         };
-        result(number, value)
+        result(number, value).map(|first| [first, second])
     }
 
     /// View: the slots of the residuals held, and the area, 0 or 1, that they begin.

@@ -54,10 +54,11 @@ fn show_refusal<T>(call: &str, result: Result<T, Refusal>, number: u32, place: u
     println!("{call}: refused {number} at {place}");
 }
 
+/// Prints the events that may come next, as two words of bits: of an alphabet of 3 the second is 0.
 fn show_offer(monitor: &mut Monitor, due: u64) {
-    let bits = given(monitor.offer(), "offer");
-    expect(bits == due, "offer");
-    println!("offer: {bits}");
+    let [first, second] = given(monitor.offer(), "offer");
+    expect([first, second] == [due, 0], "offer");
+    println!("offer: {first} {second}");
 }
 
 fn show_view(monitor: &Monitor, words_due: usize, area_due: usize) {
@@ -65,8 +66,8 @@ fn show_view(monitor: &Monitor, words_due: usize, area_due: usize) {
     expect(slots.len() == words_due && area == area_due, "view");
     println!("view: {} words of area {area}", slots.len());
     for slot in slots.chunks(SLOT_WORDS) {
-        // a slot's first word is how many nodes the residual has; then the nodes, the term in the bits from 24 on
-        println!("    nodes: {}, term of the first: {}", slot[0], slot[1] >> 24);
+        // a slot's first word is how many nodes the residual has; then the nodes, the term in the bits from 28 on
+        println!("    nodes: {}, term of the first: {}", slot[0], slot[1] >> 28);
     }
 }
 

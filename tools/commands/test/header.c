@@ -46,6 +46,21 @@ static int followed(void) {
     return 0;
 }
 
+/* 128 events, of which 63, 64 and 127 may come. */
+static int large(void) {
+    static const uint8_t table[] = {0x80, 1, 1, 0, 3, 63, 64, 127, 1, 0, 2, 0, 5, 0};
+    static const uint8_t events[] = {127, 64, 63};
+    uint64_t bits[CSPE_OFFER_WORDS], high = (uint64_t)1 << 63;
+    EXPECT(cspe_monitor_open(&m, table, sizeof table) == CSPE_NONE);
+    EXPECT(cspe_monitor_offer(&m, bits) == CSPE_NONE && bits[0] == high && bits[1] == high + 1);
+    EXPECT(cspe_monitor_permits(&m, 63) && cspe_monitor_permits(&m, 64) && cspe_monitor_permits(&m, 127));
+    EXPECT(!cspe_monitor_permits(&m, 0) && !cspe_monitor_permits(&m, 65) && !cspe_monitor_permits(&m, 128));
+    EXPECT(cspe_monitor_feed(&m, events, sizeof events) == CSPE_NONE && cspe_monitor_running(&m));
+    m.areas[0][0] = 1;
+    EXPECT(cspe_monitor_offer(&m, bits) == CSPE_INCONSISTENT && bits[0] == 0 && bits[1] == 0);
+    return 0;
+}
+
 static int crowded(void) {
     EXPECT(cspe_monitor_open_slots(&m, k8_table, sizeof k8_table, 1) == CSPE_NONE);
     EXPECT(cspe_monitor_step(&m, 0) == CSPE_CAPACITY_EXCEEDED && cspe_monitor_taken(&m) == 0);
@@ -64,4 +79,4 @@ static int told(void) {
     return 0;
 }
 
-int main(void) { return opened() || followed() || crowded() || told(); }
+int main(void) { return opened() || followed() || large() || crowded() || told(); }

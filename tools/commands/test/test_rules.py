@@ -26,6 +26,10 @@ def both(text):
     return found, Monitor(one.table).refusal
 
 
+def families(count):
+    return "".join(f"set f{i} = [else: {{}}]\n" for i in range(count))
+
+
 SIDES = " ||| ".join(["STOP"] * 9)
 WAYS = " ||| ".join(["(STOP [] STOP)"] * 8)
 
@@ -33,6 +37,8 @@ WAYS = " ||| ".join(["(STOP [] STOP)"] * 8)
 BROKEN = [
     (f"alphabet {most_events() + 1}\nP = STOP", 5),
     ("alphabet 3\n" + "".join(f"set s{i} = {{0}}\n" for i in range(65)) + "P = STOP", 5),
+    (f"alphabet 128\n{families(24)}set f = {{}}\nP = STOP", 5),
+    (f"alphabet 128\n{families(24)}set f = [else: {{127}}]\nP = f(^0) -> STOP", 5),
     ("alphabet 3\n" + "".join(f"P{i} = STOP\n" for i in range(33)), 5),
     ("alphabet 3\nlevel 8 P = STOP", 5),
     ("alphabet 3\nP = " + "{0} -> " * 32 + "STOP", 5),
@@ -56,6 +62,11 @@ class Rules(unittest.TestCase):
             self.assertEqual(refusal.number, number, text)
             self.assertEqual(found[0], tuple(refusal), text)
 
+    def test_rows_at_their_bound(self):
+        """Above 64 events 3,072 rows stand, 24 families of 128; with 64 events, as ever, 64 families."""
+        for events, count in [(128, 24), (64, 64)]:
+            self.assertEqual(both(f"alphabet {events}\n{families(count)}P = STOP"), ([], None))
+
     def test_random(self):
         """A fault exactly where the reader refuses, and the reader's is the first of them."""
         random.seed(21)
@@ -73,6 +84,13 @@ class Rules(unittest.TestCase):
 
 
 class Waiting(unittest.TestCase):
+    def test_large_alphabet(self):
+        monitor = Monitor(loaded("alphabet 128\nP = {63, 64, 127} -> {0, 65} -> STOP").table)
+        self.assertEqual(monitor.offer(), [63, 64, 127])
+        self.assertIsNone(monitor.feed([127]))
+        self.assertEqual(monitor.offer(), [0, 65])
+        self.assertEqual(monitor.residuals(), [[(1, (127, 0, 0, 0))]])
+
     def test_takers_are_the_offer(self):
         """Over random runs: an event has takers in some residual exactly where Offer permits it."""
         random.seed(22)

@@ -7,6 +7,7 @@
 import functools
 import subprocess
 
+from notation.numbers import written
 from places import REFERENCE, ROOT
 
 FILE = ROOT / "crates" / "table_test" / "data" / "tables.txt"
@@ -34,13 +35,20 @@ def cases(data):
 
 
 def accepted(data):
-    # the head of the data says that each number of an accepted table is one byte
-    return sorted(map(bytes_of, {words for _, words, answer in cases(data) if answer == 0}))
+    found = {table_of(letter, words) for letter, words, answer in cases(data) if answer == 0}
+    return sorted(found)
 
 
 def refused(data):
     found = {words for letter, words, answer in cases(data) if letter == "r" and answer != 0}
     return sorted(map(bytes_of, found))
+
+
+def table_of(letter, words):
+    """The bytes of a case's input: Read's own, or those that its numbers are written in."""
+    if letter == "r":
+        return bytes_of(words)
+    return b"".join(written(int(word)) for word in words.split())
 
 
 def bytes_of(words):

@@ -83,6 +83,18 @@ class Commands(unittest.TestCase):
             output = self.good("where", "-", *refusal.split(), stdin=head + text).decode()
             lines = [words for words in output.split("\n") if words.startswith("-:")]
             self.assertEqual([words[2:].split(": ")[0] for words in lines], places, text)
+        # 02, W6: the rows of a large alphabet, whose size is of two bytes; one set more is too many
+        most = b"alphabet 128\n" + b"".join(b"set f%d = [else: {}]\n" % i for i in range(24))
+        for text, refusal, places in [
+            (most + b"P = STOP [] Q\nQ = P", "refused 7 3104", ["26:13"]),
+            (most + b"set s = {}\nP = STOP", "refused 5 3099", ["26:5"]),
+            (most + b"set f = [else: {}]\nP = STOP", "refused 5 3099", ["26:5"]),
+            (b"alphabet 129\nP = STOP", "refused 5 0", ["1:1"]),
+        ]:
+            self.assertEqual(line(self.good("input", "-", stdin=text)), refusal)
+            output = self.good("where", "-", *refusal.split(), stdin=text).decode()
+            lines = [words for words in output.split("\n") if words.startswith("-:")]
+            self.assertEqual([words[2:].split(": ")[0] for words in lines], places, text)
         self.bad(1, "not at a place", "where", B, "refused", "7", "16")
         self.bad(1, "not at a place", "where", B, "refused", "11", "0")
 

@@ -96,6 +96,21 @@ class Notation(unittest.TestCase):
             "alphabet 64\nset s = {0..63}\nP = STOP", f"alphabet 64\nset s = {{{every}}}\nP = STOP"
         )
 
+    def test_large_alphabets(self):
+        """From 128 on a number has two bytes: the alphabet's size and a row's count, no event."""
+        every = " ".join(f"{event:02X}" for event in range(128))
+        for drawing, expected in [
+            ("alphabet 65\nP = {63, 64} -> STOP", "41 01 00 02 3F 40 01 00 02 00 00"),
+            ("alphabet 127\nP = {126} -> STOP", "7F 01 00 01 7E 01 00 02 00 00"),
+            ("alphabet 128\nP = {127} -> STOP", "80 01 01 00 01 7F 01 00 02 00 00"),
+            ("alphabet 128\nP = {0..127} -> STOP", f"80 01 01 00 80 01 {every} 01 00 02 00 00"),
+        ]:
+            self.assertEqual(shown(drawing), expected, drawing)
+        self.same(
+            "alphabet 128\nset f = [else: {127}]\nP = x : {64} -> f(x) -> STOP",
+            "alphabet 128\nset f = [0: {127}, else: {127}]\nset s = {64}\nP = y : s -> f(y) -> STOP",
+        )
+
     def test_parameters(self):
         self.term("x : a -> f(x) -> STOP", "02 00 02 03 00 00")
         self.term("?x : a -> f(^0) -> STOP", "02 00 02 03 00 00")

@@ -3,6 +3,7 @@
 //     file        the whole file, or the first case whose known answer is not the one given
 
 mod input;
+mod large;
 mod length;
 mod limit;
 mod mixed;
@@ -18,6 +19,7 @@ use crate::random::Random;
 use crate::summary::head;
 use crate::worked;
 use input::*;
+use large::*;
 use length::*;
 use limit::*;
 use mixed::*;
@@ -26,8 +28,8 @@ use wrong::*;
 // Where the file comes from, but for the seed and the count.
 const SOURCE: &str = "\
 # Tables: answers of Read, Write and the list check.
-# Written by tools/reference, another implementation of 01; groups named worked_* and
-# drawings have answers worked by hand from 01. The command, in tools/reference:
+# Written by tools/reference, another implementation of 01 and of 02, W6; groups named worked_* and
+# drawings have answers worked by hand from these. The command, in tools/reference:
 #     cargo run --release --offline -- cases --seed ";
 
 pub const HEAD: &str = "\
@@ -46,7 +48,7 @@ pub const HEAD: &str = "\
 # index and so is not all zero.
 # Where a group begins with `# wrong` instead of `# group`, each stored answer is wrong on purpose
 # in one number, and a test program must find it wrong.
-# In every accepted table here each number is below 128: numbers and bytes are the same.
+# A table with an alphabet of 128, or a row of 128 events, has fewer numbers than bytes.
 # An input has at most 16,500 numbers, an output at most 16,500, a work area at most 8,300.
 ";
 
@@ -68,6 +70,10 @@ pub fn groups(seed: u64, count: usize) -> Vec<Group> {
     add("limit_hands", &limit_hands);
     add("limit_openings", &limit_openings);
     add("limit_bytes", &limit_bytes);
+    add("limit_rows", &limit_rows);
+    add("large_events", &large_events);
+    add("large_bytes", &large_bytes);
+    add("large_small", &large_small);
     add("long_bytes", &long_bytes);
     add("long_list", &long_list);
     add("terms_above_1024", &terms_above_1024);

@@ -112,7 +112,7 @@ fn off_scale_alphabet(random: &mut Random) -> Fault {
     out_of_range(
         random,
         |_, role| role == Role::Alphabet,
-        |random, _, _| zero_or_above(random, 65),
+        |random, _, _| zero_or_above(random, MOST_ALPHABET + 1),
     )
 }
 

@@ -22,8 +22,9 @@ fn round_trip(table: &Table) {
     let again = write(&read_back.output[..list.len()], MOST_BYTES, WORK);
     assert_eq!(again.output, written.output);
     assert_eq!(table_of_list(&list).as_ref(), Ok(table));
-    // every number of an accepted table is one byte
-    assert!(list.iter().all(|&n| n < 128) && count == list.len());
+    // a number of an accepted table is one byte, but for an alphabet or a row of 128 events
+    let two_bytes = list.iter().filter(|&&n| n == 128).count();
+    assert!(list.iter().all(|&n| n <= 128) && count == list.len() + two_bytes);
 }
 
 #[test]
@@ -38,6 +39,10 @@ fn round_trips() {
     round_trip(&accepted(|| terms_table(&mut random, MOST_TERMS)));
     round_trip(&accepted(|| deep_table(&mut random, MOST_DEPTH)));
     round_trip(&accepted(|| branches_table(&mut random, 256, true).0));
+    let large = Bounds { alphabet: 128, ..SMALL };
+    for _ in 0..200 {
+        round_trip(&small(&mut random, large));
+    }
     let long = long_table(&mut random, MOST_BYTES, vec![definition(0, Term::Stop)]);
     assert_eq!(long.list().len(), MOST_BYTES);
     round_trip(&long);

@@ -105,7 +105,8 @@ impl<S: Source> Reader<S> {
         let alphabet = self.number(|n| 1 <= n && n <= MOST_ALPHABET)?;
         let mut sets = Vec::new();
         for _ in 0..self.number(|n| n <= MOST_SETS)? {
-            sets.push(self.set(alphabet)?);
+            let rows = sets.iter().map(|set: &Set| set.rows().len()).sum();
+            sets.push(self.set(alphabet, rows)?);
         }
         let mut definitions = Vec::new();
         for _ in 0..self.number(|n| 1 <= n && n <= MOST_DEFINITIONS)? {
@@ -116,8 +117,12 @@ impl<S: Source> Reader<S> {
         Ok(Table { alphabet, sets, definitions })
     }
 
-    fn set(&mut self, alphabet: u16) -> Result<Set, Refusal> {
-        if self.number(|kind| kind <= 1)? == 0 {
+    // 02, W6: "With A above 64, all rows together number at most 3,072, else 5 at the kind of the
+    // set that passes it"; so many rows stand before it
+    fn set(&mut self, alphabet: u16, before: usize) -> Result<Set, Refusal> {
+        let rows = |kind| before + if kind == 0 { 1 } else { alphabet as usize };
+        let fits = |kind| alphabet <= LARGE_ABOVE || rows(kind) <= MOST_LARGE_ROWS;
+        if self.number(|kind| kind <= 1 && fits(kind))? == 0 {
             return Ok(Set::Plain(self.row(alphabet)?));
         }
         let mut rows = Vec::new();

@@ -1,7 +1,10 @@
-// The abstract table (01, "Numbers and table"): alphabet, sets, definitions with their term
+// The abstract table (01, "Numbers and table"; 02, W6): alphabet, sets, definitions with their term
 // trees; and the list of its numbers.
 
-pub const MOST_ALPHABET: u16 = 64;
+// 02, W6: "A may be 1 to 128"; "With A above 64, all rows together number at most 3,072"
+pub const MOST_ALPHABET: u16 = 128;
+pub const LARGE_ABOVE: u16 = 64;
+pub const MOST_LARGE_ROWS: usize = 3_072;
 pub const MOST_SETS: u16 = 64;
 pub const MOST_DEFINITIONS: u16 = 32;
 pub const MOST_LEVEL: u16 = 7;

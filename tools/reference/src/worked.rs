@@ -93,8 +93,10 @@ fn numbers(cases: &mut Cases) {
     cases.refused(&["FF FF 04"], 4, 0);
     cases.refused(&["FF FF 03"], 5, 0);
     cases.refused(&["80 80 01"], 5, 0);
-    cases.refused(&["80 01"], 5, 0);
-    cases.refused(&["7F"], 5, 0);
+    // 128, 127 and 129 as the alphabet's size (02, W6)
+    cases.refused(&["80 01"], 3, 2);
+    cases.refused(&["7F"], 3, 1);
+    cases.refused(&["81 01"], 5, 0);
     cases.check(&[65_535], (5, 0));
     cases.check(&[16_384], (5, 0));
 }

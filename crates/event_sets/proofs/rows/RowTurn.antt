@@ -1,12 +1,13 @@
 -- A row, event by event.
---     Head                             j events are read, none below `low` can follow, and their mask
+--     Head                             j events are read, none below `least` can follow, and the words of their mask
 --     row-short, row-off               no count; a count above the alphabet's size
 --     head-first, head-next, head-done before the first event; one event more; all are read
---     head-short, head-low, head-high  no event; one below `low`; one outside the alphabet
---     head-fits                        a mask with one event more is a word
+--     head-short, head-low, head-high  no event; one below `least`; one outside the alphabet
+--     first-fits, second-fits          the words of a mask with one event more are words
 -- Assumes nothing.
 use Prim.Native.Nat.{ℕ, suc, _+_, _^_, _<_, _≤_}
 use native.Mathlib.Omega.{arith}
+use native.Mathlib.Nat.{lt-of-lt-of-le}
 use native.Mathlib.Numerals.{add-one}
 use mathlib.Core.Path.{_≡_, refl, sym, ap, _∙_, subst}
 use mathlib.Core.Bool.{true, _&&_}
@@ -21,8 +22,9 @@ use Rattle.table.specs.Parser.Steps.{number-got, number-off, number-short, then
 use Rattle.table.specs.Parser.Steps.{Reads, none, reads-snoc, Repeats, all-done, all-stop}
 use Rattle.table.specs.Grammar as grammar
 use Rattle.table.specs.Grammar.{row}
-use Rattle.table_index.specs.Index.{maskOf}
-use Rattle.table_index.specs.Index.Sets.{mask-snoc, mask-under}
+use Rattle.table.specs.Rows.{alphabetMost}
+use Rattle.table_index.specs.Index.{maskOf, firstWord, secondWord}
+use Rattle.table_index.specs.Index.Sets.{mask-snoc, mask-under, first-add, second-add, first-word, second-word}
 use Rattle.table_index.specs.Parse.{RowFound}
 
 -- one event of an alphabet of size A, none below low
@@ -38,16 +40,17 @@ module _ (A : ℕ) where
   repeats = record { nothing = λ s. refl; again = λ n s. refl }
 
 module _ (l : List ℕ) (A at : ℕ) where
-  pub record Head (count mask low j p : ℕ) : Type 0 where
+  pub record Head (count low high least j p : ℕ) : Type 0 where
     pub begun : at < length l
     pub first : count ≡ getD l at 0
     pub count-few : count ≤ A
     pub events : List ℕ
-    pub read : Reads (eventFrom A) after 0 (tokensAt l (at + 1)) events low (tokensAt l p)
+    pub read : Reads (eventFrom A) after 0 (tokensAt l (at + 1)) events least (tokensAt l p)
     pub counted : length events ≡ j
-    pub bits : mask ≡ maskOf events
-    pub under : mask < 2 ^ low
-    pub low-few : low ≤ A
+    pub low-bits : low ≡ firstWord (maskOf events)
+    pub high-bits : high ≡ secondWord (maskOf events)
+    pub under : maskOf events < 2 ^ least
+    pub least-few : least ≤ A
     pub few : j ≤ count
     pub within : p ≤ length l
 
@@ -61,8 +64,8 @@ module _ (l : List ℕ) (A at : ℕ) where
   unfolding row
   row-off h k = then-stop _ _ _ (number-off (λ c. leb c A) l at h (lt-leb (getD l at 0) A k))
 
-  pub head-first : (count : ℕ) → count ≡ getD l at 0 → at < length l → count ≤ A → Head count 0 0 0 (at + 1)
-  unfolding maskOf
+  pub head-first : (count : ℕ) → count ≡ getD l at 0 → at < length l → count ≤ A → Head count 0 0 0 0 (at + 1)
+  unfolding maskOf firstWord secondWord
   head-first count e h k =
       record {
         begun = h;
@@ -71,14 +74,15 @@ module _ (l : List ℕ) (A at : ℕ) where
         events = [];
         read = none;
         counted = refl;
-        bits = refl;
+        low-bits = refl;
+        high-bits = refl;
         under = omega arith;
-        low-few = omega arith;
+        least-few = omega arith;
         few = omega arith;
         within = omega arith;
       }
 
-module _ {l : List ℕ} {A at count mask low j p : ℕ} (h : Head l A at count mask low j p) where
+module _ {l : List ℕ} {A at count low high least j p : ℕ} (h : Head l A at count low high least j p) where
   -- the row is what its events are
   from-events : {r : Result (List ℕ)} → grammar.events A count 0 (tokensAt l (at + 1)) ≡ r → row A (tokensAt l at) ≡ r
   unfolding row
@@ -88,7 +92,7 @@ module _ {l : List ℕ} {A at count mask low j p : ℕ} (h : Head l A at count m
       then-got _ _ _ (number-got (λ c. leb c A) l at (h .begun) (le-leb (getD l at 0) A k))
       (subst (λ (c : ℕ). grammar.events A c 0 (tokensAt l (at + 1)) ≡ r) f e)
 
-  stop-here : (n k : ℕ) → j < count → eventFrom A low (tokensAt l p) ≡ refused n k
+  stop-here : (n k : ℕ) → j < count → eventFrom A least (tokensAt l p) ≡ refused n k
       → row A (tokensAt l at) ≡ refused n k
   stop-here n k b e =
       let c = h .counted in
@@ -100,28 +104,44 @@ module _ {l : List ℕ} {A at count mask low j p : ℕ} (h : Head l A at count m
       let e : p ≡ length l = omega arith in
       stop-here 3 (length l) b (number-short _ l p e ∙ ap (λ (n : ℕ). refused 3 n) e)
 
-  pub head-low : j < count → p < length l → getD l p 0 < low → row A (tokensAt l at) ≡ refused 5 p
-  head-low b k o = stop-here 5 p b (number-off _ l p k (rw (lt-leb low (getD l p 0) o) refl))
+  pub head-low : j < count → p < length l → getD l p 0 < least → row A (tokensAt l at) ≡ refused 5 p
+  head-low b k o = stop-here 5 p b (number-off _ l p k (rw (lt-leb least (getD l p 0) o) refl))
 
-  pub head-high : j < count → p < length l → low ≤ getD l p 0 → A ≤ getD l p 0 → row A (tokensAt l at) ≡ refused 5 p
+  pub head-high : j < count → p < length l → least ≤ getD l p 0 → A ≤ getD l p 0 → row A (tokensAt l at) ≡ refused 5 p
   head-high b k o q =
-      stop-here 5 p b (number-off _ l p k (rw (le-leb low (getD l p 0) o, le-ltb (getD l p 0) A q) refl))
+      stop-here 5 p b (number-off _ l p k (rw (le-leb least (getD l p 0) o, le-ltb (getD l p 0) A q) refl))
 
-  pub head-fits : (e m : ℕ) → m ≡ 2 ^ e → low ≤ e → e < 64 → mask + m < 2 ^ 64
-  head-fits e m g o q =
-      let a = mask-under mask low e (h .under) o in
-      let i : e + 1 ≤ 64 = omega arith in
-      let b : 2 ^ (e + 1) ≤ 2 ^ 64 = pow-mono i in
+  more-first : (e m : ℕ) → m ≡ firstWord (2 ^ e) → least ≤ e → low + m ≡ firstWord (maskOf (h .events) + 2 ^ e)
+  more-first e m g o =
+      let b = h .low-bits in
+      let a = first-add (maskOf (h .events)) least e (h .under) o in
       omega arith
 
-  pub head-next : (e m : ℕ) → e ≡ getD l p 0 → m ≡ 2 ^ e → j < count → p < length l → low ≤ e → e < A
-      → Head l A at count (mask + m) (e + 1) (j + 1) (p + 1)
-  head-next e m f g b k o q =
+  more-second : (e m : ℕ) → m ≡ secondWord (2 ^ e) → least ≤ e → high + m ≡ secondWord (maskOf (h .events) + 2 ^ e)
+  more-second e m g o =
+      let b = h .high-bits in
+      let a = second-add (maskOf (h .events)) least e (h .under) o in
+      omega arith
+
+  pub first-fits : (e m : ℕ) → m ≡ firstWord (2 ^ e) → least ≤ e → low + m < 2 ^ 64
+  first-fits e m g o = rw (more-first e m g o) (first-word _)
+
+  pub second-fits : (e m : ℕ) → m ≡ secondWord (2 ^ e) → least ≤ e → e < alphabetMost → high + m < 2 ^ 64
+  second-fits e m g o q =
+      let a = mask-under (maskOf (h .events)) least e (h .under) o in
+      let i : e + 1 ≤ 128 = omega arith in
+      let b : 2 ^ (e + 1) ≤ 2 ^ 128 = pow-mono i in
+      rw (more-second e m g o) (second-word _ (lt-of-lt-of-le a b))
+
+  pub head-next : (e m n : ℕ) → e ≡ getD l p 0 → m ≡ firstWord (2 ^ e) → n ≡ secondWord (2 ^ e) → j < count
+      → p < length l → least ≤ e → e < A
+      → Head l A at count (low + m) (high + n) (e + 1) (j + 1) (p + 1)
+  head-next e m n f g s b k o q =
       let c = h .counted in
-      let n = length-append (h .events) (e ∷ []) in
-      let read = number-got (λ e. leb low e && ltb e A) l p k
-      (subst (λ (e : ℕ). (leb low e && ltb e A) ≡ true) f (rw (le-leb low e o, lt-ltb e A q) refl)) in
-      let read' = subst (λ (e : ℕ). eventFrom A low (tokensAt l p) ≡ got e (tokensAt l (p + 1))) (sym f) read in
+      let z = length-append (h .events) (e ∷ []) in
+      let read = number-got (λ e. leb least e && ltb e A) l p k
+      (subst (λ (e : ℕ). (leb least e && ltb e A) ≡ true) f (rw (le-leb least e o, lt-ltb e A q) refl)) in
+      let read' = subst (λ (e : ℕ). eventFrom A least (tokensAt l p) ≡ got e (tokensAt l (p + 1))) (sym f) read in
       record {
         begun = h .begun;
         first = h .first;
@@ -129,14 +149,15 @@ module _ {l : List ℕ} {A at count mask low j p : ℕ} (h : Head l A at count m
         events = h .events ++ (e ∷ []);
         read = rw (add-one e) (reads-snoc (eventFrom A) after (h .read) read');
         counted = omega arith;
-        bits = rw (mask-snoc (h .events) e, h .bits, g) refl;
-        under = rw g (mask-under mask low e (h .under) o);
-        low-few = omega arith;
+        low-bits = more-first e m g o ∙ ap firstWord (sym (mask-snoc (h .events) e));
+        high-bits = more-second e n s o ∙ ap secondWord (sym (mask-snoc (h .events) e));
+        under = rw (mask-snoc (h .events) e) (mask-under (maskOf (h .events)) least e (h .under) o);
+        least-few = omega arith;
         few = omega arith;
         within = omega arith;
       }
 
-  pub head-done : count ≤ j → RowFound l A at mask p
+  pub head-done : count ≤ j → RowFound l A at low high p
   head-done b =
       let c = h .counted in
       let f = h .few in
@@ -146,6 +167,7 @@ module _ {l : List ℕ} {A at count mask low j p : ℕ} (h : Head l A at count m
         parsed = from-events
             (subst (λ (n : ℕ). grammar.events A n 0 (tokensAt l (at + 1)) ≡ got (h .events) (tokensAt l p)) e
             (all-done (eventFrom A) after (grammar.events A) (repeats A) (h .read)));
-        mask = h .bits;
+        first = h .low-bits;
+        second = h .high-bits;
         within = h .within;
       }

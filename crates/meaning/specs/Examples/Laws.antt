@@ -12,8 +12,9 @@ use Rattle.numbers.specs.Number.{listBytes, bytesOf, groups, scanWith, readNumb
 use Rattle.table.specs.Table.{size, bodyOf}
 use Rattle.table.specs.Tokens.{listTokens, byteToken, byteTokensWith, byteTokens, placeOf, trailing}
 use Rattle.table.specs.Parser.{number, pure, next, andThen, times}
-use Rattle.table.specs.Grammar.{events, row, setOfKind, eventSet, refOfKind, setRef, termOfKind, termWith}
-use Rattle.table.specs.Grammar.{definition, definitionsOf, table}
+use Rattle.table.specs.Rows.{rowCount, rowsOf, rowsFit}
+use Rattle.table.specs.Grammar.{events, row, setOfKind, kindFits, eventSet, eventSets, refOfKind, setRef, termOfKind}
+use Rattle.table.specs.Grammar.{termWith, definition, definitionsOf, table}
 use Rattle.table.specs.Writing.{rowNumbers, setNumbers, refNumbers, termNumbers, definitionNumbers, numbersOf}
 use Rattle.table.specs.First.{orElse, unless}
 use Rattle.table.specs.References.{levelIn, paramFits, callFits, wrongRef, wrongIn, wrongFrom, firstWrong}
@@ -92,12 +93,12 @@ all-judged : (map judged rows ≡ map taken rows)
     × (judgeBytes InBytes.tableB ≡ accepted (numbersOf tableB) tableB)
     × (judgeList (numbersOf onlyFail) ≡ accepted (numbersOf onlyFail) onlyFail)
 unfolding tableOf tableB onlyFail judgeBytes judgeList judge judgeRead sized listBytes bytesOf groups unlessMet placed
-    placeOf trailing byteTokens byteTokensWith byteToken readNumber scanWith
-    listTokens table number andThen next pure times events row setOfKind eventSet refOfKind setRef termOfKind termWith
+    placeOf trailing byteTokens byteTokensWith byteToken readNumber scanWith listTokens table number andThen next pure
+    times events row setOfKind eventSet eventSets kindFits rowCount rowsOf rowsFit refOfKind setRef termOfKind termWith
     definition definitionsOf size numbersOf rowNumbers setNumbers refNumbers termNumbers definitionNumbers flatMap
-    orElse unless levelIn paramFits callFits wrongRef wrongIn wrongFrom firstWrong grow
-    widthWith widest callWidth nextWidth allWidths firstAbove tooWide
-    branchesWith branchesAt bodyIn nextBranches allBranches followerAbove bodyAbove tooManyBranches
+    orElse unless levelIn paramFits callFits wrongRef wrongIn wrongFrom firstWrong grow widthWith widest callWidth
+    nextWidth allWidths firstAbove tooWide branchesWith branchesAt bodyIn nextBranches allBranches followerAbove
+    bodyAbove tooManyBranches
 all-judged = (refl, refl, refl)
 
 rows-left : map left rows ≡ map (λ r. r .held) rows

@@ -1,6 +1,6 @@
--- Offer's bit e is set exactly when the residuals after e are not empty (01, "Operations"); Offer by what stands before
--- it. Assumes nothing.
-use Prim.Native.Nat.{ℕ, zero, suc, _+_, _-_, _*_, _/_, _%_, _^_, _≤_, _<_}
+-- Offer's bit e is set exactly when the residuals after e are not empty (01, "Operations"), bit e of the second word
+-- when those after 64 + e are not (02, W6); Offer by what stands before it. Assumes nothing.
+use Prim.Native.Nat.{ℕ, zero, suc, _+_, _-_, _*_, _/_, _%_, _^_, _≤_, _<_, min}
 use native.Mathlib.Omega.{arith}
 use native.Mathlib.Decide.{decLt, ℕ-discrete}
 use native.Mathlib.Nat.{pow-suc, mul-assoc, one-mul, div-eq-of-lt, add-mul-div-right, add-mul-mod-self-right}
@@ -16,7 +16,8 @@ use Rattle.monitor_spec.specs.Meaning.{Some}
 use Rattle.table.specs.Operations.{zeros}
 use Rattle.monitor_spec.specs.State.{Monitor}
 use Rattle.monitor_spec.specs.Entering.{shut, admits, entranceOn, entering}
-use Rattle.monitor_spec.specs.Offer.{refused, offers, bitOf, bitsBelow, offerBits, offering, offerOf}
+use Rattle.monitor_spec.specs.Offer.{refused, offers, bitOf, bitsFrom, wordBits, wordFrom, offerBits}
+use Rattle.monitor_spec.specs.Offer.{offering, offerOf}
 
 -- a multiple of a higher power does not change a bit
 lower-bit : (x c k e : ℕ) → e < k → (x + c * 2 ^ k) / 2 ^ e % 2 ≡ x / 2 ^ e % 2
@@ -39,74 +40,86 @@ top-bit x k h =
 no-bit : (x k : ℕ) → x < 2 ^ k → x / 2 ^ k % 2 ≡ 0
 no-bit x k h = ap (λ (j : ℕ). j % 2) (div-eq-of-lt h)
 
-module _ (t : Table) (rs : List Residual) where
+module _ (t : Table) (rs : List Residual) (b : ℕ) where
   -- the next bit is set or not
-  bits-none : (k : ℕ) → afterAll t k rs ≡ [] → bitsBelow t rs (suc k) ≡ bitsBelow t rs k
-  unfolding bitsBelow bitOf
+  bits-none : (k : ℕ) → afterAll t (b + k) rs ≡ [] → bitsFrom t rs b (suc k) ≡ bitsFrom t rs b k
+  unfolding bitsFrom bitOf
   bits-none k e = rw e (omega arith)
 
-  bits-some : (k : ℕ) (q : Residual) (qs : List Residual) → afterAll t k rs ≡ q ∷ qs
-      → bitsBelow t rs (suc k) ≡ bitsBelow t rs k + 1 * 2 ^ k
-  unfolding bitsBelow bitOf
+  bits-some : (k : ℕ) (q : Residual) (qs : List Residual) → afterAll t (b + k) rs ≡ q ∷ qs
+      → bitsFrom t rs b (suc k) ≡ bitsFrom t rs b k + 1 * 2 ^ k
+  unfolding bitsFrom bitOf
   bits-some k q qs e = rw (e, one-mul)
 
-  pub bits-small : (k : ℕ) → bitsBelow t rs k < 2 ^ k
-  unfolding bitsBelow
+  pub bits-small : (k : ℕ) → bitsFrom t rs b k < 2 ^ k
+  unfolding bitsFrom
   bits-small zero = omega arith
-  bits-small (suc k) = by (afterAll t k rs) refl (bits-small k)
+  bits-small (suc k) = by (afterAll t (b + k) rs) refl (bits-small k)
     where
-      by : (l : List Residual) → afterAll t k rs ≡ l → bitsBelow t rs k < 2 ^ k → bitsBelow t rs (suc k) < 2 ^ suc k
+      by : (l : List Residual) → afterAll t (b + k) rs ≡ l → bitsFrom t rs b k < 2 ^ k
+          → bitsFrom t rs b (suc k) < 2 ^ suc k
       by [] e h = let a = bits-none k e in let p = pow-suc 2 k in omega arith
       by (q ∷ qs) e h = let a = bits-some k q qs e in let p = pow-suc 2 k in omega arith
 
   abbrev Set : ℕ → ℕ → Type 0
-  Set k e = bitsBelow t rs k / 2 ^ e % 2 ≡ 1
+  Set k e = bitsFrom t rs b k / 2 ^ e % 2 ≡ 1
 
   not-set : {X : Type 0} (j : ℕ) → j ≡ 0 → j ≡ 1 → X
   not-set j e f = absurd (omega arith)
 
-  -- "bit e is set exactly when the residuals after e .. are not empty"
-  pub offer-bit : (k e : ℕ) → (bitsBelow t rs k / 2 ^ e % 2 ≡ 1) ↔ ((e < k) × Some (afterAll t e rs))
+  -- bit e is set exactly when the residuals after b + e are not empty
+  offer-bit : (k e : ℕ) → (bitsFrom t rs b k / 2 ^ e % 2 ≡ 1) ↔ ((e < k) × Some (afterAll t (b + e) rs))
   offer-bit zero e = (
-    λ h. not-set (bitsBelow t rs 0 / 2 ^ e % 2)
-        (no-bit (bitsBelow t rs 0) e (let a = bits-small 0 in let p = pow-pos e in omega arith)) h,
+    λ h. not-set (bitsFrom t rs b 0 / 2 ^ e % 2)
+        (no-bit (bitsFrom t rs b 0) e (let a = bits-small 0 in let p = pow-pos e in omega arith)) h,
     λ h. absurd
         (let l = h .0 in omega arith),
   )
-  offer-bit (suc k) e = by (decLt e k) (decLt k e) (afterAll t k rs) refl (offer-bit k e)
+  offer-bit (suc k) e = by (decLt e k) (decLt k e) (afterAll t (b + k) rs) refl (offer-bit k e)
     where
       bit : ℕ → ℕ
-      bit j = bitsBelow t rs j / 2 ^ e % 2
+      bit j = bitsFrom t rs b j / 2 ^ e % 2
 
-      lower : (l : List Residual) → afterAll t k rs ≡ l → e < k → bit (suc k) ≡ bit k
+      lower : (l : List Residual) → afterAll t (b + k) rs ≡ l → e < k → bit (suc k) ≡ bit k
       lower [] p h = ap (λ (x : ℕ). x / 2 ^ e % 2) (bits-none k p)
-      lower (q ∷ qs) p h = ap (λ (x : ℕ). x / 2 ^ e % 2) (bits-some k q qs p) ∙ lower-bit (bitsBelow t rs k) 1 k e h
+      lower (q ∷ qs) p h = ap (λ (x : ℕ). x / 2 ^ e % 2) (bits-some k q qs p) ∙ lower-bit (bitsFrom t rs b k) 1 k e h
 
-      by : Dec (e < k) → Dec (k < e) → (l : List Residual) → afterAll t k rs ≡ l
-          → ((bit k ≡ 1) ↔ ((e < k) × Some (afterAll t e rs))) → (bit (suc k) ≡ 1)
-          ↔ ((e < suc k) × Some (afterAll t e rs))
+      by : Dec (e < k) → Dec (k < e) → (l : List Residual) → afterAll t (b + k) rs ≡ l
+          → ((bit k ≡ 1) ↔ ((e < k) × Some (afterAll t (b + e) rs))) → (bit (suc k) ≡ 1)
+          ↔ ((e < suc k) × Some (afterAll t (b + e) rs))
       by (yes h) d l p ih =
           let v = lower l p h in
           (λ x. (omega arith, ih .0 (sym v ∙ x) .1), λ x. v ∙ ih .1 (h, x .1))
       by (no h) (yes g) l p ih =
-          let a = bits-small (suc k) in
-          let b : 2 ^ suc k ≤ 2 ^ e = pow-mono g in (
-            λ x. not-set (bit (suc k)) (no-bit (bitsBelow t rs (suc k)) e (omega arith)) x,
+          let small = bits-small (suc k) in
+          let more : 2 ^ suc k ≤ 2 ^ e = pow-mono g in (
+            λ x. not-set (bit (suc k)) (no-bit (bitsFrom t rs b (suc k)) e (omega arith)) x,
             λ x. absurd
                 (let y = x .0 in omega arith),
           )
       by (no h) (no g) [] p ih =
           let i : e ≡ k = omega arith in
           let a = bits-none k p in
-          let b = bits-small k in
-          let z : bit (suc k) ≡ 0 = ap₂ (λ (x y : ℕ). x / 2 ^ y % 2) a i ∙ no-bit (bitsBelow t rs k) k b in
-          (λ x. not-set (bit (suc k)) z x, λ x. absurd (subst Some (ap (λ (y : ℕ). afterAll t y rs) i ∙ p) (x .1)))
+          let small = bits-small k in
+          let z : bit (suc k) ≡ 0 = ap₂ (λ (x y : ℕ). x / 2 ^ y % 2) a i ∙ no-bit (bitsFrom t rs b k) k small in
+          let r : afterAll t (b + e) rs ≡ [] = ap (λ (y : ℕ). afterAll t (b + y) rs) i ∙ p in
+          (λ x. not-set (bit (suc k)) z x, λ x. absurd (subst Some r (x .1)))
       by (no h) (no g) (q ∷ qs) p ih =
           let i : e ≡ k = omega arith in
           let a = bits-some k q qs p in
-          let b = bits-small k in
-          let z : bit (suc k) ≡ 1 = ap₂ (λ (x y : ℕ). x / 2 ^ y % 2) a i ∙ top-bit (bitsBelow t rs k) k b in
-          (λ x. (omega arith, subst Some (sym (ap (λ (y : ℕ). afterAll t y rs) i ∙ p)) tt), λ x. z)
+          let small = bits-small k in
+          let z : bit (suc k) ≡ 1 = ap₂ (λ (x y : ℕ). x / 2 ^ y % 2) a i ∙ top-bit (bitsFrom t rs b k) k small in
+          (λ x. (omega arith, subst Some (sym (ap (λ (y : ℕ). afterAll t (b + y) rs) i ∙ p)) tt), λ x. z)
+
+  -- "bit e is set exactly when the residuals after e .. are not empty", of the events that have a bit in the word
+  pub word-bit : (e : ℕ)
+      → (wordFrom t rs b / 2 ^ e % 2 ≡ 1) ↔ ((e < 64) × (b + e < t .alphabet) × Some (afterAll t (b + e) rs))
+  unfolding wordFrom wordBits
+  word-bit e =
+      let f = offer-bit (min 64 (t .alphabet - b)) e in (
+        λ h. let (i, x) = f .0 h in (omega arith, omega arith, x),
+        λ (i, j, x). f .1 (omega arith, x),
+      )
 
 -- ---- a number is its bits
 

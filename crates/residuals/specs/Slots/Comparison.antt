@@ -31,7 +31,7 @@ apart e f = let z : _≡_ {A = ℕ} 0 1 = cc in absurd (omega arith)
 pub apart-same : {X : Type 0} {o : Order} → o ≡ below → o ≡ same → X
 apart-same e f = let z : _≡_ {A = ℕ} 0 1 = cc in absurd (omega arith)
 
-apart-above : {X : Type 0} {o : Order} → o ≡ above → o ≡ same → X
+pub apart-above : {X : Type 0} {o : Order} → o ≡ above → o ≡ same → X
 apart-above e f = let z : _≡_ {A = ℕ} 0 1 = cc in absurd (omega arith)
 
 pub cmp-refl : (a : List ℕ) → compareWords a a ≡ same

@@ -5,8 +5,9 @@ use Rattle.numbers.specs.Number.{bytesOf, readNumber, listBytes, scanWith, carr
 use Rattle.table.specs.Table.{size}
 use Rattle.table.specs.Tokens.{listTokens, byteToken, byteTokensWith, byteTokens, trailing, placeOf}
 use Rattle.table.specs.Parser.{number, pure, next, andThen, times}
-use Rattle.table.specs.Grammar.{events, row, setOfKind, eventSet, refOfKind, setRef, termOfKind, termWith}
-use Rattle.table.specs.Grammar.{definition, definitionsOf, table}
+use Rattle.table.specs.Rows.{rowCount, rowsOf, rowsFit}
+use Rattle.table.specs.Grammar.{events, row, setOfKind, kindFits, eventSet, eventSets, refOfKind, setRef}
+use Rattle.table.specs.Grammar.{termOfKind, termWith, definition, definitionsOf, table}
 use Rattle.table.specs.Writing.{rowNumbers, setNumbers, refNumbers, termNumbers, definitionNumbers, numbersOf}
 use Rattle.table.specs.First.{orElse, unless}
 use Rattle.table.specs.References.{levelIn, paramFits, callFits, wrongRef, wrongIn, wrongFrom, firstWrong}
@@ -16,16 +17,17 @@ use Rattle.table.specs.Branches.{branchesWith, branchesAt, bodyIn, nextB
 use Rattle.table.specs.Branches.{bodyAbove, tooManyBranches}
 use Rattle.table.specs.Judge.{unlessMet, placed, judgeRead, judge, judgeBytes, sized, judgeList}
 use Rattle.table.specs.Examples.{bytesAre, listIs, every}
-use Rattle.table.specs.Bounds.{alphabetRows, setRows, definitionRows, parameterRows, callRows, widthRows}
-use Rattle.table.specs.Bounds.{branchRows, orderRows}
+use Rattle.table.specs.Bounds.{alphabetRows, setRows, rowRows, definitionRows, parameterRows, callRows}
+use Rattle.table.specs.Bounds.{widthRows, branchRows, orderRows}
 
-pub bounds-hold : T (every alphabetRows) × T (every setRows) × T (every definitionRows) × T (every parameterRows)
-    × T (every callRows) × T (every widthRows) × T (every branchRows) × T (every orderRows)
-unfolding alphabetRows setRows definitionRows parameterRows callRows widthRows branchRows orderRows bytesAre listIs
-    judgeBytes judge judgeRead byteTokens byteTokensWith byteToken readNumber scanWith
-    carry later table number andThen next pure times events row setOfKind eventSet refOfKind setRef termOfKind termWith
-    definition definitionsOf size listTokens unlessMet placed placeOf trailing firstWrong wrongFrom wrongIn wrongRef
-    paramFits callFits levelIn orElse unless rowNumbers setNumbers refNumbers termNumbers definitionNumbers flatMap
-    numbersOf widthWith widest callWidth nextWidth allWidths grow firstAbove tooWide branchesWith branchesAt bodyIn
-    nextBranches allBranches followerAbove bodyAbove tooManyBranches judgeList sized listBytes bytesOf groups
-bounds-hold = (tt, tt, tt, tt, tt, tt, tt, tt)
+pub bounds-hold : T (every alphabetRows) × T (every setRows) × T (every rowRows) × T (every definitionRows)
+    × T (every parameterRows) × T (every callRows) × T (every widthRows) × T (every branchRows) × T (every orderRows)
+unfolding alphabetRows setRows rowRows definitionRows parameterRows callRows widthRows branchRows orderRows bytesAre
+    listIs judgeBytes judge judgeRead byteTokens byteTokensWith byteToken readNumber scanWith carry later table number
+    andThen next pure times events row setOfKind eventSet eventSets kindFits rowCount rowsOf rowsFit refOfKind setRef
+    termOfKind termWith definition definitionsOf size listTokens unlessMet placed placeOf trailing firstWrong wrongFrom
+    wrongIn wrongRef paramFits callFits levelIn orElse unless rowNumbers setNumbers refNumbers termNumbers
+    definitionNumbers flatMap numbersOf widthWith widest callWidth nextWidth allWidths grow firstAbove tooWide
+    branchesWith branchesAt bodyIn nextBranches allBranches followerAbove bodyAbove tooManyBranches judgeList sized
+    listBytes bytesOf groups
+bounds-hold = (tt, tt, tt, tt, tt, tt, tt, tt, tt)

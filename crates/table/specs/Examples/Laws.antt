@@ -7,8 +7,9 @@ use Rattle.numbers.specs.Number.{bytesOf, readNumber, listBytes, scanWith, carr
 use Rattle.table.specs.Table.{size}
 use Rattle.table.specs.Tokens.{listTokens, byteToken, byteTokensWith, byteTokens, trailing, placeOf}
 use Rattle.table.specs.Parser.{number, pure, next, andThen, times}
-use Rattle.table.specs.Grammar.{events, row, setOfKind, eventSet, refOfKind, setRef, termOfKind, termWith}
-use Rattle.table.specs.Grammar.{definition, definitionsOf, table}
+use Rattle.table.specs.Rows.{rowCount, rowsOf, rowsFit}
+use Rattle.table.specs.Grammar.{events, row, setOfKind, kindFits, eventSet, eventSets, refOfKind, setRef}
+use Rattle.table.specs.Grammar.{termOfKind, termWith, definition, definitionsOf, table}
 use Rattle.table.specs.Writing.{rowNumbers, setNumbers, refNumbers, termNumbers, definitionNumbers, numbersOf}
 use Rattle.table.specs.First.{orElse, unless}
 use Rattle.table.specs.References.{levelIn, paramFits, callFits, wrongRef, wrongIn, wrongFrom, firstWrong}
@@ -29,46 +30,49 @@ numbers-hold = tt
 
 pub tables-hold : T (every tableRows)
 unfolding tableRows bytesAre listIs judgeBytes judge judgeRead byteTokens byteTokensWith byteToken readNumber scanWith
-    carry later table number andThen next pure times events row setOfKind eventSet refOfKind setRef termOfKind termWith
-    definition definitionsOf size listTokens unlessMet placed placeOf trailing firstWrong wrongFrom wrongIn wrongRef
-    paramFits callFits levelIn orElse unless rowNumbers setNumbers refNumbers termNumbers definitionNumbers flatMap
-    numbersOf widthWith widest callWidth nextWidth allWidths grow firstAbove tooWide branchesWith branchesAt bodyIn
-    nextBranches allBranches followerAbove bodyAbove tooManyBranches judgeList sized listBytes bytesOf groups
+    carry later table number andThen next pure times events row setOfKind eventSet eventSets kindFits rowCount rowsOf
+    rowsFit refOfKind setRef termOfKind termWith definition definitionsOf size listTokens unlessMet placed placeOf
+    trailing firstWrong wrongFrom wrongIn wrongRef paramFits callFits levelIn orElse unless rowNumbers setNumbers
+    refNumbers termNumbers definitionNumbers flatMap numbersOf widthWith widest callWidth nextWidth allWidths grow
+    firstAbove tooWide branchesWith branchesAt bodyIn nextBranches allBranches followerAbove bodyAbove tooManyBranches
+    judgeList sized listBytes bytesOf groups
 tables-hold = tt
 
 pub counts-hold : T (every countRows)
 unfolding countRows bytesAre listIs judgeBytes judge judgeRead byteTokens byteTokensWith byteToken readNumber scanWith
-    carry later table number andThen next pure times events row setOfKind eventSet refOfKind setRef termOfKind termWith
-    definition definitionsOf size listTokens unlessMet placed placeOf trailing firstWrong wrongFrom wrongIn wrongRef
-    paramFits callFits levelIn orElse unless rowNumbers setNumbers refNumbers termNumbers definitionNumbers flatMap
-    numbersOf widthWith widest callWidth nextWidth allWidths grow firstAbove tooWide branchesWith branchesAt bodyIn
-    nextBranches allBranches followerAbove bodyAbove tooManyBranches judgeList sized listBytes bytesOf groups
+    carry later table number andThen next pure times events row setOfKind eventSet eventSets kindFits rowCount rowsOf
+    rowsFit refOfKind setRef termOfKind termWith definition definitionsOf size listTokens unlessMet placed placeOf
+    trailing firstWrong wrongFrom wrongIn wrongRef paramFits callFits levelIn orElse unless rowNumbers setNumbers
+    refNumbers termNumbers definitionNumbers flatMap numbersOf widthWith widest callWidth nextWidth allWidths grow
+    firstAbove tooWide branchesWith branchesAt bodyIn nextBranches allBranches followerAbove bodyAbove tooManyBranches
+    judgeList sized listBytes bytesOf groups
 counts-hold = tt
 
 pub longs-hold : T (every longRows)
 unfolding longRows bytesAre listIs judgeBytes byteTokens byteTokensWith byteToken readNumber scanWith carry later judge
-    judgeRead table number andThen next pure times events row setOfKind eventSet refOfKind setRef
-    termOfKind termWith definition definitionsOf size listTokens unlessMet placed placeOf trailing firstWrong wrongFrom
-    wrongIn wrongRef paramFits callFits levelIn orElse unless rowNumbers setNumbers refNumbers termNumbers
-    definitionNumbers flatMap numbersOf widthWith widest callWidth nextWidth allWidths grow firstAbove tooWide
-    branchesWith branchesAt bodyIn nextBranches allBranches followerAbove bodyAbove tooManyBranches judgeList sized
-    listBytes bytesOf groups
+    judgeRead table number andThen next pure times events row setOfKind eventSet eventSets kindFits rowCount rowsOf
+    rowsFit refOfKind setRef termOfKind termWith definition definitionsOf size listTokens unlessMet placed placeOf
+    trailing firstWrong wrongFrom wrongIn wrongRef paramFits callFits levelIn orElse unless rowNumbers setNumbers
+    refNumbers termNumbers definitionNumbers flatMap numbersOf widthWith widest callWidth nextWidth allWidths grow
+    firstAbove tooWide branchesWith branchesAt bodyIn nextBranches allBranches followerAbove bodyAbove tooManyBranches
+    judgeList sized listBytes bytesOf groups
 longs-hold = tt
 
 pub reads-hold : T (every readRows)
-unfolding readRows readOf measured readJudged judgeBytes byteTokens byteTokensWith byteToken
-    readNumber scanWith carry later judge judgeRead table number andThen next pure times events row setOfKind eventSet
-    refOfKind setRef termOfKind termWith definition definitionsOf size listTokens unlessMet placed placeOf trailing
-    firstWrong wrongFrom wrongIn wrongRef paramFits callFits levelIn orElse unless rowNumbers setNumbers refNumbers
-    termNumbers definitionNumbers flatMap numbersOf widthWith widest callWidth nextWidth allWidths grow firstAbove
-    tooWide branchesWith branchesAt bodyIn nextBranches allBranches followerAbove bodyAbove tooManyBranches
+unfolding readRows readOf measured readJudged judgeBytes byteTokens byteTokensWith byteToken readNumber scanWith carry
+    later judge judgeRead table number andThen next pure times events row setOfKind eventSet eventSets kindFits rowCount
+    rowsOf rowsFit refOfKind setRef termOfKind termWith definition definitionsOf size listTokens unlessMet placed
+    placeOf trailing firstWrong wrongFrom wrongIn wrongRef paramFits callFits levelIn orElse unless rowNumbers
+    setNumbers refNumbers termNumbers definitionNumbers flatMap numbersOf widthWith widest callWidth nextWidth allWidths
+    grow firstAbove tooWide branchesWith branchesAt bodyIn nextBranches allBranches followerAbove bodyAbove
+    tooManyBranches
 reads-hold = tt
 
 pub writes-hold : T (every writeRows)
 unfolding writeRows writeOf measured writeJudged judge judgeRead table number andThen next pure times events row
-    setOfKind eventSet refOfKind setRef termOfKind termWith definition definitionsOf size listTokens unlessMet placed
-    placeOf trailing firstWrong wrongFrom wrongIn wrongRef paramFits callFits levelIn orElse unless rowNumbers
-    setNumbers refNumbers termNumbers definitionNumbers flatMap numbersOf widthWith widest callWidth nextWidth
-    allWidths grow firstAbove tooWide branchesWith branchesAt bodyIn nextBranches allBranches followerAbove bodyAbove
-    tooManyBranches judgeList sized listBytes bytesOf groups
+    setOfKind eventSet eventSets kindFits rowCount rowsOf rowsFit refOfKind setRef termOfKind termWith definition
+    definitionsOf size listTokens unlessMet placed placeOf trailing firstWrong wrongFrom wrongIn wrongRef paramFits
+    callFits levelIn orElse unless rowNumbers setNumbers refNumbers termNumbers definitionNumbers flatMap numbersOf
+    widthWith widest callWidth nextWidth allWidths grow firstAbove tooWide branchesWith branchesAt bodyIn nextBranches
+    allBranches followerAbove bodyAbove tooManyBranches judgeList sized listBytes bytesOf groups
 writes-hold = tt

@@ -127,6 +127,7 @@ fields-out t w =
       alphabet-least = w .alphabet .0;
       alphabet-most = w .alphabet .1;
       sets-most = w .sets-most;
+      rows-most = w .rows-most;
       family-rows = of-sets t w (FamilyRows A) (λ s i. i .family-rows);
       row-counts = of-sets t w (EachRow (λ r. length r ≤ A)) (λ s i. i .counts);
       row-events = of-sets t w (EachRow (All (λ e. e < A))) (λ s i. i .events);
@@ -186,6 +187,7 @@ fields-in t f =
     record {
       alphabet = (f .alphabet-least, f .alphabet-most);
       sets-most = f .sets-most;
+      rows-most = f .rows-most;
       sets = sets-in (t .alphabet) (t .sets) (f .family-rows) (f .row-counts) (f .row-events) (f .row-order);
       definitions = (f .definitions-least, f .definitions-most);
       bodies = bodies-in (t .sets) (t .definitions) (f .levels) (f .references) (f .parameters) (f .nesting);

@@ -1,7 +1,9 @@
 -- The grammar of sets: what `eventSet` reads is what would be written, within its bounds, and the other way.
 --     Run, RowOk, SetOk           events, a row, a set within the bounds
 --     row-sound, row-complete     a row
+--     SetIn                       and after so many rows
 --     set-sound, set-complete     a set
+--     sets-sound, sets-complete   so many sets
 -- Assumes nothing.
 use Prim.Native.Nat.{ℕ, zero, suc, _+_, _≤_, _<_}
 use native.Mathlib.Omega.{arith}
@@ -13,12 +15,14 @@ use lib.Dec.{T, leb, ltb, leb→le, le→leb, ltb→lt, lt→ltb}
 use Rattle.numbers.specs.Choice.{both, both-in}
 use Rattle.numbers.specs.Every.{All}
 use Rattle.table.specs.Table.{SetDef, one, each}
+use Rattle.table.specs.Rows.{rowCount, rowsOf, rowsIn, RowsFit, rowsFit}
+use Rattle.table.specs.Rows.Laws.{fits-out, fits-in, fit-less}
 use Rattle.table.specs.Tokens.{Tokens}
 use Rattle.table.specs.Tokens.Laws.{Follows, Between, follows-split, follows-join}
 use Rattle.table.specs.Parser.{Result, got, refused, Parser, number, pure, andThen, times}
 use Rattle.table.specs.Parser.Laws.{pure-out, Split, then-out, then-in, number-out, number-in, Sound, Complete}
 use Rattle.table.specs.Parser.Laws.{Read, times-sound, times-complete}
-use Rattle.table.specs.Grammar.{events, row, setOfKind, eventSet}
+use Rattle.table.specs.Grammar.{events, row, setOfKind, kindFits, eventSet, eventSets}
 use Rattle.table.specs.Writing.{rowNumbers, setNumbers}
 
 -- ---- rows
@@ -90,41 +94,93 @@ abbrev pub SetOk : ℕ → SetDef → Type 0
 SetOk A (one r) = RowOk A r
 SetOk A (each rs) = (length rs ≡ A) × All (RowOk A) rs
 
-kind-sound : (A k : ℕ) → k ≤ 1 → (ts mid rest : Tokens) (s : SetDef) → Follows (k ∷ []) ts mid
+-- a set after n rows
+abbrev pub SetIn : ℕ → ℕ → SetDef → Type 0
+SetIn A n s = SetOk A s × RowsFit A (n + rowsOf A s)
+
+kind-sound : (A n k : ℕ) → k ≤ 1 → RowsFit A (n + rowCount k A) → (ts mid rest : Tokens) (s : SetDef)
+    → Follows (k ∷ []) ts mid
     → setOfKind A k mid ≡ got s rest
-    → SetOk A s × Follows (setNumbers s) ts rest
-unfolding setOfKind setNumbers
-kind-sound A zero b ts mid rest s f h =
+    → SetIn A n s × Follows (setNumbers s) ts rest
+unfolding setOfKind setNumbers rowCount rowsOf
+kind-sound A n zero b w ts mid rest s f h =
     let a = then-out _ _ mid s rest h in
     let r = row-sound A mid (a .middle) (a .first) (a .before) in
-    pure-out (λ x us. SetOk A x × Follows (setNumbers x) ts us) _ s (a .middle) rest (a .after)
-    (r .0, follows-join (0 ∷ []) (rowNumbers (a .first)) ts mid (a .middle) f (r .1))
-kind-sound A (suc k) b ts mid rest s f h =
+    pure-out (λ x us. SetIn A n x × Follows (setNumbers x) ts us) _ s (a .middle) rest (a .after)
+    ((r .0, w), follows-join (0 ∷ []) (rowNumbers (a .first)) ts mid (a .middle) f (r .1))
+kind-sound A n (suc k) b w ts mid rest s f h =
     let e : suc k ≡ 1 = omega arith in
     let a = then-out _ _ mid s rest h in
     let r = times-sound (row A) (RowOk A) rowNumbers (row-sound A) A mid (a .middle) (a .first) (a .before) in
-    pure-out (λ x us. SetOk A x × Follows (setNumbers x) ts us) _ s (a .middle) rest (a .after) (
-      (r .count, r .within),
+    pure-out (λ x us. SetIn A n x × Follows (setNumbers x) ts us) _ s (a .middle) rest (a .after) (
+      ((r .count, r .within), w),
       follows-join (1 ∷ []) (flatMap rowNumbers (a .first)) ts mid (a .middle)
           (subst (λ (n : ℕ). Follows (n ∷ []) ts mid) e f) (r .follows),
     )
 
-pub set-sound : (A : ℕ) → Sound (eventSet A) (SetOk A) setNumbers
-unfolding eventSet
-set-sound A ts rest s h =
+pub set-sound : (A n : ℕ) → Sound (eventSet A n) (SetIn A n) setNumbers
+unfolding eventSet kindFits
+set-sound A n ts rest s h =
     let a = then-out _ _ ts s rest h in
     let k = a .first in
     let one = number-out _ ts (a .middle) k (a .before) in
-    kind-sound A k (leb→le k 1 (one .0)) ts (a .middle) rest s (one .1) (a .after)
+    let ok = both (leb k 1) (rowsFit A (n + rowCount k A)) (one .0) in
+    kind-sound A n k (leb→le k 1 (ok .0)) (fits-out A (n + rowCount k A) (ok .1)) ts (a .middle) rest s (one .1)
+    (a .after)
 
-pub set-complete : (A : ℕ) → Complete (eventSet A) (SetOk A) setNumbers
-unfolding eventSet setOfKind setNumbers pure
-set-complete A ts rest (one r) h k =
+pub set-complete : (A n : ℕ) → Complete (eventSet A n) (SetIn A n) setNumbers
+unfolding eventSet kindFits setOfKind setNumbers rowCount rowsOf pure
+set-complete A n ts rest (one r) h k =
     let s = follows-split (0 ∷ []) (rowNumbers r) ts rest k in
-    then-in _ _ ts (s .middle) 0 _ (number-in _ ts (s .middle) 0 tt (s .front))
-    (then-in _ _ (s .middle) rest r _ (row-complete A (s .middle) rest r h (s .back)) refl)
-set-complete A ts rest (each rs) h k =
+    then-in _ _ ts (s .middle) 0 _ (number-in _ ts (s .middle) 0 (fits-in A (n + 1) (h .1)) (s .front))
+    (then-in _ _ (s .middle) rest r _ (row-complete A (s .middle) rest r (h .0) (s .back)) refl)
+set-complete A n ts rest (each rs) h k =
     let s = follows-split (1 ∷ []) (flatMap rowNumbers rs) ts rest k in
-    let rows = times-complete (row A) (RowOk A) rowNumbers (row-complete A) (s .middle) rest rs (h .1) (s .back) in
-    then-in _ _ ts (s .middle) 1 _ (number-in _ ts (s .middle) 1 tt (s .front))
-    (then-in _ _ (s .middle) rest rs _ (rw (h .0) at rows) refl)
+    let rows = times-complete (row A) (RowOk A) rowNumbers (row-complete A) (s .middle) rest rs (h .0 .1) (s .back) in
+    then-in _ _ ts (s .middle) 1 _ (number-in _ ts (s .middle) 1 (fits-in A (n + A) (h .1)) (s .front))
+    (then-in _ _ (s .middle) rest rs _ (rw (h .0 .0) at rows) refl)
+
+-- ---- so many sets
+
+pub record ReadSets (A c n : ℕ) (ss : List SetDef) (ts rest : Tokens) : Type 0 where
+  pub count : length ss ≡ c
+  pub within : All (SetOk A) ss
+  pub fit : RowsFit A n → RowsFit A (n + rowsIn A ss)
+  pub follows : Follows (flatMap setNumbers ss) ts rest
+
+pub sets-sound : (A c n : ℕ) (ts rest : Tokens) (ss : List SetDef) → eventSets A c n ts ≡ got ss rest
+    → ReadSets A c n ss ts rest
+unfolding eventSets flatMap rowsIn
+sets-sound A zero n ts rest ss h =
+    pure-out (λ x us. ReadSets A zero n x ts us) [] ss ts rest h (record {
+      count = refl;
+      within = tt;
+      fit = λ f. fit-less A (n + 0) n (omega arith) f;
+      follows = refl;
+    })
+sets-sound A (suc c) n ts rest ss h =
+    let a = then-out _ _ ts ss rest h in
+    let b = then-out _ _ (a .middle) ss rest (a .after) in
+    let s = a .first in
+    let one = set-sound A n ts (a .middle) s (a .before) in
+    let more = sets-sound A c (n + rowsOf A s) (a .middle) (b .middle) (b .first) (b .before) in
+    pure-out (λ x us. ReadSets A (suc c) n x ts us) (s ∷ b .first) ss (b .middle) rest (b .after)
+    (record {
+      count = ap suc (more .count);
+      within = (one .0 .0, more .within);
+      fit = λ f. fit-less A _ _ (omega arith) (more .fit (one .0 .1));
+      follows =
+          follows-join (setNumbers s) (flatMap setNumbers (b .first)) ts (a .middle) (b .middle) (one .1)
+          (more .follows);
+    })
+
+pub sets-complete : (A n : ℕ) (ts rest : Tokens) (ss : List SetDef) → All (SetOk A) ss → RowsFit A (n + rowsIn A ss)
+    → Follows (flatMap setNumbers ss) ts rest → eventSets A (length ss) n ts ≡ got ss rest
+unfolding eventSets flatMap rowsIn pure
+sets-complete A n ts rest [] w c f = rw f refl
+sets-complete A n ts rest (s ∷ ss) w c f =
+    let k = follows-split (setNumbers s) (flatMap setNumbers ss) ts rest f in
+    then-in _ _ ts (k .middle) s _
+    (set-complete A n ts (k .middle) s (w .0, fit-less A _ _ (omega arith) c) (k .front))
+    (then-in _ _ (k .middle) rest ss _
+    (sets-complete A (n + rowsOf A s) (k .middle) rest ss (w .1) (fit-less A _ _ (omega arith) c) (k .back)) refl)

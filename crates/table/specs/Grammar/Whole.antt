@@ -12,6 +12,8 @@ use lib.Dec.{T, leb, ltb, leb→le, le→leb, ltb→lt, lt→ltb}
 use Rattle.numbers.specs.Choice.{both, both-in}
 use Rattle.numbers.specs.Every.{All, all-imp, all-and}
 use Rattle.table.specs.Table.{Term, SetDef, one, each, Definition, Table, size, sizes, termCount}
+use Rattle.table.specs.Rows.{alphabetMost, rowsIn, RowsFit}
+use Rattle.table.specs.Rows.Laws.{fit-less}
 use Rattle.table.specs.Context.{Each}
 use Rattle.table.specs.Context.Laws.{each-imp, each-and}
 use Rattle.table.specs.Fields.{RefExists, ParamSmall, OfRef, depthOf, Ascending, EachRow, FamilyRows, Fields}
@@ -19,9 +21,8 @@ use Rattle.table.specs.Tokens.{Tokens}
 use Rattle.table.specs.Tokens.Laws.{Follows, Between, follows-split, follows-join}
 use Rattle.table.specs.Parser.{Result, got, refused, Parser, number, pure, andThen, times}
 use Rattle.table.specs.Parser.Laws.{pure-out, Split, then-out, then-in, number-out, number-in, Sound, Complete}
-use Rattle.table.specs.Parser.Laws.{Read, times-sound, times-complete}
-use Rattle.table.specs.Grammar.{eventSet, termWith, definition, definitionsOf, table}
-use Rattle.table.specs.Grammar.Sets.{Run, RowOk, SetOk, set-sound, set-complete}
+use Rattle.table.specs.Grammar.{eventSets, termWith, definition, definitionsOf, table}
+use Rattle.table.specs.Grammar.Sets.{SetOk, ReadSets, sets-sound, sets-complete}
 use Rattle.table.specs.Grammar.Terms.{RefOk, ReadTerm, term-sound, term-complete}
 use Rattle.table.specs.Writing.{setNumbers, termNumbers, definitionNumbers, numbersOf}
 
@@ -110,8 +111,9 @@ module _ (sets : List SetDef) where
 
 -- ---- the whole table, with its bounds as the parser has them
 pub record TableOk (t : Table) : Type 0 where
-  pub alphabet : (1 ≤ t .alphabet) × (t .alphabet ≤ 64)
+  pub alphabet : (1 ≤ t .alphabet) × (t .alphabet ≤ alphabetMost)
   pub sets-most : length (t .sets) ≤ 64
+  pub rows-most : RowsFit (t .alphabet) (rowsIn (t .alphabet) (t .sets))
   pub sets : All (SetOk (t .alphabet)) (t .sets)
   pub definitions : (1 ≤ length (t .definitions)) × (length (t .definitions) ≤ 32)
   pub bodies : All (DefinitionOk (t .sets)) (t .definitions)
@@ -139,16 +141,16 @@ table-ok-sound ts rest t h =
     let D = flatMap definitionNumbers ds in
     let na = number-out _ ts (a .middle) A (a .before) in
     let nb = number-out _ (a .middle) (b .middle) (b .first) (b .before) in
-    let rs =
-    times-sound (eventSet A) (SetOk A) setNumbers (set-sound A) (b .first) (b .middle) (s .middle) ss (s .before) in
+    let rs = sets-sound A (b .first) 0 (b .middle) (s .middle) ss (s .before) in
     let nc = number-out _ (s .middle) (c .middle) (c .first) (c .before) in
     let rd = definitions-sound ss (c .first) 0 (c .middle) (d .middle) ds (d .before) in
-    let oka = both (leb 1 A) (leb A 64) (na .0) in
+    let oka = both (leb 1 A) (leb A alphabetMost) (na .0) in
     let okc = both (leb 1 (c .first)) (leb (c .first) 32) (nc .0) in
     pure-out (λ x us. TableOk x × Follows (numbersOf x) ts us) (made A ss ds) t (d .middle) rest (d .after) (
       record {
-        alphabet = (leb→le 1 A (oka .0), leb→le A 64 (oka .1));
+        alphabet = (leb→le 1 A (oka .0), leb→le A alphabetMost (oka .1));
         sets-most = rw (rs .count) (leb→le (b .first) 64 (nb .0));
+        rows-most = fit-less A (rowsIn A ss) (0 + rowsIn A ss) (omega arith) (rs .fit (λ h. omega arith));
         sets = rs .within;
         definitions = (rw (rd .count) (leb→le 1 (c .first) (okc .0)), rw (rd .count) (leb→le (c .first) 32 (okc .1)));
         bodies = rd .ok;
@@ -174,12 +176,13 @@ table-ok-complete ts rest t w f =
     let A = t .alphabet in
     then-in _ _ ts (a .middle) A _
     (number-in _ ts (a .middle) A
-    (both-in (leb 1 A) (leb A 64) (le→leb 1 A (w .alphabet .0)) (le→leb A 64 (w .alphabet .1))) (a .front))
+    (both-in (leb 1 A) (leb A alphabetMost) (le→leb 1 A (w .alphabet .0)) (le→leb A alphabetMost (w .alphabet .1)))
+    (a .front))
     (then-in _ _ (a .middle) (b .middle) (length (t .sets)) _
     (number-in _ (a .middle) (b .middle) (length (t .sets)) (le→leb (length (t .sets)) 64 (w .sets-most)) (b .front))
     (then-in _ _ (b .middle) (s .middle) (t .sets) _
-    (times-complete (eventSet A) (SetOk A) setNumbers (set-complete A) (b .middle) (s .middle) (t .sets) (w .sets)
-    (s .front))
+    (sets-complete A 0 (b .middle) (s .middle) (t .sets) (w .sets)
+    (fit-less A (0 + rowsIn A (t .sets)) (rowsIn A (t .sets)) (omega arith) (w .rows-most)) (s .front))
     (then-in _ _ (s .middle) (c .middle) n _
     (number-in _ (s .middle) (c .middle) n
     (both-in (leb 1 n) (leb n 32) (le→leb 1 n (w .definitions .0)) (le→leb n 32 (w .definitions .1))) (c .front))

@@ -5,25 +5,25 @@
 use Prim.Native.Nat.{ℕ}
 use mathlib.Core.Path.{_≡_, refl, sym, _∙_, subst}
 use mathlib.Core.Bool.{Bool, _&&_}
-use mathlib.Core.List.{List, [], _∷_, _++_, flatMap}
+use mathlib.Core.List.{List, [], _∷_, _++_}
 use lib.ListN.{length}
 use lib.Dec.{leb}
 use Rattle.table.specs.Table.{SetDef, Definition, Table}
-use Rattle.table.specs.Fields.{FamilyRows}
+use Rattle.table.specs.Rows.{alphabetMost}
 use Rattle.table.specs.Parser.Mark.{Mark, mark}
 use Rattle.table.specs.Parser.Sees.{Sees, sees-iff, NumberR, PureR, sees-pure}
 use Rattle.table.specs.Parser.SeesThen.{ThenR, sees-then}
-use Rattle.table.specs.Grammar.{eventSet, table}
-use Rattle.table.specs.Marks.{setMarks, definitionsMarks, tableMarks, Shape}
-use Rattle.table.specs.Marks.Sequence.{join, last, Any, any-number, then-pure, SeqR, sees-times}
-use Rattle.table.specs.Marks.Sets.{sees-set}
+use Rattle.table.specs.Grammar.{table}
+use Rattle.table.specs.Marks.{setsMarks, definitionsMarks, tableMarks, Shape}
+use Rattle.table.specs.Marks.Sequence.{join, last, Any, any-number, then-pure}
+use Rattle.table.specs.Marks.Sets.{SetsR, sees-sets}
 use Rattle.table.specs.Marks.Definitions.{DefinitionsR, sees-definitions}
 
 abbrev pub TableR : Table → List Mark → Type 0
 TableR t M = Shape t × (M ≡ tableMarks t)
 
 abbrev alphabetOk : ℕ → Bool
-alphabetOk a = leb 1 a && leb a 64
+alphabetOk a = leb 1 a && leb a alphabetMost
 
 abbrev setsOk : ℕ → Bool
 setsOk c = leb c 64
@@ -41,7 +41,7 @@ abbrev T4 : ℕ → List SetDef → Table → List Mark → Type 0
 T4 a ss = ThenR (NumberR definitionsOk Any) (λ c. T5 a ss c)
 
 abbrev T3 : ℕ → ℕ → Table → List Mark → Type 0
-T3 a c = ThenR (SeqR (FamilyRows a) (setMarks a) c) (λ ss. T4 a ss)
+T3 a c = ThenR (SetsR a c 0) (λ ss. T4 a ss)
 
 abbrev T2 : ℕ → Table → List Mark → Type 0
 T2 a = ThenR (NumberR setsOk Any) (λ c. T3 a c)
@@ -53,7 +53,7 @@ TableT = ThenR (NumberR alphabetOk Any) (λ a. T2 a)
 abbrev laid : ℕ → List SetDef → List Definition → ℕ → ℕ → List Mark
 laid a ss ds c n =
     mark a (alphabetOk a) ∷ mark c (setsOk c)
-    ∷ (flatMap (setMarks a) ss ++ (mark n (definitionsOk n) ∷ definitionsMarks ss 0 ds))
+    ∷ (setsMarks a 0 ss ++ (mark n (definitionsOk n) ∷ definitionsMarks ss 0 ds))
 
 table-to : (t : Table) (M : List Mark) → TableT t M → TableR t M
 unfolding tableMarks
@@ -74,7 +74,7 @@ table-to t M x =
           (subst (λ (k : ℕ). M ≡ laid a ss ds (y .first) k) (sym (dv .0))
           (join M (x .one) (x .two) (mark a (alphabetOk a) ∷ []) _ (x .whole) (x .writes-one .1)
           (join (x .two) (y .one) (y .two) (mark (y .first) (setsOk (y .first)) ∷ []) _ (y .whole) (y .writes-one .1)
-          (join (y .two) (s .one) (s .two) (flatMap (setMarks a) ss) _ (s .whole) (sv .2)
+          (join (y .two) (s .one) (s .two) (setsMarks a 0 ss) _ (s .whole) (sv .2)
           (join (s .two) (c .one) (c .two) (mark (c .first) (definitionsOk (c .first)) ∷ []) _ (c .whole)
           (c .writes-one .1)
           (last (c .two) (d .one) (d .two) (d .whole) (z .1) ∙ dv .2)))))),
@@ -86,7 +86,7 @@ table-from t M x =
     let a = t .alphabet in
     let k = length (t .sets) in
     let n = length (t .definitions) in
-    let S = flatMap (setMarks a) (t .sets) in
+    let S = setsMarks a 0 (t .sets) in
     let D = definitionsMarks (t .sets) 0 (t .definitions) in
     record {
       first = a;
@@ -126,8 +126,8 @@ sees-table =
     sees-iff TableT TableR _ table-to table-from
     (sees-then (NumberR alphabetOk Any) (λ a. T2 a) _ _ (any-number alphabetOk) (λ a M r.
     sees-then (NumberR setsOk Any) (λ c. T3 a c) _ _ (any-number setsOk) (λ c M r.
-    sees-then (SeqR (FamilyRows a) (setMarks a) c) (λ ss. T4 a ss) _ _
-    (sees-times (FamilyRows a) (setMarks a) (eventSet a) (sees-set a) c) (λ ss M r.
+    sees-then (SetsR a c 0) (λ ss. T4 a ss) _ _
+    (sees-sets a c 0) (λ ss M r.
     sees-then (NumberR definitionsOk Any) (λ c. T5 a ss c) _ _ (any-number definitionsOk) (λ c M r.
     sees-then (DefinitionsR ss c 0) (λ ds. PureR (made a ss ds)) _ _ (sees-definitions ss c 0) (λ ds M r.
     sees-pure (made a ss ds)))))))

@@ -12,8 +12,9 @@ use Rattle.table.specs.Table.{each}
 use Rattle.table.specs.Table.{Definition, Table, size}
 use Rattle.table.specs.Writing.{rowNumbers, setNumbers, refNumbers, termNumbers, definitionNumbers, numbersOf}
 use Rattle.table.specs.Parser.Mark.{Mark, mark, numbers, numbers-append}
-use Rattle.table.specs.Marks.{eventMarks, rowMarks, setMarks, refMarks, oneLess, termMarks, definitionMarks}
-use Rattle.table.specs.Marks.{definitionsMarks, tableMarks}
+use Rattle.table.specs.Rows.{alphabetMost, rowsOf}
+use Rattle.table.specs.Marks.{eventMarks, rowMarks, setMarks, setsMarks, refMarks, oneLess, termMarks}
+use Rattle.table.specs.Marks.{definitionMarks, definitionsMarks, tableMarks}
 
 both : (a b : List Mark) (x y : List ℕ) → numbers a ≡ x → numbers b ≡ y → numbers (a ++ b) ≡ x ++ y
 both a b x y p q = numbers-append a b ∙ ap₂ _++_ p q
@@ -33,10 +34,17 @@ row-numbers : (A : ℕ) (r : List ℕ) → numbers (rowMarks A r) ≡ rowNumbers
 unfolding rowMarks rowNumbers
 row-numbers A r = ap (λ (l : List ℕ). length r ∷ l) (events-numbers A 0 r)
 
-set-numbers : (A : ℕ) (s : SetDef) → numbers (setMarks A s) ≡ setNumbers s
+set-numbers : (A n : ℕ) (s : SetDef) → numbers (setMarks A n s) ≡ setNumbers s
 unfolding setMarks setNumbers
-set-numbers A (one r) = ap (λ (l : List ℕ). 0 ∷ l) (row-numbers A r)
-set-numbers A (each rs) = ap (λ (l : List ℕ). 1 ∷ l) (flat-numbers (rowMarks A) rowNumbers (row-numbers A) rs)
+set-numbers A n (one r) = ap (λ (l : List ℕ). 0 ∷ l) (row-numbers A r)
+set-numbers A n (each rs) = ap (λ (l : List ℕ). 1 ∷ l) (flat-numbers (rowMarks A) rowNumbers (row-numbers A) rs)
+
+sets-numbers : (A n : ℕ) (ss : List SetDef) → numbers (setsMarks A n ss) ≡ flatMap setNumbers ss
+unfolding setsMarks flatMap
+sets-numbers A n [] = refl
+sets-numbers A n (s ∷ ss) =
+    both (setMarks A n s) (setsMarks A (n + rowsOf A s) ss) (setNumbers s) (flatMap setNumbers ss) (set-numbers A n s)
+    (sets-numbers A (n + rowsOf A s) ss)
 
 ref-numbers : (sets : List SetDef) (r : SetRef) → numbers (refMarks sets r) ≡ refNumbers r
 unfolding refMarks refNumbers
@@ -80,8 +88,8 @@ unfolding tableMarks numbersOf
 table-numbers t =
     let n = length (t .definitions) in
     ap (λ (l : List ℕ). t .alphabet ∷ length (t .sets) ∷ l)
-    (both (flatMap (setMarks (t .alphabet)) (t .sets))
+    (both (setsMarks (t .alphabet) 0 (t .sets))
     (mark n (leb 1 n && leb n 32) ∷ definitionsMarks (t .sets) 0 (t .definitions))
     (flatMap setNumbers (t .sets)) (n ∷ flatMap definitionNumbers (t .definitions))
-    (flat-numbers (setMarks (t .alphabet)) setNumbers (set-numbers (t .alphabet)) (t .sets))
+    (sets-numbers (t .alphabet) 0 (t .sets))
     (ap (λ (l : List ℕ). n ∷ l) (definitions-numbers (t .sets) 0 (t .definitions))))

@@ -10,6 +10,7 @@ use lib.ListN.{length}
 use Rattle.numbers.specs.Every.{All, AllFrom, all-imp, all-append}
 use Rattle.table.specs.Table.{SetRef, fixed, family, Term, stop, fail, prefix, choice, par, call, SetDef, one}
 use Rattle.table.specs.Table.{each, Definition, Table}
+use Rattle.table.specs.Rows.{alphabetMost}
 use Rattle.table.specs.Context.{Context, outermost, underPrefix, underParallel, Each, Throughout}
 use Rattle.table.specs.Fields.{OfRef, OfCall, Fields}
 use Rattle.table.specs.Fields.Laws.{fields-in, RunIs, run-out}
@@ -28,12 +29,12 @@ unfolding flatMap
 all-flat X w f [] h = tt
 all-flat X w f (a ∷ l) h = all-append Small (w a) (flatMap w l) (f a (h .0)) (all-flat X w f l (h .1))
 
-row-small : (A : ℕ) → A ≤ 64 → (r : List ℕ) → RowOk A r → All Small (rowNumbers r)
+row-small : (A : ℕ) → A ≤ alphabetMost → (r : List ℕ) → RowOk A r → All Small (rowNumbers r)
 unfolding rowNumbers
 row-small A b r h =
     let c = h .0 in (omega arith, all-imp (λ (e : ℕ). e < A) Small (λ e k. omega arith) r (run-out A 0 r (h .1) .below))
 
-set-small : (A : ℕ) → A ≤ 64 → (s : SetDef) → SetOk A s → All Small (setNumbers s)
+set-small : (A : ℕ) → A ≤ alphabetMost → (s : SetDef) → SetOk A s → All Small (setNumbers s)
 unfolding setNumbers
 set-small A b (one r) h = (omega arith, row-small A b r h)
 set-small A b (each rs) h = (omega arith, all-flat (RowOk A) rowNumbers (row-small A b) rs (h .1))

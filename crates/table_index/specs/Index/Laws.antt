@@ -18,6 +18,7 @@ use Rattle.table_index.specs.Layout.{termCountAt, startAt, parameterUnit
 use Rattle.table_index.specs.Layout.{ownUnit, rightUnit, targetUnit, kindDigit, parameterDigit, parallelDigit}
 use Rattle.table_index.specs.Layout.{entryDigit, prefixesDigit, ownDigit, rightDigit, targetDigit, structureOf}
 use Rattle.table_index.specs.Index.{targetOf, packed, wordOf, Structured}
+use Rattle.table_index.specs.Index.Sets.{indexed-kept}
 
 pub record Digits (t : Table) (n x : ℕ) : Type 0 where
   pub kind : kindDigit x ≡ kindOf (termOf t n)
@@ -102,19 +103,13 @@ pub structured-kept : (t : Table) (w w' : List ℕ) → Fields t → length w' �
     → ((n : ℕ) → n < 1024 → structureOf (getD w' (termsAt + n) 0) ≡ structureOf (getD w (termsAt + n) 0))
     → Structured t w → Structured t w'
 structured-kept t w w' f e k g s =
-    let few = s .sets .few in
-    let rows-few = s .sets .rows-few in
     let terms-most = f .terms-most in
     let most = f .definitions-most in
     record {
       whole = e ∙ s .whole;
       sets =
-          record {
-            few = few;
-            rows-few = rows-few;
-            rows = λ i h. k i (λ o. omega arith) (λ o. omega arith) ∙ s .sets .rows i h;
-            words = λ i h. k (setsAt + i) (λ o. omega arith) (λ o. omega arith) ∙ s .sets .words i h;
-          };
+          indexed-kept (t .alphabet) (t .sets) w w' (λ i h. k i (λ o. omega arith) (λ o. omega arith))
+          (λ i h. k (setsAt + i) (λ o. omega arith) (λ o. omega arith)) (s .sets);
       words = λ n h. g n (omega arith) ∙ s .words n h;
       roots = λ d h. k (bodiesAt + d) (λ o. omega arith) (λ o. omega arith) ∙ s .roots d h;
       levels = λ d h. k (levelsAt + d) (λ o. omega arith) (λ o. omega arith) ∙ s .levels d h;

@@ -16,17 +16,18 @@ use lib.Seq.{drop-length}
 use lib.Dec.{leb}
 use Rattle.table.specs.Table.{SetDef, Definition, Table}
 use Rattle.table.specs.Tokens.{Tokens, token, listTokens, tokensAt, trailing}
-use Rattle.table.specs.Parser.{Result, got, refused, number, pure, andThen, times}
+use Rattle.table.specs.Rows.{alphabetMost}
+use Rattle.table.specs.Parser.{Result, got, refused, number, pure, andThen}
 use borrow.Author.Tests.{le-leb, lt-leb}
 use Rattle.table.specs.Parser.Steps.{tokens-in, number-got, number-off, number-short, then-got, then-stop}
-use Rattle.table.specs.Grammar.{eventSet, definitionsOf, table}
+use Rattle.table.specs.Grammar.{eventSets, definitionsOf, table}
 use Rattle.table.specs.Judge.{declined, unlessMet, judgeRead, judge}
 use Rattle.table_index.specs.Index.{setsIn, setsGot, tableIn, tableGot}
 use Rattle.table_index.specs.Parse.{SetsReady, SetsFound}
 
--- "alphabet size A, 1 to 64", "number of sets, 0 to 64", "number of definitions, 1 to 32"
+-- 02, W6: "A may be 1 to 128"; "number of sets, 0 to 64", "number of definitions, 1 to 32"
 abbrev pub alphabetOk : ℕ → Bool
-alphabetOk a = leb 1 a && leb a 64
+alphabetOk a = leb 1 a && leb a alphabetMost
 
 abbrev pub setCountOk : ℕ → Bool
 setCountOk c = leb c 64
@@ -57,17 +58,17 @@ module _ (l : List ℕ) where
     stop-2 n at e = stopped l n at (then-got _ _ _ first (then-stop _ _ _ e))
 
     module _ (c : ℕ) (e₂ : number setCountOk (tokensAt l 1) ≡ got c (tokensAt l 2)) where
-      pub stop-3 : (n at : ℕ) → times c (eventSet a) (tokensAt l 2) ≡ refused n at
+      pub stop-3 : (n at : ℕ) → eventSets a c 0 (tokensAt l 2) ≡ refused n at
           → judge (listTokens 0 l) ≡ declined n at
       unfolding table
       stop-3 n at e = stopped l n at (then-got _ _ _ first (then-got _ _ _ e₂ (then-stop _ _ _ e)))
 
       -- the sets that were read are those of the list
-      pub sets-in : (ss : List SetDef) (ts : Tokens) → times c (eventSet a) (tokensAt l 2) ≡ got ss ts → setsIn l ≡ ss
+      pub sets-in : (ss : List SetDef) (ts : Tokens) → eventSets a c 0 (tokensAt l 2) ≡ got ss ts → setsIn l ≡ ss
       unfolding setsIn
       sets-in ss ts e = ap setsGot (then-got _ _ _ first (then-got _ _ _ e₂ e))
 
-      module _ (ss : List SetDef) (j : ℕ) (e₃ : times c (eventSet a) (tokensAt l 2) ≡ got ss (tokensAt l j)) where
+      module _ (ss : List SetDef) (j : ℕ) (e₃ : eventSets a c 0 (tokensAt l 2) ≡ got ss (tokensAt l j)) where
         pub stop-4 : (n at : ℕ) → number bodyCountOk (tokensAt l j) ≡ refused n at
             → judge (listTokens 0 l) ≡ declined n at
         unfolding table
@@ -110,7 +111,7 @@ pub record Header (l w : List ℕ) (count at : ℕ) : Type 0 where
   pub some : 1 ≤ length l
   pub alphabet : number alphabetOk (tokensAt l 0) ≡ got (getD l 0 0) (tokensAt l 1)
   pub counts : number setCountOk (tokensAt l 1) ≡ got (getD l 1 0) (tokensAt l 2)
-  pub parsed : times (getD l 1 0) (eventSet (getD l 0 0)) (tokensAt l 2) ≡ got (setsIn l) (tokensAt l at)
+  pub parsed : eventSets (getD l 0 0) (getD l 1 0) 0 (tokensAt l 2) ≡ got (setsIn l) (tokensAt l at)
   pub ready : SetsReady l w count
   pub within : at ≤ length l
 
@@ -156,10 +157,10 @@ module _ (l : List ℕ) where
 
 -- ---- the alphabet and the sets
 
-pub header-read : (l w w' : List ℕ) (at : ℕ) → 1 < length l → 1 ≤ getD l 0 0 → getD l 0 0 ≤ 64 → getD l 1 0 ≤ 64
-    → length w ≡ 8192 → SetsFound l (getD l 0 0) (getD l 1 0) 2 w w' at → Header l w' (getD l 1 0) at
+pub header-read : (l w w' : List ℕ) (at : ℕ) → 1 < length l → 1 ≤ getD l 0 0 → getD l 0 0 ≤ alphabetMost
+    → getD l 1 0 ≤ 64 → length w ≡ 8192 → SetsFound l (getD l 0 0) (getD l 1 0) 2 w w' at → Header l w' (getD l 1 0) at
 header-read l w w' at h a b c z f =
-    let e₁ = count-got 1 64 l 0 (omega arith) a b in
+    let e₁ = count-got 1 alphabetMost l 0 (omega arith) a b in
     let e₂ = sets-got l h c in
     let e = sets-in l (getD l 0 0) e₁ (getD l 1 0) e₂ (f .sets) (tokensAt l at) (f .parsed) in
     record {

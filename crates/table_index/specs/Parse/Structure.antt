@@ -12,16 +12,15 @@ use lib.Seq.{getD-set-same, getD-set-other, take-all}
 use Rattle.table.specs.Table.{SetDef, Definition, Table, sizes, termCount, bodyNumber}
 use Rattle.table.specs.Tokens.{Tokens, token, ended, listTokens, tokensAt}
 use Rattle.table.specs.Tokens.Laws.{Cut, follows-list}
-use Rattle.table.specs.Parser.{got, number, times}
-use Rattle.table.specs.Parser.Laws.{Read, times-sound}
-use Rattle.table.specs.Grammar.{table}
-use Rattle.table.specs.Grammar as grammar
-use Rattle.table.specs.Grammar.Sets.{SetOk, set-sound}
+use Rattle.table.specs.Parser.{got, number}
+use Rattle.table.specs.Grammar.{eventSets, table}
+use Rattle.table.specs.Grammar.Sets.{sets-sound}
 use Rattle.table.specs.Writing.{setNumbers}
 use Rattle.table.specs.Node.{nodesFrom, definitionsAt, nodesOf, nodeAt, noNode}
 use Rattle.table_index.specs.Layout.{termsAt, setsAt, bodiesAt, levelsAt, alphabetAt, definitionCountAt, termCountAt}
 use Rattle.table_index.specs.Layout.{startAt, structureOf}
 use Rattle.table_index.specs.Index.{SetsIndexed, Structured, setsIn, tableIn}
+use Rattle.table_index.specs.Index.Sets.{indexed-kept}
 use Rattle.table_index.specs.Parse.{SetsReady, DefinitionsFound, Whole}
 use Rattle.table_index.specs.Parse.Header.{Header, bodyCountOk, whole, table-in, ended-tokens}
 
@@ -104,11 +103,11 @@ place-of i j (x ∷ l) (y ∷ m) e = cc
 
 -- the sets end where their numbers do
 sets-end : (l : List ℕ) (A c at : ℕ) (ss : List SetDef)
-    → times c (grammar.eventSet A) (tokensAt l 2) ≡ got ss (tokensAt l at)
+    → eventSets A c 0 (tokensAt l 2) ≡ got ss (tokensAt l at)
     → at ≡ 2 + length (flatMap setNumbers ss)
 unfolding tokensAt
 sets-end l A c at ss e =
-    let r = times-sound (grammar.eventSet A) (SetOk A) setNumbers (set-sound A) c (tokensAt l 2) (tokensAt l at) ss e in
+    let r = sets-sound A c 0 (tokensAt l 2) (tokensAt l at) ss e in
     let k = follows-list (flatMap setNumbers ss) 2 (drop 2 l) (tokensAt l at) (r .follows) in
     place-of at (2 + length (flatMap setNumbers ss)) (drop at l) (k .more) (k .stream)
 
@@ -135,19 +134,13 @@ module _ (l w w' : List ℕ) (sets at count m end : ℕ) (h : Header l w sets at
   kept : (x : ℕ) → (x ≡ bodiesAt + count → ⊥) → ((alphabetAt ≤ x) × (x ≤ startAt) → ⊥) → getD done x 0 ≡ getD w' x 0
   kept = counted-other w' (getD l 0 0) count m (at + 1) sized b
 
-  sets-stay : SetsIndexed (setsIn l) done
+  sets-stay : SetsIndexed (getD l 0 0) (setsIn l) done
   sets-stay =
-      let s = h .ready .indexed in
-      let s-few = s .few in
-      let s-rows = s .rows-few in
-      record {
-        few = s .few;
-        rows-few = s .rows-few;
-        rows = λ i k. kept i (λ q. omega arith) (λ q. omega arith)
-            ∙ f .kept i (λ q. omega arith) (λ q. omega arith) ∙ s .rows i k;
-        words = λ i k. kept (setsAt + i) (λ q. omega arith) (λ q. omega arith)
-            ∙ f .kept (setsAt + i) (λ q. omega arith) (λ q. omega arith) ∙ s .words i k;
-      }
+      indexed-kept (getD l 0 0) (setsIn l) w done
+      (λ i k. kept i (λ q. omega arith) (λ q. omega arith) ∙ f .kept i (λ q. omega arith) (λ q. omega arith))
+      (λ i k. kept (setsAt + i) (λ q. omega arith) (λ q. omega arith)
+      ∙ f .kept (setsAt + i) (λ q. omega arith) (λ q. omega arith))
+      (h .ready .indexed)
 
   starts : at + 1 ≡ definitionsAt read
   unfolding definitionsAt

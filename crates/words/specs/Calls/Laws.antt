@@ -8,6 +8,7 @@ use Rattle.state.specs.declared.record.State.{State as StateCode}
 use Rattle.table.specs.declared.answer.Refusal.{Refusal}
 use Rattle.state.specs.declared.answer.Answer as code
 use Rattle.state.specs.declared.answer.Answer.the-variants.{Given, Refused, Stopped}
+use Rattle.state.specs.declared.answer.EventBits.{EventBits}
 use Rattle.state.specs.declared.answer.Offered as offer
 use Rattle.state.specs.declared.answer.Offered.the-variants as variant
 use Rattle.monitor_spec.specs.State.{State, Outcome}
@@ -22,7 +23,7 @@ use Rattle.state.specs.Answers.{answerOf, outcome, offeredOf, offerOutcome}
 use Rattle.words.specs.Words.{recordMeasured, stateIn, wordsOf}
 use Rattle.words.specs.Calls.{numberOf, placeOf, recordAfter, Told, said, monitorCall, monitorIn, unmeasured}
 use Rattle.words.specs.Calls.{startCall, feedCall, tryCall}
-use Rattle.words.specs.Calls.{offerNumber, offerValue, OfferTold, offerSaid, offering, offerCall}
+use Rattle.words.specs.Calls.{offerNumber, offerValue, offerSecond, OfferTold, offerSaid, offering, offerCall}
 use Rattle.words.specs.Calls.{viewSaid, viewing, viewCall}
 
 -- ---- a record that is not of five words
@@ -45,7 +46,7 @@ pub try-unmeasured : (l r a b r′ c d es w : List ℕ) → length r ≡ 5 → (
 unfolding tryCall recordMeasured unmeasured
 try-unmeasured l r a b r′ c d es w e h = rw (eq-eqb (length r) 5 e, ne-eqb (length r′) 5 h, tryCall) refl
 
-pub offer-unmeasured : (l r a b w : List ℕ) → (length r ≡ 5 → ⊥) → offerSaid 1 0 a b w ≡ offerCall l r a b w
+pub offer-unmeasured : (l r a b w : List ℕ) → (length r ≡ 5 → ⊥) → offerSaid 1 0 0 a b w ≡ offerCall l r a b w
 unfolding offerCall recordMeasured
 offer-unmeasured l r a b w h = rw (ne-eqb (length r) 5 h, offerCall) refl
 
@@ -101,22 +102,30 @@ module _ (x : code.Answer) (n p : ℕ) (r r' a b w : List ℕ) (t : Told (answer
 -- ---- Offer
 
 -- what `tell_offer` promises of each answer
-pub tell-offers : (x : offer.Offered) (n : ℕ) → x ≡ variant.Offers n → OfferTold (offeredOf x) 0 n
-unfolding offerNumber offerValue
-tell-offers x n e = rw e (record { number = refl; value = refl })
+pub tell-offers : (x : offer.Offered) (bits : EventBits) → x ≡ variant.Offers bits
+    → OfferTold (offeredOf x) 0 (bits .first) (bits .second)
+unfolding offerNumber offerValue offerSecond
+tell-offers x bits e = rw e (record { number = refl; value = refl; second = refl })
 
 pub tell-declined : (x : offer.Offered) (q : Refusal) → x ≡ variant.Refused q
-    → OfferTold (offeredOf x) (q .number) (q .place)
-unfolding offerNumber offerValue
-tell-declined x q e = rw e (record { number = refl; value = refl })
+    → OfferTold (offeredOf x) (q .number) (q .place) 0
+unfolding offerNumber offerValue offerSecond
+tell-declined x q e = rw e (record { number = refl; value = refl; second = refl })
 
-pub offer-told : (x : offer.Offered) (n v : ℕ) (l r a b w w₀ : List ℕ) (s : StateCode)
-    → OfferTold (offeredOf x) n v → length r ≡ 5 → stateOf s ≡ stateIn r
-    → offerOutcome x a b w ≡ offerOf l (monitorOf s a b) w₀ → offerSaid n v a b w ≡ offerCall l r a b w₀
+pub offer-told : (x : offer.Offered) (n v u : ℕ) (l r a b w w₀ : List ℕ) (s : StateCode)
+    → OfferTold (offeredOf x) n v u → length r ≡ 5 → stateOf s ≡ stateIn r
+    → offerOutcome x a b w ≡ offerOf l (monitorOf s a b) w₀ → offerSaid n v u a b w ≡ offerCall l r a b w₀
 unfolding offerCall offering recordMeasured monitorIn
-offer-told x n v l r a b w w₀ s t h k e =
+offer-told x n v u l r a b w w₀ s t h k e =
     rw (eq-eqb (length r) 5 h, offerCall)
-    ((λ i. record { number = t .number i; value = t .value i; area0 = a; area1 = b; work = w })
+    ((λ i. record {
+      number = t .number i;
+      value = t .value i;
+      second = t .second i;
+      area0 = a;
+      area1 = b;
+      work = w;
+    })
     ∙ ap offering (e ∙ ap (λ (y : State). offerOf l (record { state = y; area0 = a; area1 = b }) w₀) k))
 
 -- ---- View

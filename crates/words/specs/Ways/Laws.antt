@@ -22,7 +22,7 @@ use Rattle.words.specs.Tables.{TableCall, tableCall, readCall, writeCall
 use Rattle.words.specs.Tables as tables
 use Rattle.words.specs.Calls.{MonitorCall, numberOf, placeOf, recordAfter, monitorCall, unmeasured, monitorIn}
 use Rattle.words.specs.Calls.{startCall, feedCall, tryCall, OfferCall, offerNumber, offerValue, offering}
-use Rattle.words.specs.Calls.{offerCall}
+use Rattle.words.specs.Calls.{offerSecond, offerCall}
 use Rattle.words.specs.Calls.{ViewCall, viewing, viewCall}
 use Rattle.words.specs.Calls.Laws.{view-empty, view-words}
 use Rattle.words.specs.Ways.{CallWay, recordUnfit, callGiven, callRefused, callStopped, OfferWay, offerUnfit}
@@ -100,11 +100,12 @@ try-way l r a b r′ c d es w = by (eqb (length r) 5) refl
 
 module _ (r a b w : List ℕ) (o : OfferOutcome) where
   offered : (x : Offered) → o .answer ≡ x → length r ≡ 5 → OfferWay r a b w o (offering o)
-  unfolding offering offerNumber offerValue
+  unfolding offering offerNumber offerValue offerSecond
   offered (offers bits) e h =
       subst (OfferWay r a b w o) (sym (ap (λ (x : Offered). record {
         number = offerNumber x;
         value = offerValue x;
+        second = offerSecond x;
         area0 = o .area0;
         area1 = o .area1;
         work = o .work;
@@ -113,6 +114,7 @@ module _ (r a b w : List ℕ) (o : OfferOutcome) where
       subst (OfferWay r a b w o) (sym (ap (λ (x : Offered). record {
         number = offerNumber x;
         value = offerValue x;
+        second = offerSecond x;
         area0 = o .area0;
         area1 = o .area1;
         work = o .work;
@@ -121,7 +123,7 @@ module _ (r a b w : List ℕ) (o : OfferOutcome) where
   offer-measured : (c : OfferCall) → (x : Bool) → eqb (length r) 5 ≡ x
       → c ≡ elim x as (λ y. OfferCall) [
         | true ↦ offering o
-        | false ↦ record { number = 1; value = 0; area0 = a; area1 = b; work = w }
+        | false ↦ record { number = 1; value = 0; second = 0; area0 = a; area1 = b; work = w }
       ]
       → OfferWay r a b w o c
   offer-measured c true e k = subst (OfferWay r a b w o) (sym k) (offered (o .answer) refl (eqb-true _ _ e))

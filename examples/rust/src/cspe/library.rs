@@ -80,6 +80,7 @@ extern "C" {
         work: *mut u64,
         work_length: usize,
         value: *mut u64,
+        second: *mut u64,
     ) -> u32;
     pub fn cspe_view(
         record: *const u64,

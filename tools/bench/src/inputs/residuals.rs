@@ -22,9 +22,16 @@ pub fn inputs() -> Vec<Input> {
         cycle(
             "remembered",
             "A = 64; each event one of a row by an event up to four back; one residual, one leaf",
-            remembered(),
+            remembered(MARKS),
             vec![],
-            recalled(),
+            recalled(MARKS.into()),
+        ),
+        cycle(
+            "remembered, 128 events",
+            "A = 128; the same with twice the events; one residual, one leaf",
+            remembered(128),
+            vec![],
+            recalled(128),
         ),
         cycle(
             "remembered by two",
@@ -79,16 +86,16 @@ fn by(of: u16, k: u16) -> SetReference {
 const MARKS: u16 = 64;
 
 // All; row v is v alone; row v is the four events after v.
-fn mark_sets() -> Vec<Set> {
+fn mark_sets(marks: u16) -> Vec<Set> {
     let after = |v: u16| {
-        let mut row: Row = (1..5).map(|i| (v + i) % MARKS).collect();
+        let mut row: Row = (1..5).map(|i| (v + i) % marks).collect();
         row.sort();
         row
     };
     vec![
-        Set::Plain((0..MARKS).collect()),
-        Set::Rows((0..MARKS).map(|v| vec![v]).collect()),
-        Set::Rows((0..MARKS).map(after).collect()),
+        Set::Plain((0..marks).collect()),
+        Set::Rows((0..marks).map(|v| vec![v]).collect()),
+        Set::Rows((0..marks).map(after).collect()),
     ]
 }
 
@@ -98,18 +105,17 @@ fn recalling(call: u16) -> Term {
     prefix(plain(0), prefix(by(2, 0), prefix(by(1, 1), prefix(by(1, 1), last))))
 }
 
-fn remembered() -> Vec<u16> {
+fn remembered(marks: u16) -> Vec<u16> {
     let definitions = vec![definition(0, recalling(0))];
-    Table { alphabet: MARKS, sets: mark_sets(), definitions }.list()
+    Table { alphabet: marks, sets: mark_sets(marks), definitions }.list()
 }
 
-fn recalled() -> Vec<u8> {
+fn recalled(marks: usize) -> Vec<u8> {
     let mut random = Random::new(3);
-    (0..1_000).flat_map(|_| round(&mut random)).collect()
+    (0..1_000).flat_map(|_| round(&mut random, marks)).collect()
 }
 
-fn round(random: &mut Random) -> [u8; 5] {
-    let marks = MARKS as usize;
+fn round(random: &mut Random, marks: usize) -> [u8; 5] {
     let x = random.below(marks);
     let mut after = || (x + random.between(1, 4)) % marks;
     let (y, last) = (after(), after());
@@ -118,7 +124,7 @@ fn round(random: &mut Random) -> [u8; 5] {
 
 // All events of one lane are below 32, those of the other are not.
 fn remembered_by_two() -> Vec<u16> {
-    let mut sets = mark_sets();
+    let mut sets = mark_sets(MARKS);
     sets.push(Set::Plain(vec![]));
     let half = |low: u16| {
         let row = |v: u16| -> Row { (low..low + 32).filter(|e| (e + v) % 8 < 2).collect() };

@@ -27,7 +27,7 @@ fn references(work: &[u64; WORK]) -> Result<(), Refusal> {
     let definitions = work[DEFINITIONS] as usize;
     for n in 0..work[COUNT] as usize {
         let term = Term(work[TERMS + n]);
-        let place = work[REACH + n] as usize;
+        let place = reach(work, n) as usize;
         if term.kind() == CALL {
             if !call_fits(work, term, definitions) {
                 return Err(refusal(7, place + 1));
@@ -60,9 +60,9 @@ fn widths(work: &mut [u64; WORK]) -> Result<(), Refusal> {
                 let mut calls = of_level;
                 calls[level] = 1;
                 for n in (body..end).rev() {
-                    work[REACH + n] = width(work, n, &calls);
+                    set_reach(work, n, width(work, n, &calls));
                 }
-                of_level[level] = of_level[level].max(work[REACH + body]);
+                of_level[level] = of_level[level].max(reach(work, body));
             }
         }
         if of_level[level] > 8 {
@@ -70,7 +70,7 @@ fn widths(work: &mut [u64; WORK]) -> Result<(), Refusal> {
         }
     }
     for n in (0..work[COUNT] as usize).rev() {
-        work[REACH + n] = width(work, n, &of_level);
+        set_reach(work, n, width(work, n, &of_level));
     }
     Ok(())
 }
@@ -78,9 +78,9 @@ fn widths(work: &mut [u64; WORK]) -> Result<(), Refusal> {
 fn width(work: &[u64; WORK], n: usize, calls: &[u64; 8]) -> u64 {
     let term = Term(work[TERMS + n]);
     match term.kind() {
-        PREFIX => work[REACH + n + 1],
-        CHOICE => work[REACH + n + 1].max(work[REACH + term.right()]),
-        PARALLEL => work[REACH + n + 1] + work[REACH + term.right()],
+        PREFIX => reach(work, n + 1),
+        CHOICE => reach(work, n + 1).max(reach(work, term.right())),
+        PARALLEL => reach(work, n + 1) + reach(work, term.right()),
         CALL => calls[work[LEVELS + term.target()] as usize],
         _ => 1,
     }
@@ -92,27 +92,44 @@ fn branches(work: &mut [u64; WORK]) -> Result<(), Refusal> {
     let terms = work[COUNT] as usize;
     for d in 0..work[DEFINITIONS] as usize {
         for n in (work[BODIES + d] as usize..work[BODIES + d + 1] as usize).rev() {
-            work[BRANCHES + n] = branches_of(work, n);
+            set_branches(work, n);
         }
     }
     for n in (0..terms).rev() {
-        work[BRANCHES + n] = branches_of(work, n);
+        set_branches(work, n);
     }
     for n in 0..terms {
-        if Term(work[TERMS + n]).entry() && work[BRANCHES + n] > 256 {
+        let term = Term(work[TERMS + n]);
+        if term.entry() && term.branches() > 256 {
             return Err(refusal(9, n));
         }
     }
     Ok(())
 }
 
-fn branches_of(work: &[u64; WORK], n: usize) -> u64 {
+fn set_branches(work: &mut [u64; WORK], n: usize) {
     let term = Term(work[TERMS + n]);
-    match term.kind() {
+    let of = |n: usize| Term(work[TERMS + n]).branches();
+    let branches = match term.kind() {
         FAIL => 0,
-        CHOICE => 257.min(work[BRANCHES + n + 1] + work[BRANCHES + term.right()]),
-        PARALLEL => 257.min(work[BRANCHES + n + 1] * work[BRANCHES + term.right()]),
-        CALL => work[BRANCHES + work[BODIES + term.target()] as usize],
+        CHOICE => 257.min(of(n + 1) + of(term.right())),
+        PARALLEL => 257.min(of(n + 1) * of(term.right())),
+        CALL => of(work[BODIES + term.target()] as usize),
         _ => 1,
+    };
+    work[TERMS + n] = term.with_branches(branches).0;
+}
+
+#[cfg(test)]
+mod tests {
+    use super::*;
+    use reference::table::Term as Drawn;
+    use reference::worked::full_table;
+
+    // A list of 266,310 numbers, whose last names no definition.
+    #[test]
+    fn places_are_not_16_bits_wide() {
+        let refused = judge(&full_table(Drawn::Call(9)), &mut [0; WORK]);
+        assert!(refused == Err(refusal(7, 266_309)), "{refused:?}");
     }
 }

@@ -36,7 +36,7 @@ impl Spot {
 
 pub fn parse(list: &[u16], work: &mut [u64; WORK]) -> Result<(), Refusal> {
     let mut parser = Parser { list, at: 0, work, sets: 0, terms: 0 };
-    let alphabet = parser.number(1, 64)?;
+    let alphabet = parser.number(1, 128)?;
     parser.sets = parser.number(0, 64)? as usize;
     parser.rows(alphabet)?;
     let definitions = parser.number(1, 32)? as usize;
@@ -70,20 +70,29 @@ impl Parser<'_> {
     }
 
     fn rows(&mut self, alphabet: u16) -> Result<(), Refusal> {
+        let large = alphabet as u64 > MASK_BITS;
         let mut row = 0;
         for s in 0..self.sets {
+            let place = self.at;
             let kind = self.number(0, 1)?;
             self.work[SETS + s] = (row as u64) << 1 | kind as u64;
-            let count = if kind == 0 { 1 } else { alphabet };
+            let count = if kind == 0 { 1 } else { alphabet as usize };
+            if large && row + count > HIGH {
+                return Err(refusal(5, place));
+            }
             for _ in 0..count {
-                self.work[row] = self.row(alphabet)?;
+                let mask = self.row(alphabet)?;
+                self.work[row] = mask as u64;
+                if large {
+                    self.work[HIGH + row] = (mask >> MASK_BITS) as u64;
+                }
                 row += 1;
             }
         }
         Ok(())
     }
 
-    fn row(&mut self, alphabet: u16) -> Result<u64, Refusal> {
+    fn row(&mut self, alphabet: u16) -> Result<u128, Refusal> {
         let mut mask = 0;
         let mut low = 0;
         for _ in 0..self.number(0, alphabet)? {
@@ -130,7 +139,7 @@ impl Parser<'_> {
             _ => 0,
         };
         self.work[TERMS + n] = kind | spot.0 | bits;
-        self.work[REACH + n] = place as u64;
+        set_reach(self.work, n, place as u64);
         Ok(())
     }
 

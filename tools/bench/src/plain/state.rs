@@ -55,7 +55,7 @@ fn valid(index: Index, slot: &[u64]) -> bool {
 
 fn memory_fits(alphabet: u64, prefixes: u64, word: u64) -> bool {
     (0..4).all(|i| {
-        let event = word >> (18 - 6 * i) & 63;
+        let event = event_of(word, i);
         event < alphabet && (i < prefixes || event == 0)
     })
 }

@@ -160,7 +160,7 @@ impl Step<'_, '_> {
 
     // A leaf's follower, and the memory with the event.
     fn follower(&self, word: u64) -> (usize, u64) {
-        (term_of(word) + 1, self.event << 18 | memory_of(word) >> 6)
+        (term_of(word) + 1, self.event << (MEMORY - DIGIT) | memory_of(word) >> DIGIT)
     }
 
     fn resolve_leaves(&mut self, tree: &Tree) {

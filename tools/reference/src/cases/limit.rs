@@ -10,7 +10,7 @@ use crate::table::*;
 
 pub fn limit_alphabet(random: &mut Random) -> Vec<Case> {
     let mut cases = Vec::new();
-    for alphabet in [1, 2, 63, 64] {
+    for alphabet in [1, 2, 63, 64, 65, 127, 128] {
         let full: Row = (0..alphabet).collect();
         let last: Row = vec![alphabet - 1];
         let rows = (0..alphabet).map(|v| if v % 2 == 0 { vec![v] } else { vec![] }).collect();
@@ -19,6 +19,8 @@ pub fn limit_alphabet(random: &mut Random) -> Vec<Case> {
         let definitions = vec![definition(0, prefix(plain(0), inner))];
         cases.extend(all_of_table(&Table { alphabet, sets, definitions }));
     }
+    let list = vec![129, 0, 1, 0, 0];
+    cases.extend(all_of_fault(&Fault { list, number: OUT_OF_RANGE, place: 0 }));
     // an event in each place of a full row of 64, one too high
     for _ in 0..6 {
         let mut list = vec![64, 1, 0, 64];

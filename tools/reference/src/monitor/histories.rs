@@ -29,9 +29,9 @@ use wrong::{wrong_in, Field};
 // Where the file comes from, but for the seed and the count.
 const SOURCE: &str = "\
 # Histories of the monitor: answers of Start, Feed, Try, Offer and View.
-# Written by tools/reference, another implementation of 01 and of 02, W1 and W4; in groups named
-# worked_* the verdicts and refusals are worked by hand from these, masks and digests are not. The
-# command, in tools/reference:
+# Written by tools/reference, another implementation of 01 and of 02, W1, W4 and W6; in groups
+# named worked_* the verdicts and refusals are worked by hand from these, and so are bits and words
+# in worked_events and worked_rows; other bits, and digests, are not. The command, in tools/reference:
 #     cargo run --release --offline -- histories --seed ";
 
 pub struct Group {
@@ -44,7 +44,7 @@ pub struct Group {
 type Make = fn(&mut Random, &mut History);
 
 // The groups that are drawn: a hundred parts, each group so many.
-const DRAWN: [(&str, usize, Make); 50] = [
+const DRAWN: [(&str, usize, Make); 52] = [
     ("wrong_lengths_start", 2, wrong_lengths_start),
     ("wrong_lengths_midway", 3, wrong_lengths_midway),
     ("garbage_before_start", 2, garbage_before_start),
@@ -85,6 +85,8 @@ const DRAWN: [(&str, usize, Make); 50] = [
     ("peaks_after_failure", 3, peaks_after_failure),
     ("pieces_and_at_once", 6, pieces_and_at_once),
     ("alphabet_64", 3, alphabet_64),
+    ("alphabet_128", 3, alphabet_128),
+    ("offers_128", 2, offers_128),
     ("memory_0_to_3", 6, memory_0_to_3),
     ("offers", 4, offers),
     ("walks", 8, walks),
@@ -98,7 +100,7 @@ const DRAWN: [(&str, usize, Make); 50] = [
 ];
 
 // The groups of answers that are wrong on purpose.
-const WRONG: [(&str, Field); 14] = [
+const WRONG: [(&str, Field); 15] = [
     ("stored_number", Field::Number),
     ("stored_place", Field::Place),
     ("stored_has", Field::Has),
@@ -107,7 +109,8 @@ const WRONG: [(&str, Field); 14] = [
     ("stored_peak", Field::Peak),
     ("stored_failed", Field::Failed),
     ("stored_at", Field::At),
-    ("stored_mask", Field::Mask),
+    ("stored_first", Field::First),
+    ("stored_second", Field::Second),
     ("stored_digest", Field::Digest),
     ("stored_further", Field::Further),
     ("stored_kept", Field::Kept),
@@ -131,6 +134,8 @@ pub fn groups(seed: u64, count: usize) -> Vec<Group> {
     add("worked_lengths", &|_, history| worked_lengths(history));
     add("worked_peaks", &|_, history| worked_peaks(history));
     add("worked_try", &|_, history| worked_try(history));
+    add("worked_events", &|_, history| worked_events(history));
+    add("worked_rows", &|_, history| worked_rows(history));
     add("long_tables", &long_tables);
     add("long_calls", &|_, history| long_calls(history));
     for (name, parts, make) in DRAWN {

@@ -27,14 +27,14 @@ pub const FORMAT: &str = "\
 #             = NUMBER PLACE HAS TAKEN COUNT PEAK FAILED AT DIGEST FURTHER KEPT
 #                                 Try of these events, with further areas of these lengths, where
 #                                 word j of further area i is 2^64 - 1 - j - 8192 (i + 2) before
-#     o WORK = NUMBER PLACE MASK DIGEST KEPT                                  Offer
+#     o WORK = NUMBER PLACE FIRST SECOND DIGEST KEPT                          Offer
 #     v = AREA LENGTH                                                         View
 # A list may have no number. WORK is the length of the lent work area; fill it with what is not 0.
 # NUMBER and PLACE are 0 0 for a result, else the refusal's. HAS is 1 if a record is handed back,
 # which is the record of the next call; else it is 0, so are the five numbers after it, and the
-# record that went in stands. PEAK is the largest COUNT since Start, the present one included. MASK
-# is 0 on a refusal. DIGEST is of the lent words of area 0 and then of area 1 after the call: from
-# 1, for each word w
+# record that went in stands. PEAK is the largest COUNT since Start, the present one included. FIRST
+# and SECOND, a bit for each event, are 0 on a refusal. DIGEST is of the lent words of area 0 and
+# then of area 1 after the call: from 1, for each word w
 #     d := (d * 16777619 + w mod 2^32) mod 4294967291
 #     d := (d * 16777619 + w div 2^32) mod 4294967291
 # After Try the record that went in is that of the next call, and FURTHER is the digest of the
@@ -218,18 +218,18 @@ impl History {
         outcome
     }
 
-    pub fn offer(&mut self) -> u64 {
+    pub fn offer(&mut self) -> EventBits {
         self.offer_work(WORK)
     }
 
-    pub fn offer_work(&mut self, work_len: usize) -> u64 {
+    pub fn offer_work(&mut self, work_len: usize) -> EventBits {
         let outcome = offer(&self.list, self.record, &self.areas(), work_len);
         self.last = numbered(outcome.answer.err());
-        let mask = outcome.answer.unwrap_or(0);
+        let [first, second] = outcome.answer.unwrap_or([0; 2]);
         let (number, place) = self.last;
         let rest = self.stand(&outcome.areas, outcome.work_kept);
-        self.called(format!("o {work_len} = {number} {place} {mask} {rest}"));
-        mask
+        self.called(format!("o {work_len} = {number} {place} {first} {second} {rest}"));
+        [first, second]
     }
 
     pub fn view(&mut self) -> (usize, usize) {

@@ -23,8 +23,8 @@ use wrong::*;
 // Where the file comes from, but for the seed and the count.
 const SOURCE: &str = "\
 # Inputs of the program, and the line of each.
-# Written by tools/reference, another implementation of 01; in groups named worked_* the lines are
-# worked by hand from 01. The command, in tools/reference:
+# Written by tools/reference, another implementation of 01 and of 02, W6; in groups named worked_*
+# the lines are worked by hand from these. The command, in tools/reference:
 #     cargo run --release --offline -- lines --seed ";
 
 const FORMAT: &str = "\
@@ -175,6 +175,7 @@ pub fn groups(seed: u64, count: usize) -> Vec<Group> {
     add("worked_readings", &|random| all(random, readings()));
     add("worked_stress", &|random| all(random, stress()));
     add("cut_at_each_byte", &cut_at_each_byte);
+    add("worked_events", &worked_events);
     add("long_tables", &long_tables);
     add("long_inputs", &long_inputs);
     for (name, parts, make) in DRAWN {

@@ -179,22 +179,38 @@ pub fn try_feed(
     }
 }
 
-// Offer: "a u64 whose bit e is set exactly when the residuals after e, crowded or not, are not
-// empty; 0 after failure; areas kept"
+// 02, W6: "Offer gives two words, events 0 to 63 in the first"
+pub type EventBits = [u64; 2];
+
+// The word of an event, and its bit there.
+fn bit_of(event: u16) -> (usize, u16) {
+    (event as usize / 64, event % 64)
+}
+
+pub fn is_offered(bits: EventBits, event: u16) -> bool {
+    let (word, bit) = bit_of(event);
+    bits[word] >> bit & 1 == 1
+}
+
+// Offer: "bit e is set exactly when the residuals after e, crowded or not, are not empty; 0 after
+// failure; areas kept"
 pub fn offer(
     list: &[u16],
     record: Record,
     areas: &Areas,
     work_len: usize,
-) -> Outcome<Result<u64, Refusal>> {
+) -> Outcome<Result<EventBits, Refusal>> {
     let (terms, residuals) = match judged_state(list, record, areas, work_len) {
         Ok(judged) => judged,
         Err(refusal) => return refused(Err(refusal), refusal, areas),
     };
     let goes_on =
         |event: &u16| !after_all(&terms, &residuals, *event, MOST_AREA / SLOT).is_none();
-    let mask = (0..terms.alphabet).filter(goes_on).fold(0, |mask, event| mask | 1 << event);
-    Outcome { answer: Ok(mask), areas: areas.clone(), work_kept: false }
+    let mut bits = [0; 2];
+    for (word, bit) in (0..terms.alphabet).filter(goes_on).map(bit_of) {
+        bits[word] |= 1 << bit;
+    }
+    Outcome { answer: Ok(bits), areas: areas.clone(), work_kept: false }
 }
 
 // The area and the number of its first words that View hands back: "If count × 16 exceeds that

@@ -121,11 +121,11 @@ fn offered_events() {
         let record = fed.answer.record.unwrap();
         let offered = offer(&list, record, &fed.areas, WORK);
         assert_eq!((&offered.areas, offered.work_kept), (&fed.areas, false));
-        let mask = offered.answer.unwrap();
+        let bits = offered.answer.unwrap();
         // strange events have no bit, and are refused
-        assert_eq!(mask.checked_shr(table.alphabet as u32).unwrap_or(0), 0);
+        assert!((table.alphabet..128).all(|event| !is_offered(bits, event)));
         for event in 0..table.alphabet as u8 {
-            let bit = mask >> event & 1 == 1;
+            let bit = is_offered(bits, event.into());
             let next = feed(&list, record, &fed.areas, &[event], WORK).answer;
             let goes_on = match next.refusal {
                 // more residuals than slots are not none
@@ -142,7 +142,7 @@ fn offered_events() {
         }
         let (area, length) = view(record, [16 * slots; 2]);
         if record.failed.is_some() {
-            assert_eq!((area, length, mask), (0, 0, 0));
+            assert_eq!((area, length, bits), (0, 0, [0; 2]));
         } else {
             assert_eq!(area, record.taken as usize % 2);
             assert_eq!(length, 16 * record.count as usize);

@@ -157,10 +157,19 @@ pub fn after_all(terms: &Terms, residuals: &Residuals, event: u16, most: usize) 
 
 // ---- words
 
-// "term × 2^24 + m0 × 2^18 + m1 × 2^12 + m2 × 2^6 + m3"
+// "memory digits take seven bits, so a node word is term × 2^28 and so on down" (02, W6)
+const DIGIT_BITS: usize = 7;
+pub const DIGIT_MOST: u64 = (1 << DIGIT_BITS) - 1;
+pub const TERM_AT: usize = 4 * DIGIT_BITS;
+
+// Where digit i of a node word stands, the nearest event's first.
+pub fn digit_at(i: usize) -> usize {
+    TERM_AT - DIGIT_BITS * (i + 1)
+}
+
 pub fn node_word(node: Node) -> u64 {
-    let memory = node.memory.iter().fold(0, |digits, &m| digits * 64 + m as u64);
-    node.term as u64 * (1 << 24) + memory
+    let memory = node.memory.iter().fold(0, |digits, &m| (digits << DIGIT_BITS) + m as u64);
+    ((node.term as u64) << TERM_AT) + memory
 }
 
 // "nodes with each parallel before its sides", the left side first

@@ -84,8 +84,8 @@ fn tree(terms: &Terms, nodes: &mut impl Iterator<Item = u64>) -> Option<Residual
 
 // "memory is below A, zero beyond the term's enclosing prefixes"
 fn node(terms: &Terms, word: u64) -> Option<Node> {
-    let term = usize::try_from(word >> 24).ok().filter(|&term| term < terms.terms.len())?;
-    let memory = [18, 12, 6, 0].map(|shift| (word >> shift & 63) as u16);
+    let term = usize::try_from(word >> TERM_AT).ok().filter(|&term| term < terms.terms.len())?;
+    let memory = [0, 1, 2, 3].map(|i| (word >> digit_at(i) & DIGIT_MOST) as u16);
     let enclosing = terms.terms[term].enclosing;
     let below = memory.iter().all(|&m| m < terms.alphabet);
     let none_beyond = memory.iter().skip(enclosing).all(|&m| m == 0);

@@ -2,7 +2,8 @@
 //     lively          a drawn table whose monitor starts and goes on
 //     remembering     nested prefixes whose sets depend on the events taken
 //     wide_loops      loops beside each other, with many residuals
-//     full_alphabet   A = 64
+//     full_alphabet   A = 64 or 128, with sets that tell the upper events apart
+//     repeating       one event of a few, over and over
 
 use super::operations::{offer, start, MOST_AREA};
 use crate::generate::*;
@@ -15,7 +16,9 @@ pub fn goes_on(table: &Table) -> bool {
     let list = table.list();
     let started = start(&list, &[vec![0; MOST_AREA], vec![0; MOST_AREA]], WORK);
     match started.answer.record {
-        Some(record) => offer(&list, record, &started.areas, WORK).answer.unwrap_or(0) != 0,
+        Some(record) => {
+            offer(&list, record, &started.areas, WORK).answer.unwrap_or([0; 2]) != [0; 2]
+        }
         None => false,
     }
 }
@@ -151,20 +154,21 @@ fn looped(random: &mut Random, sets: &[Set], definition: usize) -> Term {
     term
 }
 
-// A = 64: rows at the upper end, a set by a parameter with few events in each row.
-pub fn full_alphabet(random: &mut Random) -> Table {
+// Rows at the upper end, a set by a parameter with few events in each row.
+pub fn full_alphabet(random: &mut Random, alphabet: u16) -> Table {
+    let last = alphabet as usize - 1;
     accepted(|| {
-        let upper: Row = (random.between(55, 63) as u16..64).collect();
+        let upper: Row = (random.between(last - 8, last) as u16..alphabet).collect();
         let few = |random: &mut Random, v: u16| -> Row {
-            let mut row: Row = vec![63 - v, v, random.below(64) as u16];
+            let mut row: Row = vec![alphabet - 1 - v, v, random.below(last + 1) as u16];
             row.sort();
             row.dedup();
             row
         };
         let sets = vec![
-            Set::Plain((0..64).collect()),
+            Set::Plain((0..alphabet).collect()),
             Set::Plain(upper),
-            Set::Rows((0..64).map(|v| few(random, v)).collect()),
+            Set::Rows((0..alphabet).map(|v| few(random, v)).collect()),
         ];
         let by = |k: u16| SetReference { set: 2, parameter: Some(k) };
         let last = random.below(3) as u16;
@@ -179,8 +183,14 @@ pub fn full_alphabet(random: &mut Random) -> Table {
             let set = plain(random.below(2) as u16);
             definitions.push(definition(1, parallel(set, Term::Call(0), Term::Call(0))));
         }
-        Table { alphabet: 64, sets, definitions }
+        Table { alphabet, sets, definitions }
     })
+}
+
+// One event of these, over and over.
+pub fn repeating(alphabet: u16, events: &[u16]) -> Table {
+    let sets = vec![Set::Plain(events.to_vec())];
+    Table { alphabet, sets, definitions: vec![definition(0, prefix(plain(0), Term::Call(0)))] }
 }
 
 // Any of these.

@@ -17,7 +17,7 @@ use crate::summary::{head, printed, spaced};
 // Where the file comes from, but for the seed and the count.
 const SOURCE: &str = "\
 # Calls of Feed in wash hours.
-# Written by tools/reference, another implementation of 01 and of 02, W1 and W5; in groups named
+# Written by tools/reference, another implementation of 01 and of 02, W1, W5 and W6; in groups named
 # worked_* the refusals and records are worked by hand from these, digests are not. The command, in
 # tools/reference:
 #     cargo run --release --offline -- washes --seed ";
@@ -32,7 +32,7 @@ pub struct Group {
 type Make = fn(&mut Random, &mut History);
 type Worked = fn(&mut History);
 
-const WORKED: [(&str, Worked); 8] = [
+const WORKED: [(&str, Worked); 9] = [
     ("worked_timetables", worked::timetables),
     ("worked_changes", worked::changes_of_drawing),
     ("worked_no_change", worked::no_change),
@@ -41,6 +41,7 @@ const WORKED: [(&str, Worked); 8] = [
     ("worked_places", worked::places),
     ("worked_order", worked::order),
     ("worked_standing", worked::standing),
+    ("worked_alphabets", worked::large_alphabets),
 ];
 
 // The groups that are drawn: a hundred parts, each group so many.

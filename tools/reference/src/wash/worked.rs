@@ -7,6 +7,7 @@ use super::operations::{Lent, Timed};
 use super::timetable::*;
 use crate::monitor::examples::{list_of, K7, K8};
 use crate::monitor::state::Record;
+use crate::monitor::tables::repeating;
 use crate::operations::WORK;
 use crate::refusal::*;
 use crate::worked::*;
@@ -371,4 +372,16 @@ pub fn standing(history: &mut History) {
     }
     history.restore(state, &areas);
     taken(history, 1, 99, running(2, 1, 1));
+}
+
+// 02, W6: "A may be 1 to 128": the alphabet is that of the drawing in force.
+pub fn large_alphabets(history: &mut History) {
+    let (everyday, wash) = (repeating(128, &[127]).list(), repeating(65, &[64]).list());
+    history.begin(&Lent { everyday, wash, windows: vec![100, 200] }, 1);
+    taken(history, 127, 99, running(1, 1, 1));
+    refused(history, 128, 99, UNKNOWN_EVENT);
+    refused(history, 65, 100, UNKNOWN_EVENT);
+    taken(history, 64, 100, running(1, 1, 1));
+    taken(history, 127, 200, running(1, 1, 1));
+    taken(history, 64, 200, failed(2, 1, 2));
 }

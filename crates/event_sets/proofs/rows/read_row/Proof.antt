@@ -1,20 +1,21 @@
--- `event_sets::rows::read_row` meets its contract. The loop's invariant: the first j events are read, and `mask` and
--- `low` are theirs (`Head` of RowTurn). The measure is what is left of the count. Assumes nothing.
+-- `event_sets::rows::read_row` meets its contract. The loop's invariant: the first j events are read, and `low`,
+-- `high` and `least` are theirs (`Head` of RowTurn). The measure is what is left of the count. Assumes nothing.
 use Prim.Native.Nat.{_-_, _≤_}
 use native.Mathlib.Omega.{arith}
 use mathlib.Core.Path.{refl}
 use borrow.Author.Needs.{needs}
+use Rattle.table.specs.Rows.{alphabetMost}
 use Rattle.event_sets.proofs.rows.RowTurn.{Head, row-short, row-off, head-first, head-next, head-done}
-use Rattle.event_sets.proofs.rows.RowTurn.{head-short, head-low, head-high, head-fits}
+use Rattle.event_sets.proofs.rows.RowTurn.{head-short, head-low, head-high, first-fits, second-fits}
 use Rattle.event_sets.proofs.rows.read_row.Statement.{statement}
 use Rattle.event_sets.proofs.rows.read_row.Tie as tie
 
 abbrev Inv-loop : tie.InvT-loop
-Inv-loop list alphabet at count mask₀ low₀ j₀ p₀ mask low j p =
-    Head list alphabet at count mask low j p × (alphabet ≤ 64)
+Inv-loop list alphabet at count low₀ high₀ least₀ j₀ p₀ low high least j p =
+    Head list alphabet at count low high least j p × (alphabet ≤ alphabetMost)
 
 abbrev μ-loop : tie.MeasureT-loop
-μ-loop list alphabet at count mask₀ low₀ j₀ p₀ mask low j p = count - j
+μ-loop list alphabet at count low₀ high₀ least₀ j₀ p₀ low high least j p = count - j
 
 -- there is no count
 returns : tie.Need-returns Inv-loop μ-loop
@@ -58,16 +59,24 @@ returns-5 c =
     let head = c .before .before .before .before .before .loop .inv .0 in
     head-high head (omega arith) (omega arith) (c .before .if4 .left) (c .if5 .taken)
 
-power-requires : tie.Need-power-requires Inv-loop μ-loop
-power-requires c κs = search needs
-
-add-mask : tie.Need-add-mask Inv-loop μ-loop
-add-mask c =
-    let head = c .before .before .before .before .before .before .loop .inv .0 in
-    record { fits = head-fits head _ _ (c .power .ensures) (omega arith) (omega arith) }
+low-bit-requires : tie.Need-low-bit-requires Inv-loop μ-loop
+low-bit-requires c κs = search needs
 
 add-low : tie.Need-add-low Inv-loop μ-loop
-add-low c = search needs
+add-low c =
+    let head = c .before .before .before .before .before .before .loop .inv .0 in
+    record { fits = first-fits head _ _ (c .low-bit .ensures) (omega arith) }
+
+high-bit-requires : tie.Need-high-bit-requires Inv-loop μ-loop
+high-bit-requires c κs = search needs
+
+add-high : tie.Need-add-high Inv-loop μ-loop
+add-high c =
+    let head = c .before .before .before .before .before .before .before .loop .inv .0 in
+    record { fits = second-fits head _ _ (c .high-bit .ensures) (omega arith) (omega arith) }
+
+add-least : tie.Need-add-least Inv-loop μ-loop
+add-least c = search needs
 
 add-p-2 : tie.Need-add-p-2 Inv-loop μ-loop
 add-p-2 c = search needs
@@ -80,8 +89,9 @@ loop-less c = search needs
 
 loop-again : tie.Need-loop-again Inv-loop μ-loop
 loop-again c =
-    let head = c .before .before .before .before .before .before .loop .inv .0 in (
-      head-next head _ _ refl (c .power .ensures) (omega arith) (omega arith) (omega arith) (omega arith),
+    let head = c .before .before .before .before .before .before .before .loop .inv .0 in (
+      head-next head _ _ _ refl (c .before .low-bit .ensures) (c .high-bit .ensures) (omega arith) (omega arith)
+          (omega arith) (omega arith),
       omega arith,
     )
 
@@ -106,9 +116,11 @@ read-row-spec =
     shared-slice-read-e
     returns-4
     returns-5
-    power-requires
-    add-mask
+    low-bit-requires
     add-low
+    high-bit-requires
+    add-high
+    add-least
     add-p-2
     add-j
     loop-less

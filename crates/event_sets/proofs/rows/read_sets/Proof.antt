@@ -4,13 +4,15 @@ use Prim.Native.Nat.{_-_, _≤_}
 use native.Mathlib.Omega.{arith}
 use mathlib.Core.Path.{refl}
 use borrow.Author.Needs.{needs}
-use Rattle.event_sets.proofs.rows.SetsTurn.{Head, head-first, head-next, head-fits, head-done, head-stop}
+use Rattle.table.specs.Rows.{alphabetMost}
+use Rattle.event_sets.proofs.rows.SetsTurn.{Head, head-first, head-room, head-next, head-fits, head-done}
+use Rattle.event_sets.proofs.rows.SetsTurn.{head-stop}
 use Rattle.event_sets.proofs.rows.read_sets.Statement.{statement}
 use Rattle.event_sets.proofs.rows.read_sets.Tie as tie
 
 abbrev Inv-loop : tie.InvT-loop
 Inv-loop list work₀ alphabet count at s₀ p₀ row₀ work s p row =
-    Head list alphabet count at work₀ work s p row × (1 ≤ alphabet) × (alphabet ≤ 64)
+    Head list alphabet count at work₀ work s p row × (1 ≤ alphabet) × (alphabet ≤ alphabetMost)
 
 abbrev μ-loop : tie.MeasureT-loop
 μ-loop list work₀ alphabet count at s₀ p₀ row₀ work s p row = count - s
@@ -19,7 +21,9 @@ loop-holds : tie.Need-loop-holds Inv-loop μ-loop
 loop-holds c = (head-first _ _ _ _ _ (omega arith) (omega arith) (omega arith), omega arith, omega arith)
 
 read-set-requires : tie.Need-read-set-requires Inv-loop μ-loop
-read-set-requires c κs = search needs
+read-set-requires c κs =
+    let head = c .before .before .loop .inv .0 in
+    ((omega arith, omega arith, omega arith), ((omega arith, omega arith), head-room head (omega arith)))
 
 enum-known-next : tie.Need-enum-known-next Inv-loop μ-loop
 enum-known-next c = search needs
@@ -31,7 +35,7 @@ add-work : tie.Need-add-work Inv-loop μ-loop
 add-work c =
     let head = c .before .before .before .before .before .before .before .before .loop .inv .0 in
     let told = c .before .before .before .before .before .read-set .ensures in
-    omega (arith, head-fits head _ _ _ _ _ (c .before .next .given .1) told (omega arith))
+    omega (arith, head-fits head _ _ _ _ _ (c .before .next .given .1) told)
 
 add-work-2 : tie.Need-add-work-2 Inv-loop μ-loop
 add-work-2 c = search needs

@@ -22,9 +22,9 @@ same-length c = search needs
 
 returns-2 : tie.Need-returns-2
 returns-2 c =
-    let offered = c .before .before .before .before in
+    let offered = c .before .before .before .before .before in
     let loaded = offered .before .before in
-    offer-told (offered .offer .result) _ _ _ _ _ _ _ _ (loaded .load .result) (c .tell-offer .ensures)
+    offer-told (offered .offer .result) _ _ _ _ _ _ _ _ _ (loaded .load .result) (c .tell-offer .ensures)
     (loaded .before .if1 .left) (loaded .load .ensures) (offered .offer .ensures)
 
 pub cspe-offer-spec : {M : Type 1} → statement M

@@ -20,8 +20,8 @@ enum-told-2 : tie.Need-enum-told-2
 enum-told-2 c = search needs
 
 -- the residuals are in area 0
-bits-requires : tie.Need-bits-requires
-bits-requires c κs =
+words-requires : tie.Need-words-requires
+words-requires c κs =
     let at-start = c .before .before .before .before .before .before .before .before in
     let args = at-start .args in (
       at-start .pre .0,
@@ -34,11 +34,11 @@ returns-2 c =
     let at-if1 = c .before in
     let args = at-if1 .before .before .before .before .before .before .before .before .args in
     bits-even (tableIn (args .list .now)) (args .state) (args .area0 .now) (args .area1 .now) _
-    (at-if1 .before .before .enum-told2 .given .1) (at-if1 .if1 .taken) (c .bits .ensures)
+    (at-if1 .before .before .enum-told2 .given .1) (at-if1 .if1 .taken) (c .words .ensures)
 
 -- in area 1
-bits-requires-2 : tie.Need-bits-requires-2
-bits-requires-2 c κs =
+words-requires-2 : tie.Need-words-requires-2
+words-requires-2 c κs =
     let at-start = c .before .before .before .before .before .before .before .before in
     let args = at-start .args in (
       at-start .pre .0,
@@ -51,7 +51,7 @@ returns-3 c =
     let at-if1 = c .before in
     let args = at-if1 .before .before .before .before .before .before .before .before .args in
     bits-odd (tableIn (args .list .now)) (args .state) (args .area0 .now) (args .area1 .now) _
-    (at-if1 .before .before .enum-told2 .given .1) (at-if1 .if1 .left) (c .bits2 .ensures)
+    (at-if1 .before .before .enum-told2 .given .1) (at-if1 .if1 .left) (c .words2 .ensures)
 
 pub offered-spec : {M : Type 1} → statement M
 offered-spec =
@@ -60,7 +60,7 @@ offered-spec =
     enum-told
     returns
     enum-told-2
-    bits-requires
+    words-requires
     returns-2
-    bits-requires-2
+    words-requires-2
     returns-3)

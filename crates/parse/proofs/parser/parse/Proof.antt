@@ -6,33 +6,34 @@ use Rattle.table_index.specs.Parse.Header.{stop-1, stop-2, stop-3, header-read}
 use Rattle.table_index.specs.Parse.Header.{count-got, count-low, count-high, count-none}
 use Rattle.table_index.specs.Parse.Header.{sets-got, sets-high, sets-none}
 use borrow.Author.Needs.{needs}
+use Rattle.table.specs.Rows.{alphabetMost}
 use Rattle.parse.proofs.parser.parse.Statement.{statement}
 use Rattle.parse.proofs.parser.parse.Tie as tie
 
 -- no alphabet size
 returns : tie.Need-returns
-returns c = (stop-1 _ _ _ (count-none 1 64 _ 0 (omega arith) (omega arith)), c .before .before .before .pre)
+returns c = (stop-1 _ _ _ (count-none 1 alphabetMost _ 0 (omega arith) (omega arith)), c .before .before .before .pre)
 
 shared-slice-read-alphabet : tie.Need-shared-slice-read-alphabet
 shared-slice-read-alphabet c = search needs
 
--- an alphabet of none, and above 64
+-- an alphabet of none, and above 128
 returns-2 : tie.Need-returns-2
 returns-2 c = (
-  stop-1 _ _ _ (count-low 1 64 _ 0 (omega arith) (omega arith)),
+  stop-1 _ _ _ (count-low 1 alphabetMost _ 0 (omega arith) (omega arith)),
   c .before .before .before .before .before .pre,
 )
 
 returns-3 : tie.Need-returns-3
 returns-3 c = (
-  stop-1 _ _ _ (count-high 1 64 _ 0 (omega arith) (omega arith) (omega arith)),
+  stop-1 _ _ _ (count-high 1 alphabetMost _ 0 (omega arith) (omega arith) (omega arith)),
   c .before .before .before .before .before .before .pre,
 )
 
 -- no number of sets
 returns-4 : tie.Need-returns-4
 returns-4 c = (
-  stop-2 _ _ (count-got 1 64 _ 0 (omega arith) (omega arith) (omega arith)) _ _
+  stop-2 _ _ (count-got 1 alphabetMost _ 0 (omega arith) (omega arith) (omega arith)) _ _
       (sets-none _ (omega arith) (omega arith)),
   c .before .before .before .before .before .before .before .pre,
 )
@@ -46,7 +47,7 @@ cast-sets c = omega (arith, c .shared-slice-known3 .given 1)
 -- more than 64 sets
 returns-5 : tie.Need-returns-5
 returns-5 c = (
-  stop-2 _ _ (count-got 1 64 _ 0 (omega arith) (omega arith) (omega arith)) _ _
+  stop-2 _ _ (count-got 1 alphabetMost _ 0 (omega arith) (omega arith) (omega arith)) _ _
       (sets-high _ (omega arith) (omega arith)),
   c .before .before .before .before .before .before .before .before .before .pre,
 )
@@ -84,7 +85,7 @@ returns-7 c =
     let known = c .before in
     let sets = known .before .before .before .before in
     let f = rw (known .r .given .1) at (sets .read-sets .ensures) in (
-      stop-3 _ _ (count-got 1 64 _ 0 (omega arith) (omega arith) (omega arith)) _
+      stop-3 _ _ (count-got 1 alphabetMost _ 0 (omega arith) (omega arith) (omega arith)) _
           (sets-got _ (omega arith) (omega arith)) _ _ (f .0),
       f .1 ∙ sets .before .before .before .before .before .before .before .before .before .before .before .pre,
     )

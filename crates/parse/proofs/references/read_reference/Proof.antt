@@ -40,13 +40,13 @@ add-p c = search needs
 returns-3 : tie.Need-returns-3
 returns-3 c =
     let start = c .before .before .before .before .before in
-    ref-fixed _ _ _ _ (start .pre .0 .indexed) (omega arith) (omega (arith, start .pre .0 .counted)) _ _
+    ref-fixed _ _ _ _ _ (start .pre .0 .indexed) (omega arith) (omega (arith, start .pre .0 .counted)) _ _
     (omega arith) refl refl
 
 returns-4 : tie.Need-returns-4
 returns-4 c =
     let start = c .before .before .before .before .before .before in
-    ref-param-short _ _ _ _ (start .pre .0 .indexed) (omega arith) (omega (arith, start .pre .0 .counted))
+    ref-param-short _ _ _ _ _ (start .pre .0 .indexed) (omega arith) (omega (arith, start .pre .0 .counted))
     (λ h. omega arith) _ (omega arith) refl refl
 
 mul-k : tie.Need-mul-k
@@ -58,7 +58,7 @@ shared-slice-read-k c = search needs
 returns-5 : tie.Need-returns-5
 returns-5 c =
     let start = c .before .before .before .before .before .before .before .before in
-    ref-param-high _ _ _ _ (start .pre .0 .indexed) (omega arith) (omega (arith, start .pre .0 .counted))
+    ref-param-high _ _ _ _ _ (start .pre .0 .indexed) (omega arith) (omega (arith, start .pre .0 .counted))
     (λ h. omega arith) _ (omega arith) (omega arith) refl refl
 
 cast-t24 : tie.Need-cast-t24
@@ -73,7 +73,7 @@ add-t16 c = search needs
 returns-6 : tie.Need-returns-6
 returns-6 c =
     let start = c .before .before .before .before .before .before .before .before in
-    ref-family _ _ _ _ (start .pre .0 .indexed) (omega arith) (omega (arith, start .pre .0 .counted))
+    ref-family _ _ _ _ _ (start .pre .0 .indexed) (omega arith) (omega (arith, start .pre .0 .counted))
     (λ h. omega arith) _ _ _ (omega arith) (omega arith) refl (omega arith) refl
 
 pub read-reference-spec : {M : Type 1} → statement M

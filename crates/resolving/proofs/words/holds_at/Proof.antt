@@ -24,7 +24,7 @@ holds-requires c κs =
       pre .0,
       (
         rw term (pre .1 .0 .within),
-        (rw term (pre .1 .1 .0), (omega (arith, law .events-least), omega (arith, law .events-most, pre .1 .1 .1))),
+        (rw term (pre .1 .1 .0), (omega (arith, law .events-least), pre .1 .1 .1)),
       ),
     )
 
@@ -45,14 +45,13 @@ holds-requires-2 : tie.Need-holds-requires-2
 unfolding kindAt
 holds-requires-2 c κs =
     let pre = c .before .before .before .before .before .before .pre in
-    let term = c .before .before .before .term-of .ensures in
-    let law = lawful (pre .0) in (
+    let term = c .before .before .before .term-of .ensures in (
       pre .0,
       (
         rw term (pre .1 .0 .within),
         (
           rw term (pre .1 .1 .0),
-          (rw (c .digit .ensures .0) (pre .1 .0 .digits _), omega (arith, law .events-most, pre .1 .1 .1)),
+          (rw (c .digit .ensures .0) (pre .1 .0 .digits _), pre .1 .1 .1),
         ),
       ),
     )

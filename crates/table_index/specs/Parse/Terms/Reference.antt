@@ -93,7 +93,7 @@ first-row-most (suc s) (d ∷ sets) =
     omega arith
 
 -- a set's word in two parts
-module _ (sets : List SetDef) (w : List ℕ) (x : SetsIndexed sets w) (s : ℕ) (b : s < length sets) where
+module _ (A : ℕ) (sets : List SetDef) (w : List ℕ) (x : SetsIndexed A sets w) (s : ℕ) (b : s < length sets) where
   set-row : getD w (setsAt + s) 0 / 2 ≡ firstRow sets s
   unfolding setWord
   set-row =
@@ -111,15 +111,15 @@ module _ (sets : List SetDef) (w : List ℕ) (x : SetsIndexed sets w) (s : ℕ) 
   set-row-few : firstRow sets s ≤ rowsMost
   set-row-few = let a = x .rows-few in let b = first-row-most s sets in omega arith
 
-module _ (sets : List SetDef) (l w : List ℕ) (i : ℕ) (x : SetsIndexed sets w) (a : i < length l)
+module _ (A : ℕ) (sets : List SetDef) (l w : List ℕ) (i : ℕ) (x : SetsIndexed A sets w) (a : i < length l)
     (b : getD l i 0 < length sets) where
   pub ref-fixed : (t j : ℕ) → getD w (setsAt + getD l i 0) 0 % 2 ≡ 0 → t ≡ getD w (setsAt + getD l i 0) 0 / 2
       → j ≡ i + 1 → ReferenceFound sets l i t 0 j
   ref-fixed t j k e f =
       let s = getD l i 0 in
-      let row' = set-row sets w x s b in
-      let kind' = set-kind sets w x s b in
-      let few = set-row-few sets w x s b in
+      let row' = set-row A sets w x s b in
+      let kind' = set-kind A sets w x s b in
+      let few = set-row-few A sets w x s b in
       record {
         reference = fixed s;
         parsed = rw f (ref-known sets l i _ a b (kind-one s (getD sets s (one [])) (tokensAt l (i + 1)) (omega arith)));
@@ -136,7 +136,7 @@ module _ (sets : List SetDef) (l w : List ℕ) (i : ℕ) (x : SetsIndexed sets w
         → setRef sets (tokensAt l i) ≡ r
     ref-more r h =
         let s = getD l i 0 in
-        let kind' = set-kind sets w x s b in
+        let kind' = set-kind A sets w x s b in
         let m = kind-most (getD sets s (one [])) in
         let one' : kindOfSet (getD sets s (one [])) ≡ 1 = omega arith in
         ref-known sets l i r a b (kind-each s (getD sets s (one [])) (tokensAt l (i + 1)) r one' h)
@@ -158,8 +158,8 @@ module _ (sets : List SetDef) (l w : List ℕ) (i : ℕ) (x : SetsIndexed sets w
     unfolding pure
     ref-family t p j c h e f g =
         let s = getD l i 0 in
-        let row' = set-row sets w x s b in
-        let few = set-row-few sets w x s b in
+        let row' = set-row A sets w x s b in
+        let few = set-row-few A sets w x s b in
         record {
           reference = family s (getD l (i + 1) 0);
           parsed =

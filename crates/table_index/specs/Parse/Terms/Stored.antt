@@ -19,6 +19,7 @@ use Rattle.table.specs.Node.{Node, nodes, noNode, followerSpot, sideSpot, besid
 use Rattle.table_index.specs.Layout.{termsAt, setsAt, bodiesAt, widthsAt, structureOf}
 use Rattle.table_index.specs.Layout.Laws.{structure-fits}
 use Rattle.table_index.specs.Index.{packed, wordOf, setsIn}
+use Rattle.table_index.specs.Index.Sets.{indexed-kept}
 use Rattle.table_index.specs.Parse.{WordStored, TermStored, SetsReady}
 
 -- ---- how many nodes a term has
@@ -146,18 +147,12 @@ module _ (l w w' : List ℕ) (count : ℕ) (ready : SetsReady l w count) (same :
     → getD w' x 0 ≡ getD w x 0) where
   pub ready-kept : SetsReady l w' count
   ready-kept =
-      let old = ready .indexed in
-      let rows = old .rows-few in
-      let some = old .few in
       record {
         whole = same ∙ ready .whole;
         counted = ready .counted;
-        indexed = record {
-          few = some;
-          rows-few = rows;
-          rows = λ i h. kept i (λ z. omega arith) (λ z. omega arith) ∙ old .rows i h;
-          words = λ s h. kept (setsAt + s) (λ z. omega arith) (λ z. omega arith) ∙ old .words s h;
-        };
+        indexed =
+            indexed-kept (getD l 0 0) (setsIn l) w w' (λ i h. kept i (λ z. omega arith) (λ z. omega arith))
+            (λ s h. kept (setsAt + s) (λ z. omega arith) (λ z. omega arith)) (ready .indexed);
       }
 
 pub ready-stored : (l w w' : List ℕ) (count n : ℕ) (xs : List Node) → SetsReady l w count

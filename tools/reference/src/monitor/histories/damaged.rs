@@ -236,7 +236,7 @@ fn node_place(random: &mut Random, slot: &[u64]) -> usize {
 }
 
 fn term_in(word: u64) -> usize {
-    (word >> 24) as usize
+    (word >> TERM_AT) as usize
 }
 
 pub fn unknown_term(random: &mut Random, history: &mut History) {
@@ -247,10 +247,10 @@ pub fn unknown_term(random: &mut Random, history: &mut History) {
         let term = match random.below(5) {
             0 | 1 => terms,
             2 => 1 << 32,
-            3 => (1 << 40) - 1,
+            3 => (1 << (64 - TERM_AT)) - 1,
             _ => terms + random.below(2_000) as u64,
         };
-        slot[at] = (slot[at] & 0xFF_FFFF) + (term << 24);
+        slot[at] = (slot[at] & ((1 << TERM_AT) - 1)) + (term << TERM_AT);
         true
     });
 }
@@ -263,7 +263,7 @@ pub fn wrong_kind(random: &mut Random, history: &mut History) {
     let others = terms_where(&state.made.terms, no_node);
     change(random, history, &state, |random, slot| {
         let at = node_place(random, slot);
-        slot[at] = (*random.pick(&others) as u64) << 24;
+        slot[at] = (*random.pick(&others) as u64) << TERM_AT;
         true
     });
 }
@@ -309,13 +309,8 @@ pub fn words_after_tree(random: &mut Random, history: &mut History) {
     });
 }
 
-// Where digit i of a node word stands.
-fn shift(i: usize) -> usize {
-    18 - 6 * i
-}
-
 fn with_digit(word: u64, i: usize, digit: u64) -> u64 {
-    (word & !(63 << shift(i))) + (digit << shift(i))
+    (word & !(DIGIT_MOST << digit_at(i))) + (digit << digit_at(i))
 }
 
 // Whether some node has from `least` to `most` prefixes around it.
@@ -326,7 +321,7 @@ fn enclosed(residuals: &Residuals, terms: &Terms, least: usize, most: usize) -> 
 
 pub fn digit_at_alphabet(random: &mut Random, history: &mut History) {
     let state = state(random, history, |terms, residuals| {
-        terms.alphabet < 64 && enclosed(residuals, terms, 1, 32)
+        u64::from(terms.alphabet) <= DIGIT_MOST && enclosed(residuals, terms, 1, 32)
     });
     let terms = &state.made.terms;
     change(random, history, &state, |random, slot| {
@@ -336,7 +331,8 @@ pub fn digit_at_alphabet(random: &mut Random, history: &mut History) {
             return false;
         }
         let alphabet = terms.alphabet as usize;
-        let digit = if random.once_in(2) { alphabet } else { random.between(alphabet, 63) };
+        let most = DIGIT_MOST as usize;
+        let digit = if random.once_in(2) { alphabet } else { random.between(alphabet, most) };
         slot[at] = with_digit(slot[at], random.below(enclosing), digit as u64);
         true
     });

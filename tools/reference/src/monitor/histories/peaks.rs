@@ -180,8 +180,8 @@ fn worked_given(history: &mut History) {
         fresh(history, &K7, 4, 2, None);
         history.set_record(Record { peak, ..history.record });
         calls(history, &[(&[], (0, 0), (0, 2, peak, None))]);
-        let mask = history.offer();
-        history.known_true(mask == 1, "event 0 alone is offered");
+        let bits = history.offer();
+        history.known_true(bits == [1, 0], "event 0 alone is offered");
         let viewed = history.view();
         history.known_true(viewed == (0, 32), "two slots of area 0");
         calls(

@@ -162,12 +162,12 @@ pub fn random_words(random: &mut Random, history: &mut History) {
         let area = if random.once_in(8) { 1 - present } else { present };
         let word = history.lent(area)[index];
         let word = match random.below(6) {
-            0 => word ^ (1 << random.below(34)),
-            1 => word.wrapping_add(1 << 24),
-            2 => word.wrapping_sub(1 << 24),
-            3 => word ^ (1 << (6 * random.below(4))),
+            0 => word ^ (1 << random.below(TERM_AT + 10)),
+            1 => word.wrapping_add(1 << TERM_AT),
+            2 => word.wrapping_sub(1 << TERM_AT),
+            3 => word ^ (1 << digit_at(random.below(4))),
             4 => word.wrapping_add(1),
-            _ => (random.below(made.terms.terms.len()) as u64) << 24,
+            _ => (random.below(made.terms.terms.len()) as u64) << TERM_AT,
         };
         history.set_words(area, index, &[word]);
     }

@@ -4,6 +4,7 @@
 
 use crate::generate::*;
 use crate::monitor::history::{Fill, History};
+use crate::monitor::operations::{is_offered, Answer};
 use crate::monitor::residual::*;
 use crate::monitor::state::{held, Record};
 use crate::monitor::tables;
@@ -165,8 +166,41 @@ pub fn walks(random: &mut Random, history: &mut History) {
 }
 
 pub fn alphabet_64(random: &mut Random, history: &mut History) {
-    let table = tables::full_alphabet(random);
+    let table = tables::full_alphabet(random, 64);
     walk(random, history, &table, 5);
+}
+
+// "Big halls need 128 events" (02, W6)
+pub fn alphabet_128(random: &mut Random, history: &mut History) {
+    let table = tables::full_alphabet(random, 128);
+    walk(random, history, &table, 5);
+}
+
+// From one state, Offer; then the events beside the two words' ends, each as it was offered.
+pub fn offers_128(random: &mut Random, history: &mut History) {
+    let draw = |random: &mut Random| tables::full_alphabet(random, 128);
+    let made = prepared_of(random, draw, |_, residuals| !residuals.is_empty());
+    enter(history, &made);
+    let (record, areas) = (history.record, history.areas());
+    let bits = history.offer();
+    for event in [0, 62, 63, 64, 65, 126, 127, random.below(128) as u16] {
+        let goes_on = went_on(history.feed(&[event as u8]));
+        history.known_true(is_offered(bits, event) == goes_on, "as it was offered");
+        if random.once_in(4) {
+            history.offer();
+        }
+        history.restore(record, &areas);
+    }
+    history.feed(&[128]);
+    history.known(UNKNOWN_EVENT, 0);
+}
+
+// Whether the event that was fed left residuals, be they too many.
+fn went_on(fed: Answer) -> bool {
+    match fed.refusal {
+        Some(refusal) => refusal.number == CAPACITY_EXCEEDED,
+        None => fed.record.is_some_and(|record| record.failed.is_none()),
+    }
 }
 
 pub fn memory_0_to_3(random: &mut Random, history: &mut History) {
@@ -180,14 +214,10 @@ pub fn offers(random: &mut Random, history: &mut History) {
     let made = prepared(random, |_, residuals| !residuals.is_empty());
     enter(history, &made);
     let (record, areas) = (history.record, history.areas());
-    let mask = history.offer();
+    let bits = history.offer();
     for event in 0..made.terms.alphabet.min(5) {
-        let fed = history.feed(&[event as u8]);
-        let goes_on = match fed.refusal {
-            Some(refusal) => refusal.number == CAPACITY_EXCEEDED,
-            None => history.record.failed.is_none(),
-        };
-        history.known_true((mask >> event & 1 == 1) == goes_on, "as it was offered");
+        let goes_on = went_on(history.feed(&[event as u8]));
+        history.known_true(is_offered(bits, event) == goes_on, "as it was offered");
         if random.once_in(2) {
             history.offer();
         }

@@ -1,11 +1,15 @@
 // Histories worked by hand from 01: each answer that is checked here stands in the source.
 
 use super::states::counted;
+use crate::generate::definition;
 use crate::monitor::examples::*;
 use crate::monitor::history::{Fill, History};
-use crate::monitor::residual::{node_word, Node};
+use crate::monitor::residual::{digit_at, node_word, Node};
 use crate::monitor::state::Record;
+use crate::monitor::tables::repeating;
 use crate::operations::WORK;
+use crate::refusal::UNKNOWN_EVENT;
+use crate::table::*;
 use crate::worked::*;
 
 // An example in one call and, if it is not refused, event by event.
@@ -56,8 +60,8 @@ pub fn worked_readings(history: &mut History) {
     // K8 with one slot: crowded by 0, failed by 1, and 0 is offered all the same
     history.begin(&list_of(&K8), 1);
     history.start();
-    let mask = history.offer();
-    history.known_true(mask == 1, "event 0 alone is offered");
+    let bits = history.offer();
+    history.known_true(bits == [1, 0], "event 0 alone is offered");
     history.feed(&[0]);
     history.known(13, 0);
     history.known_record(0, 1, 1, None);
@@ -117,8 +121,8 @@ pub fn worked_counter(history: &mut History) {
     history.set_record(Record { taken: LAST, ..history.record });
     history.feed(&[0]);
     history.known(12, 0);
-    let mask = history.offer();
-    history.known_true(mask == 1, "event 0 alone is offered");
+    let bits = history.offer();
+    history.known_true(bits == [1, 0], "event 0 alone is offered");
 }
 
 // A node word, memory 0.
@@ -178,14 +182,14 @@ pub fn worked_slots(history: &mut History) {
     with(&[&[3, of(0), of(1), u64::MAX]], 1, 10);
     with(&[&[2, of(1), of(3), 0]], 1, 10);
     // memory: STOP 2 has one prefix around it, prefix 1 none
-    let digit = |term: usize, shift: u32, m: u64| of(term) + (m << shift);
-    with(&[&[1, digit(2, 18, 2), 0, 0]], 1, 0);
-    with(&[&[1, digit(2, 18, 3), 0, 0]], 1, 10);
-    with(&[&[1, digit(2, 12, 1), 0, 0]], 1, 10);
-    with(&[&[1, digit(2, 6, 1), 0, 0]], 1, 10);
-    with(&[&[1, digit(2, 0, 1), 0, 0]], 1, 10);
-    with(&[&[1, digit(1, 18, 1), 0, 0]], 1, 10);
-    with(&[&[3, of(0) + (1 << 18), of(1), of(3)]], 1, 10);
+    let digit = |term: usize, i: usize, m: u64| of(term) + (m << digit_at(i));
+    with(&[&[1, digit(2, 0, 2), 0, 0]], 1, 0);
+    with(&[&[1, digit(2, 0, 3), 0, 0]], 1, 10);
+    with(&[&[1, digit(2, 1, 1), 0, 0]], 1, 10);
+    with(&[&[1, digit(2, 2, 1), 0, 0]], 1, 10);
+    with(&[&[1, digit(2, 3, 1), 0, 0]], 1, 10);
+    with(&[&[1, digit(1, 0, 1), 0, 0]], 1, 10);
+    with(&[&[3, digit(0, 0, 1), of(1), of(3)]], 1, 10);
     // eight leaves stand, nine do not fit: 15 nodes and 17
     let mut eight = vec![15];
     eight.extend([of(0); 7]);
@@ -346,5 +350,81 @@ pub fn worked_lengths(history: &mut History) {
         history.feed(&[0, 1, 0]);
         history.known_record(3, 1, 1, None);
         history.view();
+    }
+}
+
+// 02, W6: "A may be 1 to 128"; "Offer gives two words, events 0 to 63 in the first"; words of a
+// memory of 127 and 63 in each place.
+pub fn worked_events(history: &mut History) {
+    let cases: [(u16, &[u16], [u64; 2]); 6] = [
+        (1, &[0], [1, 0]),
+        (64, &[0, 63], [(1 << 63) + 1, 0]),
+        (65, &[63, 64], [1 << 63, 1]),
+        (127, &[0, 64, 126], [1, (1 << 62) + 1]),
+        (128, &[63, 64, 127], [1 << 63, (1 << 63) + 1]),
+        (128, &[1, 66], [2, 4]),
+    ];
+    for (alphabet, events, bits) in cases {
+        history.begin(&repeating(alphabet, events).list(), 1);
+        history.start();
+        history.known_record(0, 1, 1, None);
+        let offered = history.offer();
+        history.known_true(offered == bits, "these events are offered");
+        let taken: Vec<u8> = events.iter().map(|&event| event as u8).collect();
+        history.feed(&taken);
+        history.known_record(taken.len() as u64, 1, 1, None);
+        history.feed(&[alphabet as u8]);
+        history.known(UNKNOWN_EVENT, 0);
+        if alphabet > 1 {
+            // 2 is in none of the sets
+            history.feed(&[2]);
+            history.known_record(taken.len() as u64 + 1, 0, 1, Some(taken.len() as u64 + 1));
+            let offered = history.offer();
+            history.known_true(offered == [0, 0], "nothing is offered after failure");
+        }
+    }
+    let body = (0..5).fold(Term::Stop, |term, _| prefix(plain(0), term));
+    let sets = vec![Set::Plain(vec![63, 127])];
+    let five = Table { alphabet: 128, sets, definitions: vec![definition(0, body)] };
+    history.begin(&five.list(), 1);
+    history.start();
+    for (event, word) in [
+        (127, (1 << 28) + (127 << 21)),
+        (63, (2 << 28) + (63 << 21) + (127 << 14)),
+        (127, (3 << 28) + (127 << 21) + (63 << 14) + (127 << 7)),
+        (127, (4 << 28) + (127 << 21) + (127 << 14) + (63 << 7) + 127),
+        (127, (5 << 28) + (127 << 21) + (127 << 14) + (127 << 7) + 63),
+    ] {
+        history.feed(&[event]);
+        let present = history.record.present();
+        history.known_true(history.lent(present)[..2] == [1, word], "this word stands");
+    }
+    history.view();
+    history.feed(&[128]);
+    history.known(UNKNOWN_EVENT, 0);
+}
+
+// The last rows that there may be: 3,072 with 65 events, and with 64 events as many as stand beside
+// a set of one row. All rows are empty but the first set's and the last; a family's last row is that
+// of the last event, which the first prefix takes.
+pub fn worked_rows(history: &mut History) {
+    for (alphabet, plain_sets, bits) in [(65u16, 17, [1, 1]), (64, 1, [(1 << 63) + 1, 0])] {
+        let last = alphabet - 1;
+        let mut sets = vec![Set::Plain(vec![last]); plain_sets];
+        sets.resize(64, Set::Rows(vec![vec![]; alphabet as usize]));
+        if let Some(Set::Rows(rows)) = sets.last_mut() {
+            rows[last as usize] = vec![0, last];
+        }
+        let recalled = prefix(SetReference { set: 63, parameter: Some(0) }, Term::Call(0));
+        let definitions = vec![definition(0, prefix(plain(0), recalled))];
+        history.begin(&Table { alphabet, sets, definitions }.list(), 1);
+        history.start();
+        history.feed(&[last as u8]);
+        let offered = history.offer();
+        history.known_true(offered == bits, "the last row's events are offered");
+        history.feed(&[0, last as u8, last as u8]);
+        history.known_record(4, 1, 1, None);
+        history.feed(&[0]);
+        history.known_record(5, 0, 1, Some(5));
     }
 }

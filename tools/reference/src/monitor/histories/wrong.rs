@@ -4,6 +4,7 @@
 use crate::monitor::examples::{list_of, K7, K8};
 use crate::monitor::history::{Fill, History};
 use crate::monitor::state::Record;
+use crate::monitor::tables::repeating;
 use crate::operations::WORK;
 use crate::random::beside;
 use crate::worked::*;
@@ -19,7 +20,8 @@ pub enum Field {
     Peak,
     Failed,
     At,
-    Mask,
+    First,
+    Second,
     Digest,
     Further,
     Kept,
@@ -36,10 +38,11 @@ fn index(field: Field, letter: char) -> Option<usize> {
         ('v', _) | (_, Area | Length) => None,
         (_, Number) => Some(0),
         (_, Place) => Some(1),
-        ('o', Mask) => Some(2),
-        ('o', Digest) => Some(3),
-        ('o', Kept) => Some(4),
-        ('o', _) | (_, Mask) => None,
+        ('o', First) => Some(2),
+        ('o', Second) => Some(3),
+        ('o', Digest) => Some(4),
+        ('o', Kept) => Some(5),
+        ('o', _) | (_, First | Second) => None,
         ('d', Further) => Some(9),
         ('d', Kept) => Some(10),
         (_, Further) => None,
@@ -60,9 +63,9 @@ fn others(field: Field, given: u64) -> Vec<u64> {
         // a refusal as a result
         (Number, 1..) => vec![0, given + 1],
         (Has | Failed | Kept | Area, _) => vec![1 - given],
-        // a bit more, and where there is one a bit less
-        (Mask, 0) => vec![1, 1 << 63],
-        (Mask, _) => vec![given ^ 1, given | 1 << 63, given & (given - 1)],
+        // a bit more or less at either end; where there is one, a bit less
+        (First | Second, 0) => vec![1, 1 << 63],
+        (First | Second, _) => vec![given ^ 1, given ^ 1 << 63, given & (given - 1)],
         (Length, 1..) => vec![0, given - 1, given + 16],
         _ => beside(given),
     }
@@ -99,7 +102,7 @@ fn disturb_peak(history: &mut History) {
 
 type Call = fn(&mut History);
 
-const CALLS: [Call; 34] = [
+const CALLS: [Call; 35] = [
     // Start: running, failed, a wrong length, a refused table, crowded
     |history| {
         history.begin(&table_b(), 1);
@@ -215,7 +218,11 @@ const CALLS: [Call; 34] = [
         enter(history, &list_of(&K8), &[]);
         history.try_feed(&[0]);
     },
-    // Offer: running, failed, a wrong length, disturbed, by the peak too
+    // Offer: running, with bits in both words too, failed, a wrong length, disturbed, by the peak too
+    |history| {
+        enter(history, &repeating(128, &[63, 64, 127]).list(), &[127]);
+        history.offer();
+    },
     |history| {
         enter(history, &table_b(), &[0]);
         history.offer();

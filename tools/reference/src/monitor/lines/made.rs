@@ -90,6 +90,23 @@ pub fn refused_tables(random: &mut Random) -> Case {
     Case::new(random, input).known(&format!("refused {} {place}", fault.number))
 }
 
+// The last events of an alphabet, at both sides of a word's end, and the first beyond (02, W6).
+pub fn worked_events(random: &mut Random) -> Vec<Case> {
+    let mut cases = Vec::new();
+    for (alphabet, last) in [(63, 62), (64, 63), (65, 64), (127, 126), (128, 127)] {
+        let bytes = bytes_of_list(&tables::repeating(alphabet, &[0, last]).list());
+        let (last, beyond) = (last as u8, alphabet as u8);
+        let mut case = |events: &[u8], line: &str| {
+            cases.push(Case::new(random, input_of(&bytes, events)).known(line));
+        };
+        case(&[last, 0, last], "running 3 1");
+        case(&[last, 1, last], "failed 2 3");
+        case(&[0, last, beyond, last], "refused 11 2");
+        case(&[beyond], "refused 11 0");
+    }
+    cases
+}
+
 // 16,384 bytes of table, and events at both sides of the front's end; one byte more is 2.
 pub fn long_tables(random: &mut Random) -> Vec<Case> {
     let body = prefix(plain(0), choice(prefix(plain(1), Term::Stop), Term::Call(0)));
