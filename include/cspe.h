@@ -55,7 +55,7 @@ typedef struct cspe_monitor {
 static inline uint32_t cspe_monitor_open_slots(cspe_monitor *m, const uint8_t *table, size_t table_length,
                                                size_t slots) {
     size_t i;
-    uint64_t count = 0;
+    uint64_t count = 0, opened = 0;
     uint32_t refusal;
     for (i = 0; i < CSPE_RECORD_WORDS; i++) m->record[i] = 0;
     m->record[CSPE_FAILED] = 1; /* a monitor that was not opened permits nothing */
@@ -69,8 +69,9 @@ static inline uint32_t cspe_monitor_open_slots(cspe_monitor *m, const uint8_t *t
         return refusal;
     }
     m->list_length = (size_t)count;
-    return cspe_start(m->list, m->list_length, m->record, CSPE_RECORD_WORDS, m->areas[0], m->area_words, m->areas[1],
-                      m->area_words, m->work, CSPE_WORK_WORDS, &m->place);
+    /* no events: `table` is lent for a pointer that is not NULL, and `opened` is 1 just where nothing is refused */
+    return cspe_open(m->list, m->list_length, m->record, CSPE_RECORD_WORDS, m->areas[0], m->area_words, m->areas[1],
+                     m->area_words, table, 0, m->work, CSPE_WORK_WORDS, &m->place, &opened);
 }
 
 /*

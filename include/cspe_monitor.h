@@ -1,7 +1,7 @@
 /*
- * A runtime monitor for tables in the process algebra CSP_E, as a static library for C: the six operations of
- * document 01 (Read, Write, Start, Feed, Offer, View), and of document 02 the office's lot sheet (W2), Try (W4) and
- * Feed in wash hours (W5); tables have up to 128 events (W6). `rt staticlib monitor_c` proves and writes it
+ * A runtime monitor for tables in the process algebra CSP_E, as a static library for C: of document 01 Read, Write,
+ * Feed, Offer and View, and of document 02 the office's lot sheet (W2), Try (W4), Feed in wash hours (W5) and Open
+ * (W7); tables have up to 128 events (W6). `rt staticlib monitor_c` proves and writes it
  * (target/staticlib/libmonitor_c.a, for x86-64 Linux). Each function is proved to return, and to leave in every word
  * that it is lent, what crates/words/specs defines (of cspe_sheet crates/sheet_words/specs, of cspe_timed_feed
  * crates/wash_words/specs), on every input: no call has a condition but those below.
@@ -9,16 +9,18 @@
  * What is lent. Every buffer is the caller's, and is lent for one call: a pointer, and after it how many elements it
  * points to. A pointer is aligned for its type and is never NULL, also where its length is 0. A buffer that a call may
  * write (its pointer is not const) overlaps no other buffer of that call, and the word behind the last pointer lies in
- * none of them (of cspe_offer the two words behind the last two, which are two). The library allocates nothing and
- * keeps nothing between calls, so calls on different buffers may run at the same time.
+ * none of them (the last two pointers of cspe_open and of cspe_offer: each word lies in none of them, nor in the
+ * other). The library allocates nothing and keeps nothing between calls, so calls on different buffers may run at the
+ * same time.
  *
  * Stack. 42 KiB were measured on most tables, and 58 KiB where eight leaves of a residual move together and each has
  * several results (tools/stack). A start in wash hours (cspe_timed_feed) has an array of 32 KiB more: 75 and 91 KiB
  * were measured. No proof bounds it; a thread with 128 KiB has room.
  *
  * What is returned. Each function but cspe_view returns the refusal's number, 0 where there is none (enum
- * cspe_refusal). One more word is written through the last pointer on every call: the result, the
- * refusal's place, or 0. cspe_offer writes two, through its last two pointers.
+ * cspe_refusal). One more word is written through the last pointer on every call: the result, the refusal's place, or
+ * 0. cspe_offer writes two, through its last two pointers. cspe_open writes the place through the last pointer but one,
+ * and through the last whether there is a monitor.
  *
  * The record of a monitor is CSPE_RECORD_WORDS words, at these indices:
  *     CSPE_TAKEN        how many events were taken
@@ -26,8 +28,8 @@
  *     CSPE_FAILED       0 running, 1 failed; a call that reads a record takes any word but 0 for failed
  *     CSPE_PLACE        how many events were taken when it failed, that event counted; 0 while it runs, and then not
  *                       read
- *     CSPE_PEAK         the most residuals that were held at a time since Start, those held now included. An event that
- *                       is refused, and those after a failure, do not move it; Start begins it anew. Areas are sized
+ *     CSPE_PEAK         the most residuals that were held at a time since Open, those held now included. An event that
+ *                       is refused, and those after a failure, do not move it; Open begins it anew. Areas are sized
  *                       by it: so many slots, and at least one, would have done for the events taken
  *                       (docs/USING.md). It is at least
  *                       CSPE_RESIDUALS and at most the slots, else the record is refused (10)
@@ -53,7 +55,7 @@ extern "C" {
 #endif
 
 /* It goes up by one where the library changes for a caller; docs/CHANGELOG.md says how. */
-#define CSPE_VERSION 6
+#define CSPE_VERSION 7
 
 /* A table has at most so many bytes. */
 #define CSPE_TABLE_BYTES 16384
@@ -88,8 +90,9 @@ extern "C" {
 /*
  * The refusals, with document 01's words and their places. They are tried in this order: 1; 2; 3 to 5 at each number
  * from the left; 6; 7 from the left; 8; 9; 10; at each event 11, 12, 13. On a number list (all functions but
- * cspe_read) 4 is never met, and 2 is tried right after 9. cspe_sheet alone gives 14 and 15, and in another order;
- * cspe_timed_feed alone gives 16 and 17, and its order stands with it.
+ * cspe_read) 4 is never met, and 2 is tried right after 9. cspe_open tries 13 for the table alone before the first
+ * event. cspe_sheet alone gives 14 and 15, and in another order; cspe_timed_feed alone gives 16 and 17, and its order
+ * stands with it.
  */
 enum cspe_refusal {
     CSPE_NONE = 0,
@@ -104,9 +107,9 @@ enum cspe_refusal {
     CSPE_TOO_WIDE = 8,           /* too many hands: a level's width is above 8; place: the lowest such level */
     CSPE_TOO_MANY_BRANCHES = 9,  /* too many openings: above 256; place: the lowest such term */
     CSPE_INCONSISTENT = 10,      /* disturbed: record and areas disagree, the peak and the slots too; place 0 */
-    CSPE_UNKNOWN_EVENT = 11,     /* strange event: it is not below the alphabet's size; place: events taken by this call */
+    CSPE_UNKNOWN_EVENT = 11,     /* strange event: not below the alphabet's size; place: events taken by this call */
     CSPE_COUNTER_FULL = 12,      /* counter full: 2^64 - 1 events were taken; place: the same */
-    CSPE_CAPACITY_EXCEEDED = 13, /* crowded: more residuals than the areas have room for; place: the same, 0 at Start */
+    CSPE_CAPACITY_EXCEEDED = 13, /* crowded: more residuals than the areas have room for; place: the same */
     CSPE_BAD_BOOK = 14,          /* bad book: a record of a lot book is not as it must be; place: its index, from 0 */
     CSPE_TOTAL_TOO_LARGE = 15,   /* total over 2^64 - 1: the sum of what a lot book's records took; place 0 */
     CSPE_BAD_TIMETABLE = 16,     /* bad timetable: its windows are not as they must be; place 0 */
@@ -144,23 +147,33 @@ uint32_t cspe_write(const uint16_t *list, size_t list_length, uint8_t *bytes, si
                     uint64_t *work, size_t work_length, uint64_t *value);
 
 /*
- * Start: a monitor of the table, no event taken.
+ * Open: a monitor of the table, which takes events from the first. Each is one byte.
  *     list            the number list of a table
  *     record          CSPE_RECORD_WORDS words, of any content
  *     area0, area1    the areas, of any content
+ *     events          any number of events, or none
  *     work            CSPE_WORK_WORDS words, of any content
- * 0           record and areas are the monitor: running, or failed at 0 where no residual is left; *place is 0
- * 1 to 9      record and areas are kept
- * 13          record is kept, both areas are zeroed
- * On a refusal *place is its place. The work area is zeroed, but kept on 1.
+ * *opened is 1 where this call gave a record, also where an event was refused: record and areas are its monitor. It is
+ * 0 where this call gave none: the words of record are then those that the caller lent.
+ * 0           record and areas are the monitor after all events; of none it is the table's first monitor: running, or
+ *             failed at 0 where no residual is left; *opened is 1, *place is 0
+ * 1 to 9      record and areas are kept; *opened is 0
+ * 11, 12      record and areas are the monitor after the events before the refused one; *opened is 1, and *place is
+ *             their number. It can be fed on
+ * 13          *opened is 1: so here too; where *place is 0, the first event was too much, and record and areas are the
+ *             monitor before it. *opened is 0: the table has more residuals than the areas have room for before any
+ *             event, whatever the events are; record is kept, both areas are zeroed, *place is 0
+ * So 13 at place 0 is told apart by *opened, and nothing else tells it. On a refusal *place is its place. The work area
+ * is zeroed, but kept on 1.
  */
-uint32_t cspe_start(const uint16_t *list, size_t list_length, uint64_t *record, size_t record_length,
-                    uint64_t *area0, size_t area0_length, uint64_t *area1, size_t area1_length,
-                    uint64_t *work, size_t work_length, uint64_t *place);
+uint32_t cspe_open(const uint16_t *list, size_t list_length, uint64_t *record, size_t record_length,
+                   uint64_t *area0, size_t area0_length, uint64_t *area1, size_t area1_length,
+                   const uint8_t *events, size_t events_length, uint64_t *work, size_t work_length,
+                   uint64_t *place, uint64_t *opened);
 
 /*
  * Feed: the monitor takes events, from the first. Each is one byte.
- *     list                    the number list that the monitor was started with
+ *     list                    the number list that the monitor was opened with
  *     record, area0, area1    the monitor
  *     events                  any number of events, or none
  *     work                    CSPE_WORK_WORDS words, of any content
@@ -177,7 +190,7 @@ uint32_t cspe_feed(const uint16_t *list, size_t list_length, uint64_t *record, s
 
 /*
  * Try: what cspe_feed would make of events, without feeding them.
- *     list                         the number list that the monitor was started with
+ *     list                         the number list that the monitor was opened with
  *     record, area0, area1         the monitor, which is only read
  *     further_record               CSPE_RECORD_WORDS words, of any content
  *     further0, further1           as long as area0 and area1, of any content
@@ -232,7 +245,7 @@ uint32_t cspe_timed_feed(const uint16_t *everyday, size_t everyday_length, const
 
 /*
  * Offer: which events may come next.
- *     list                    the number list that the monitor was started with
+ *     list                    the number list that the monitor was opened with
  *     record, area0, area1    the monitor, which is only read
  *     work                    CSPE_WORK_WORDS words, of any content
  * 0           a bit for each event below the alphabet's size: bit e of *value is event e, of *second event 64 + e. It
@@ -248,9 +261,9 @@ uint32_t cspe_offer(const uint16_t *list, size_t list_length, const uint64_t *re
 /*
  * View: where the residuals stand. It takes no table and never refuses.
  *     record, area0, area1    the monitor, which is only read
- * It returns how many words the residuals' slots are; they begin area *area, which is 0 or 1. It returns 0, and *area is
- * 0, after a failure, where the record holds no residual or more than that area has room for, and where record is not
- * of CSPE_RECORD_WORDS words. The peak is not read.
+ * It returns how many words the residuals' slots are; they begin area *area, which is 0 or 1. It returns 0, and *area
+ * is 0, after a failure, where the record holds no residual or more than that area has room for, and where record is
+ * not of CSPE_RECORD_WORDS words. The peak is not read.
  * A slot is CSPE_SLOT_WORDS words: how many nodes the residual has, a word for each node, each parallel before its
  * sides, and zeros. A node's word is its term's number times 2^28 and the last four events that it remembers, the
  * nearest first, times 2^21, 2^14, 2^7 and 1.

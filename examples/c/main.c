@@ -1,8 +1,8 @@
 /*
  * The monitor from C: table B of document 01 (an alphabet of 3; prefix {0}, prefix {1}, call 0) is read, a monitor is
- * started and fed `0 1 0` in pieces, then asked what events would do, and each answer is checked. Then areas are sized
- * for another table: by the peak of a trial lot. It prints a line for each call, and ends with status 1 at the first
- * answer that is not the expected one. In the repository's root:
+ * opened and fed `0 1 0` in pieces, then asked what events would do, and each answer is checked. Then areas are sized
+ * for another table: by the peak of a trial lot, with which a monitor is opened in one go. It prints a line for each
+ * call, and ends with status 1 at the first answer that is not the expected one. In the repository's root:
  *
  *     rt staticlib monitor_c
  *     cc -std=c99 -O2 -Iinclude -o target/example examples/c/main.c target/staticlib/libmonitor_c.a
@@ -14,7 +14,9 @@
 #include <string.h>
 
 #include "cspe_monitor.h"
-/* the tables, which `tools/cspe c` writes: table B, and drawing K8 (prefix {0} to STOP, twice, side by side) */
+/* the tables, which `tools/cspe c` writes: table B; drawing K8 (prefix {0} to STOP, twice, side by side); and drawing K7
+   (prefix {0} to STOP, or prefix {0} to prefix {1} to STOP) */
+#include "k7.h"
 #include "k8.h"
 #include "table_b.h"
 
@@ -36,10 +38,12 @@ static void expect(int holds, const char *what) {
     }
 }
 
-static uint32_t start(size_t words, uint64_t *place) {
+/* A monitor with areas of so many words, after these events; *opened says whether there is one. */
+static uint32_t open_monitor(size_t words, const uint8_t *events, size_t events_length, uint64_t *place,
+                             uint64_t *opened) {
     area_words = words;
-    return cspe_start(list, list_length, record, CSPE_RECORD_WORDS, area[0], area_words, area[1], area_words, work,
-                      CSPE_WORK_WORDS, place);
+    return cspe_open(list, list_length, record, CSPE_RECORD_WORDS, area[0], area_words, area[1], area_words, events,
+                     events_length, work, CSPE_WORK_WORDS, place, opened);
 }
 
 static uint32_t feed(const uint8_t *events, size_t events_length, uint64_t *place) {
@@ -112,14 +116,15 @@ static void read_and_write(void) {
 }
 
 static void follow(void) {
-    uint64_t place;
-    uint32_t number = start(0, &place);
-    show_refusal("start without slots", number, place, CSPE_WRONG_LENGTH, 0);
-    expect(start(AREA_WORDS, &place) == CSPE_NONE, "start");
-    show("start", 0, 1, 0, 0, 1);
+    const uint8_t events[] = {0, 1, 0};
+    uint64_t place, opened;
+    uint32_t number = open_monitor(0, events, 0, &place, &opened);
+    show_refusal("open without slots", number, place, CSPE_WRONG_LENGTH, 0);
+    expect(opened == 0, "no monitor");
+    expect(open_monitor(AREA_WORDS, events, 0, &place, &opened) == CSPE_NONE && opened == 1, "open");
+    show("open", 0, 1, 0, 0, 1);
     show_offer(1);
 
-    const uint8_t events[] = {0, 1, 0};
     expect(feed(events, 1, &place) == CSPE_NONE, "feed of the first piece");
     show("feed 0", 1, 1, 0, 0, 1);
     show_offer(2);
@@ -180,21 +185,30 @@ static void size_areas(void) {
     expect(number == CSPE_NONE, "read of another table");
     list_length = (size_t)value;
 
-    uint64_t place;
-    expect(start(CSPE_AREA_WORDS_MOST, &place) == CSPE_NONE, "start with 256 slots");
-    expect(feed(lot, sizeof lot, &place) == CSPE_NONE, "feed of a trial lot");
+    uint64_t place, opened;
+    number = open_monitor(CSPE_AREA_WORDS_MOST, lot, sizeof lot, &place, &opened);
+    expect(number == CSPE_NONE, "open with 256 slots and a trial lot");
     show("trial lot with 256 slots", 2, 1, 0, 0, 2);
     size_t slots = (size_t)record[CSPE_PEAK];
 
-    expect(start(slots * CSPE_SLOT_WORDS, &place) == CSPE_NONE, "start with the peak's slots");
-    expect(feed(lot, sizeof lot, &place) == CSPE_NONE, "feed of the same lot");
+    number = open_monitor(slots * CSPE_SLOT_WORDS, lot, sizeof lot, &place, &opened);
+    expect(number == CSPE_NONE, "open with the peak's slots");
     show("the same with 2 slots", 2, 1, 0, 0, 2);
 
-    /* one slot less: an event is refused, which does not move the peak */
-    expect(start((slots - 1) * CSPE_SLOT_WORDS, &place) == CSPE_NONE, "start with a slot less");
-    number = feed(lot, sizeof lot, &place);
+    /* one slot less: the first event is refused, which does not move the peak, and there is a monitor */
+    number = open_monitor((slots - 1) * CSPE_SLOT_WORDS, lot, sizeof lot, &place, &opened);
     show_refusal("the same with 1 slot", number, place, CSPE_CAPACITY_EXCEEDED, 0);
+    expect(opened == 1, "a monitor before the refused event");
     show("the record", 0, 1, 0, 0, 1);
+
+    /* two residuals before any event, and one slot: the same number and place, and no monitor */
+    number = cspe_read(k7_table, sizeof k7_table, list, CSPE_NUMBERS, work, CSPE_WORK_WORDS, &value);
+    expect(number == CSPE_NONE, "read of a third table");
+    list_length = (size_t)value;
+    number = open_monitor(CSPE_SLOT_WORDS, lot, sizeof lot, &place, &opened);
+    show_refusal("a table that begins with 2, and 1 slot", number, place, CSPE_CAPACITY_EXCEEDED, 0);
+    expect(opened == 0, "no monitor");
+    show("the record is kept", 0, 1, 0, 0, 1);
 }
 
 int main(void) {

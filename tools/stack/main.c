@@ -24,7 +24,7 @@ static uint8_t events[1] = {0};
 static uint64_t minutes[1] = {0};
 static uint16_t windows[1];
 static uint32_t said;
-static uint64_t word, second;
+static uint64_t word, second, opened;
 
 static void put(uint16_t n) { list[length++] = n; }
 
@@ -71,10 +71,18 @@ static void deep_feed(int leaves, int several) {
     }
 }
 
-static void *start(void *unused) {
+/* with no event */
+static void *settle(void *unused) {
     (void)unused;
-    said = cspe_start(list, length, record, CSPE_RECORD_WORDS, area0, CSPE_AREA_WORDS_MOST, area1,
-                      CSPE_AREA_WORDS_MOST, work, CSPE_WORK_WORDS, &word);
+    said = cspe_open(list, length, record, CSPE_RECORD_WORDS, area0, CSPE_AREA_WORDS_MOST, area1, CSPE_AREA_WORDS_MOST,
+                     events, 0, work, CSPE_WORK_WORDS, &word, &opened);
+    return NULL;
+}
+
+static void *open_and_feed(void *unused) {
+    (void)unused;
+    said = cspe_open(list, length, record, CSPE_RECORD_WORDS, area0, CSPE_AREA_WORDS_MOST, area1, CSPE_AREA_WORDS_MOST,
+                     events, 1, work, CSPE_WORK_WORDS, &word, &opened);
     return NULL;
 }
 
@@ -147,9 +155,11 @@ static void show_timed(const char *what, size_t base) {
 int main(void) {
     size_t base = touched(nothing);
     head(16, 16, 31);
-    show("start, 16 definitions", start, base);
+    show("open, 16 definitions", settle, base);
     head(32, 32, 15);
-    show("start, 32 definitions", start, base);
+    show("open, 32 definitions", settle, base);
+    show("open, 32 definitions, one event", open_and_feed, base);
+    settle(NULL);
     show("feed, one prefix", feed, base);
     show("offer, one prefix", offer, base);
     show_timed("timed feed, one prefix", base);
@@ -157,14 +167,15 @@ int main(void) {
         for (int leaves = 1; leaves <= 8; leaves *= 2) {
             char what[64];
             deep_feed(leaves, several);
-            start(NULL);
+            settle(NULL);
             snprintf(what, sizeof what, "feed, %d leaves, %s", leaves, several ? "several results" : "one result");
             show(what, feed, base);
             snprintf(what, sizeof what, "timed feed, %d leaves, %s", leaves, several ? "several" : "one result");
             show_timed(what, base);
         }
     }
-    start(NULL);
+    show("open, 8 leaves, several results", open_and_feed, base);
+    settle(NULL);
     show("try, 8 leaves, several results", try_feed, base);
     return 0;
 }

@@ -1,4 +1,4 @@
-// An input with fewer slots than the program has: by Read, Start and Feed themselves.
+// An input with fewer slots than the program has: by Read and Open themselves.
 //     slots_right      held to its stored line
 use crate::trial::Told;
 use crate::trial::same;
@@ -7,35 +7,18 @@ use cases::fill_numbers;
 use cases::fill_words;
 use line::Head;
 use monitor::Answer;
-use monitor::State;
 
-// Feed's answer as a line.
-fn feed_right(
+// Open's answer as a line.
+fn answer_right(
     list: &[u16],
-    state: State,
     area0: &mut [u64],
     area1: &mut [u64],
     events: &[u8],
     work: &mut [u64],
     s: Told,
 ) -> bool {
-    match monitor::feed(list, state, area0, area1, events, work) {
+    match monitor::open(list, area0, area1, events, work) {
         Answer::Given(last) => same(line::conclude(last), s),
-        Answer::Refused(r) => same_refusal(r, s),
-        Answer::Stopped(r, _) => same_refusal(r, s),
-    }
-}
-
-fn start_right(
-    list: &[u16],
-    area0: &mut [u64],
-    area1: &mut [u64],
-    events: &[u8],
-    work: &mut [u64],
-    s: Told,
-) -> bool {
-    match monitor::start(list, area0, area1, work) {
-        Answer::Given(state) => feed_right(list, state, area0, area1, events, work, s),
         Answer::Refused(r) => same_refusal(r, s),
         Answer::Stopped(r, _) => same_refusal(r, s),
     }
@@ -56,7 +39,7 @@ fn read_right(
             if 16384 < n {
                 return false;
             }
-            start_right(&list[..n], area0, area1, events, work, s)
+            answer_right(&list[..n], area0, area1, events, work, s)
         }
         table::Answer::Refused(r) => same_refusal(r, s),
     }

@@ -1,7 +1,7 @@
-// The front of an input: its table read, and the monitor started.
+// The front of an input: its table read, and a monitor opened.
 ghost use mathlib.Core.Path.{_≡_};
 ghost use lib.ListN.{length};
-ghost use Rattle.monitor_spec.specs.Start.{startOf};
+ghost use Rattle.line_spec.specs.Line.{freshOn};
 ghost use Rattle.line_spec.specs.Opening.{lentFit, startedOn, openTable, openOf};
 ghost use Rattle.line.specs.Answers.{openSaid};
 use crate::answer::Opened;
@@ -26,8 +26,8 @@ fn lent_fit(list: usize, area0: usize, area1: usize, work: usize) -> bool
     work == 8192
 }
 
-// Starts the monitor on a list of so many numbers; its events begin at `next`.
-fn start_list(
+// Opens a monitor on a list of so many numbers, with no event; its events begin at `next`.
+fn open_list(
     list: &[u16],
     next: usize,
     area0: &mut [u64],
@@ -38,10 +38,10 @@ fn start_list(
         ⌜ openSaid r (now (list .entry)) (now (area0 .exit)) (now (area1 .exit))
         (now (work .exit))
         ≡ startedOn (length (now (list .entry))) next (now (list .entry))
-        (startOf (now (list .entry)) (now (area0 .entry)) (now (area1 .entry))
+        (freshOn (now (list .entry)) (now (area0 .entry)) (now (area1 .entry))
         (now (work .entry))) ⌝ }
 {
-    match starting::start(list, area0, area1, work) {
+    match opening::open(list, area0, area1, &[], work) {
         Answer::Given(state) => Opened::Started {
             state,
             count: list.len(),
@@ -52,7 +52,7 @@ fn start_list(
     }
 }
 
-// Reads a table and starts the monitor on it.
+// Reads a table and opens a monitor on it.
 fn open_table(
     bytes: &[u8],
     next: usize,
@@ -68,13 +68,13 @@ fn open_table(
         (now (area1 .entry)) (now (work .entry)) ⌝ }
 {
     match codec::read(bytes, list, work) {
-        table::Answer::Count(count) => start_list(&list[..count], next, area0, area1, work),
+        table::Answer::Count(count) => open_list(&list[..count], next, area0, area1, work),
         table::Answer::Refused(refusal) => Opened::Refused(refusal),
     }
 }
 
 // Reads the head and the table of an input, of which the rest may be missing after its first
-// 16,387 bytes, and starts the monitor. Lent lengths are tried first.
+// 16,387 bytes, and opens the monitor. Lent lengths are tried first.
 pub fn open(
     input: &[u8],
     list: &mut [u16],

@@ -38,7 +38,7 @@ use Rattle.monitor_spec.specs.Entering.{measuring, judging, entrance, agreeing,
 use Rattle.monitor_spec.specs.Fold.{through}
 use Rattle.monitor_spec.specs.Feed.{presentSlots, nextSlots, taking, eventRefused, takeEvent, endingOf}
 use Rattle.monitor_spec.specs.Feed.{feedOf}
-use Rattle.monitor_spec.specs.Start.{startAccepted, startOf}
+use Rattle.monitor_spec.specs.Open.{freshMonitor, openAccepted, openOf}
 use Rattle.line_spec.specs.Line.{cut, headBy, headOf, verdictLine, stateLine, answerLine, fresh, monitorLeft}
 use Rattle.line_spec.specs.Line.{startedBy}
 use Rattle.line_spec.specs.Line.{startedLine, readLine, headLine, lineOf}
@@ -57,7 +57,7 @@ unfolding flatMap size sizes bodyOf bodyNumber termIn termOfDefs termAt prefixes
     oneTree slotResidual held digitFits memoryFits memoriesFit reachAt reachSum validSlot areasMeasured workMeasured
     slotCount even choose chunks flatten fill every allZero ascendsFrom ascends verdictFits peakFits recordFits areaFits
     consistent through presentSlots nextSlots nextVerdict freshState stateAfter counted holding taking eventRefused
-    takeEvent endingOf feedOf measuring judging entrance agreeing entranceOn entering refusing startAccepted startOf
-    carry later scanWith readNumber byteToken byteTokensWith byteTokens judgeBytes cut headBy headOf verdictLine
+    takeEvent endingOf feedOf measuring judging entrance agreeing entranceOn entering refusing freshMonitor openAccepted
+    openOf carry later scanWith readNumber byteToken byteTokensWith byteTokens judgeBytes cut headBy headOf verdictLine
     stateLine answerLine fresh monitorLeft startedBy startedLine readLine headLine lineOf drawn Rows
 rows = (refl, refl, refl, refl, refl, refl, refl, refl, refl, refl, refl, refl, refl, refl, refl, refl, refl)

@@ -8,7 +8,8 @@ use Rattle.line_spec.specs.Claims.{LineIsLent, PiecesAreLent, OpenLeaves
 use Rattle.monitor_spec.specs.Feed.{feedOf}
 use Rattle.monitor_spec.specs.State.{Verdict}
 use Rattle.line_spec.specs.Line.Laws.{head-ways}
-use Rattle.line_spec.specs.Claims.{HeadsAre, LentExactly, ResumeLeaves, PieceEnds, LineLeaves}
+use Rattle.line_spec.specs.Line.Opened.{whole-opened}
+use Rattle.line_spec.specs.Claims.{HeadsAre, LentExactly, LineIsOpened, ResumeLeaves, PieceEnds, LineLeaves}
 use Rattle.line_spec.specs.Line.{monitorLeft, verdictLine, stateLine}
 use Rattle.line_spec.specs.Pieces.{over, fed, fedBy, concludeOf, afterPiece}
 use Rattle.line_spec.specs.Opening.{openOf}
@@ -28,6 +29,10 @@ lent-exactly l a b w = (
   λ e. let d = lent-out l a b w e in (d .list, d .area0, d .area1, d .work),
   λ h. lent-in l a b w (record { list = h .0; area0 = h .1; area1 = h .2; work = h .3 }),
 )
+
+pub line-is-opened : LineIsOpened
+unfolding LineIsOpened
+line-is-opened = whole-opened
 
 pub line-is-lent : LineIsLent
 unfolding LineIsLent

@@ -2,6 +2,7 @@
 -- the same name.
 --     HeadsAre          what the head of an input is, by its bytes
 --     LentExactly       the lent lengths that `open` and `line` take
+--     LineIsOpened      the line of an input with an accepted table is that of one Open with its events
 --     LineIsLent        what `line` says is the line of the input, or refusal 1
 --     PiecesAreLent     so is what `open`, `resume` on piece after piece, and `conclude` say
 --     EndsArePieces     the same where `after_piece` is asked of each piece, as the program does
@@ -27,10 +28,13 @@ use lib.ListN.{length, take, drop}
 use Rattle.monitor_spec.specs.State.{running, failedAt, State, Monitor, given, stopped}
 use Rattle.monitor_spec.specs.State as state
 use Rattle.monitor_spec.specs.Feed.{feedOf}
+use Rattle.monitor_spec.specs.Open as operation
 use Rattle.numbers.specs.Number.{Bytes}
-use Rattle.table.specs.Table.{fixed, Term, stop, prefix, choice, par, one}
+use Rattle.table.specs.Table.{Table, fixed, Term, stop, prefix, choice, par, one}
+use Rattle.table.specs.Judge.{accepted, judgeBytes}
+use Rattle.table.specs.Operations.{zeros}
 use Rattle.table.specs.Writing.{numbersOf}
-use Rattle.line_spec.specs.Line.{headOf, HeadWay, Line, runs, fails, refused, lineOf}
+use Rattle.line_spec.specs.Line.{parts, headOf, HeadWay, Line, runs, fails, refused, answerLine, lineOf}
 use Rattle.line_spec.specs.Pieces.{Course, going, over, afterPiece, fed, concludeOf, pieceOf, frontOf, piecesOf}
 use Rattle.line_spec.specs.Opening.{lent, started, refuses, openOf, openCourse, OpenWay, Began}
 use Rattle.line_spec.specs.Whole.{resumeOf, wholeOf}
@@ -46,6 +50,12 @@ unfoldable pub LentExactly : Type 0
 LentExactly =
     (l a b w : List ℕ) → (lent l a b w ≡ true)
     ↔ ((length l ≡ 16384) × (length a ≡ 4096) × (length b ≡ 4096) × (length w ≡ 8192))
+
+-- 02, W7: "the program .. use Open": with 256 slots, and the events of the input
+unfoldable pub LineIsOpened : Type 0
+LineIsOpened =
+    (s bs es ns : List ℕ) (t : Table) → headOf s ≡ parts bs es → judgeBytes bs ≡ accepted ns t
+    → lineOf s ≡ answerLine (operation.openOf ns (zeros 4096) (zeros 4096) es (zeros 8192) .answer)
 
 -- 01, "The program and its lines", whatever stood in the lent buffers
 unfoldable pub LineIsLent : Type 0
@@ -70,13 +80,15 @@ OpenLeaves = (s l a b w : List ℕ) → OpenWay s l a b w (openOf s l a b w)
 pub record ResumeLeaves : Type 0 where
   pub words : (l : List ℕ) (m : Monitor) (es w : List ℕ)
       → let f = feedOf l m es w in
-      (resumeOf l m es w .area0 ≡ f .area0) × (resumeOf l m es w .area1 ≡ f .area1) × (resumeOf l m es w .work ≡ f .work)
+      (resumeOf l m es w .area0 ≡ f .area0) × (resumeOf l m es w .area1 ≡ f .area1)
+      × (resumeOf l m es w .work ≡ f .work)
   pub goes : (l : List ℕ) (m : Monitor) (es w : List ℕ) (s : State) → feedOf l m es w .answer ≡ given s
       → let f = feedOf l m es w in
       resumeOf l m es w .course ≡ going l (record { state = s; area0 = f .area0; area1 = f .area1 })
   pub refusal-line : (l : List ℕ) (m : Monitor) (es w : List ℕ) (n p : ℕ) → feedOf l m es w .answer ≡ state.refused n p
       → resumeOf l m es w .course ≡ over (refused n p)
-  pub stopped-line : (l : List ℕ) (m : Monitor) (es w : List ℕ) (n p : ℕ) (s : State) → feedOf l m es w .answer ≡ stopped n p s
+  pub stopped-line : (l : List ℕ) (m : Monitor) (es w : List ℕ) (n p : ℕ) (s : State)
+      → feedOf l m es w .answer ≡ stopped n p s
       → resumeOf l m es w .course ≡ over (refused n (s .taken))
 
 -- after the last piece the line of the record stands, or the one that stood; before it nothing changes

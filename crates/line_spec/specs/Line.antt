@@ -2,13 +2,14 @@
 --     Head, headOf                  an input's table bytes and events, or what is wrong with its length number
 --     HeadWay                       what a head is, by the bytes of the input
 --     Line                          what is printed
---     stateLine, answerLine         of a record; of an answer of Start or Feed
---     fresh, startedLine, lineOf    a fresh monitor of 256 slots; of a number list and events; of a whole input
--- The laws are in `Line/Laws.antt`. Assumes nothing.
+--     stateLine, answerLine         of a record; of an answer of Open or Feed
+--     freshOn, fresh                Open of an empty list; of 256 slots
+--     startedLine, lineOf           of a number list and events; of a whole input
+-- The laws are in `Line/`: `Laws`; `Opened`, of one Open with all events. Assumes nothing.
 use Prim.Native.Nat.{ℕ, _≤_, _<_}
 use mathlib.Core.Path.{_≡_}
 use mathlib.Core.Bool.{true, false}
-use mathlib.Core.List.{List, _++_}
+use mathlib.Core.List.{List, [], _++_}
 use lib.ListN.{length, take, drop}
 use lib.Dec.{ltb}
 use Rattle.numbers.specs.Number.{Scan, value, truncated, malformed, readNumber, bytesOf, Incomplete, IllWritten}
@@ -16,9 +17,10 @@ use Rattle.table.specs.Judge.{Judgement, accepted, declined, judgeBytes}
 use Rattle.table.specs.Operations.{zeros}
 use Rattle.monitor_spec.specs.State.{Verdict, running, failedAt, State, Monitor, Answer, given, stopped, Outcome}
 use Rattle.monitor_spec.specs.State as state
-use Rattle.monitor_spec.specs.Start.{startOf}
 use Rattle.monitor_spec.specs.Feed.{feedOf}
+use Rattle.monitor_spec.specs.Open.{openOf}
 pub mod Laws
+pub mod Opened
 
 pub data Head : Type 0 where
   parts : List ℕ → List ℕ → Head
@@ -73,15 +75,19 @@ answerLine (given s) = stateLine s
 answerLine (state.refused n p) = refused n p
 answerLine (stopped n p s) = refused n p
 
+-- 02, W7: "the program .. use Open": with an empty list, on lent areas a and b
+abbrev pub freshOn : List ℕ → List ℕ → List ℕ → List ℕ → Outcome
+freshOn l a b w = openOf l a b [] w
+
 -- "256 slots": 4,096 words
 unfoldable pub fresh : List ℕ → Outcome
-fresh l = startOf l (zeros 4096) (zeros 4096) (zeros 8192)
+fresh l = freshOn l (zeros 4096) (zeros 4096) (zeros 8192)
 
 -- the monitor that an outcome leaves: a record with its areas
 unfoldable pub monitorLeft : Outcome → State → Monitor
 monitorLeft o s = record { state = s; area0 = o .area0; area1 = o .area1 }
 
--- Start's answer, with its outcome o, and then Feed's; Start gives none of the third form
+-- Open's answer, with its outcome o, and then Feed's; of an empty list there is none of the third form
 unfoldable pub startedBy : List ℕ → List ℕ → Outcome → Answer → Line
 startedBy l es o (given s) = answerLine (feedOf l (monitorLeft o s) es (zeros 8192) .answer)
 startedBy l es o (state.refused n p) = refused n p

@@ -1,7 +1,7 @@
 -- What `open` gives, with every lent word (ours): the front of an input read into lent buffers, and started.
 --     lentFit, lent               whether lent lengths are the program's
 --     OpenAnswer, OpenOutcome     a record with two numbers, or a refusal; with what stands in the lent buffers
---     startedOn, openTable        of a list that Start was called on; of a table's bytes
+--     startedOn, openTable        of a list that was opened; of a table's bytes
 --     openOf                      of an input
 --     OpenWay                     its ways, with every lent word of each
 --     openCourse, Began           what it leaves, as a course; what holds where there is a record
@@ -18,8 +18,7 @@ use Rattle.table.specs.Operations.{done, refusal, zeros, readOf}
 use Rattle.table.specs.Operations as read
 use Rattle.monitor_spec.specs.State.{State, Answer, given, stopped, Outcome}
 use Rattle.monitor_spec.specs.State as state
-use Rattle.monitor_spec.specs.Start.{startOf}
-use Rattle.line_spec.specs.Line.{Head, parts, wrong, headOf, refused}
+use Rattle.line_spec.specs.Line.{Head, parts, wrong, headOf, refused, freshOn}
 use Rattle.line_spec.specs.Pieces.{Course, going, over, frontOf}
 pub mod Laws
 pub mod Front
@@ -48,13 +47,13 @@ pub record OpenOutcome : Type 0 where
 unfoldable pub openRefused : ℕ → ℕ → List ℕ → List ℕ → List ℕ → List ℕ → OpenOutcome
 openRefused n p l a b w = record { answer = refuses n p; list = l; area0 = a; area1 = b; work = w }
 
--- Start's answer on so many numbers; Start gives none of the third form
+-- the answer of Open with an empty list, on so many numbers; there is none of the third form
 unfoldable pub startAnswer : ℕ → ℕ → Answer → OpenAnswer
 startAnswer count next (given s) = started s count next
 startAnswer count next (state.refused n p) = refuses n p
 startAnswer count next (stopped n p s) = refuses n p
 
--- Start's outcome; the list l is only read
+-- its outcome; the list l is only read
 unfoldable pub startedOn : ℕ → ℕ → List ℕ → Outcome → OpenOutcome
 startedOn count next l o =
     record {
@@ -65,10 +64,10 @@ startedOn count next l o =
       work = o .work;
     }
 
--- by Read's answer, with the list and the work words that it left: "Start, Feed and Offer take that list too",
--- "without the zeros"
+-- by Read's answer, with the list and the work words that it left: the operations "take that list too", "without the
+-- zeros"
 unfoldable pub readThen : ℕ → read.Answer → List ℕ → List ℕ → List ℕ → List ℕ → OpenOutcome
-readThen next (done count) l a b w = startedOn count next l (startOf (take count l) a b w)
+readThen next (done count) l a b w = startedOn count next l (freshOn (take count l) a b w)
 readThen next (refusal n p) l a b w = openRefused n p l a b w
 
 -- Read of the table's bytes; the events begin at a place
@@ -106,7 +105,7 @@ pub data OpenWay (s l a b w : List ℕ) : OpenOutcome → Type 0 where
   -- the head is wrong
   headWrong : (n p : ℕ) → lent l a b w ≡ true → headOf s ≡ wrong n p
       → OpenWay s l a b w (record { answer = refuses n p; list = l; area0 = a; area1 = b; work = w })
-  -- "Read's output is zeroed on 2 to 9", and Start is not called
+  -- "Read's output is zeroed on 2 to 9", and no monitor is opened
   tableDeclined : (bs es : List ℕ) (n p : ℕ) → lent l a b w ≡ true → headOf s ≡ parts bs es
       → judgeBytes bs ≡ declined n p
       → OpenWay s l a b w (record {
@@ -116,15 +115,15 @@ pub data OpenWay (s l a b w : List ℕ) : OpenOutcome → Type 0 where
         area1 = b;
         work = zeros 8192;
       })
-  -- Read gave the table's numbers, "zeros after", and Start was called on them
+  -- Read gave the table's numbers, "zeros after", and a monitor was opened on them
   tableAccepted : (bs es ns : List ℕ) (t : Table) → lent l a b w ≡ true → headOf s ≡ parts bs es
       → judgeBytes bs ≡ accepted ns t
       → OpenWay s l a b w (record {
-        answer = startAnswer (length ns) (length s - length es) (startOf ns a b (zeros 8192) .answer);
+        answer = startAnswer (length ns) (length s - length es) (freshOn ns a b (zeros 8192) .answer);
         list = ns ++ zeros (16384 - length ns);
-        area0 = startOf ns a b (zeros 8192) .area0;
-        area1 = startOf ns a b (zeros 8192) .area1;
-        work = startOf ns a b (zeros 8192) .work;
+        area0 = freshOn ns a b (zeros 8192) .area0;
+        area1 = freshOn ns a b (zeros 8192) .area1;
+        work = freshOn ns a b (zeros 8192) .work;
       })
 
 -- of a record: lent lengths were right, and the events of the input s are there from a place on

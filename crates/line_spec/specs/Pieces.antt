@@ -2,7 +2,7 @@
 --     Course                         a running monitor on a number list, or a line that stands
 --     pieceOf, concludeOf            after one piece more; the line at the input's end
 --     afterPiece                     a course where the input ended, or did not
---     Front, frontOf, feedFront      what Start leaves, with the events of the front; these fed
+--     Front, frontOf, feedFront      what Open leaves, with the events of the front; these fed
 --     piecesOf                       all of it
 -- The laws are in `Pieces/`: `Laws`, `Whole`, `Joined`. Assumes nothing.
 use Prim.Native.Nat.{ℕ}
@@ -35,7 +35,7 @@ unfoldable pub pieceOf : Course → List ℕ → Course
 pieceOf (going l m) es = fed l (feedOf l m es (zeros 8192))
 pieceOf (over x) es = over x
 
--- the front: what Start leaves, and the events that are there already
+-- the front: what Open leaves, and the events that are there already
 pub record Front : Type 0 where
   pub course : Course
   pub events : List ℕ

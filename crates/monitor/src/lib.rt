@@ -1,9 +1,9 @@
-// The monitor of CSP_E tables: Start, Feed, Offer, View, the record and the answers (document 01,
-// "Operations"), and Try (document 02, W4). Each operation is a crate of its own, proved equal to
-// its definition in crate monitor_spec; this one brings them together.
+// The monitor of CSP_E tables: Feed, Offer, View, the record and the answers (document 01,
+// "Operations"), Try and Open (document 02, W4, W7). Each operation is a crate of its own, proved
+// equal to its definition in crate monitor_spec; this one brings them together.
 pub use feeding::feed;
 pub use offering::offer;
-pub use starting::start;
+pub use opening::open;
 pub use state::Answer;
 pub use state::EventBits;
 pub use state::Offered;

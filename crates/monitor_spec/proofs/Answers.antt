@@ -1,5 +1,5 @@
 -- What a call answers on the monitor that a list calls for: 1 for its work area, 11, 12 or 13 at the first event that
--- one of them meets, or a record. From it `Answers` and `Judges`. Assumes nothing.
+-- one of them meets, or a record. From it `Answers`; `Judges` is in `Judges.antt`. Assumes nothing.
 use Prim.Native.Nat.{ℕ, _+_, _≤_}
 use native.Mathlib.Omega.{arith}
 use mathlib.Core.Path.{_≡_, refl, ap, ap₂, sym, subst, _∙_}
@@ -10,13 +10,10 @@ use lib.ListN.{length}
 use lib.Dec.{T}
 use Rattle.table.specs.Table.{Table}
 use Rattle.table.specs.Judge.{accepted, judgeList}
-use Rattle.meaning.specs.Figure1.{Term}
-use Rattle.meaning.specs.Figure2.{TraceSet, Model}
 use Rattle.monitor_spec.specs.Regular.{Regular}
 use Rattle.monitor_spec.specs.Fold.{Ended, through, took}
 use Rattle.monitor_spec.specs.Fold.Laws.{through-stops, took-then, took-took, none-took, some-stopped}
-use Rattle.monitor_spec.specs.State.{State, Monitor, given, refused, stopped, Outcome}
-use Rattle.monitor_spec.specs.State.{workMeasured, slotCount, laid}
+use Rattle.monitor_spec.specs.State.{State, Monitor, given, refused, stopped, Outcome, workMeasured, laid}
 use Rattle.monitor_spec.specs.Entering.{refusing}
 use Rattle.monitor_spec.specs.Feed.{takeEvent, endingOf, feedOf}
 use Rattle.monitor_spec.specs.Joined.{extend}
@@ -25,12 +22,10 @@ use Rattle.monitor_spec.specs.Expected.Records.{record-verdict}
 use Rattle.monitor_spec.specs.Expected.Steps.{Fed}
 use Rattle.monitor_spec.specs.History.{Leaves}
 use Rattle.monitor_spec.specs.History.Laws.{extends, measured, feed-refused, feed-goes}
-use Rattle.monitor_spec.specs.Stops.{Stops, StoppedAt, AnswersOne, JudgesOne}
+use Rattle.monitor_spec.specs.Stops.{Stops, StoppedAt, AnswersOne}
 use Rattle.monitor_spec.proofs.Endings.{T-true, true-T, false-T, not-true, none-answer, some-answer}
 use Rattle.monitor_spec.proofs.Endings.{ending-given, ending-stopped, stops-out, stops-in}
 use Rattle.monitor_spec.proofs.Forms.{given-same, refused-same, stopped-same, refused-given, refused-stopped}
-use Rattle.monitor_spec.specs.History.Peaks.{record-greatest}
-use Rattle.monitor_spec.specs.History.Verdicts.{judged-running, fails-exactly}
 
 append-cancel : (s u v : List ℕ) → s ++ u ≡ s ++ v → u ≡ v
 append-cancel [] u v e = e
@@ -217,19 +212,3 @@ module _ (t : Table) (regular : Regular t) (n : ℕ) (s : List ℕ) (fed : Fed t
 
     pub given-verdict : (r : State) → feedOf l M es w .answer ≡ given r → r .verdict ≡ verdictOf t (s ++ es)
     given-verdict r e = ap (λ (z : State). z .verdict) (given-record r e) ∙ record-verdict t (s ++ es)
-
--- ---- demand 2: one list fed to a fresh monitor
-
-pub judges-one : (l ns : List ℕ) (t : Table) → judgeList l ≡ accepted ns t → (regular : Regular t) (n : ℕ) → 1 ≤ n
-    → n ≤ 256 → Fed t n []
-    → slotCount (monitorAfter t n [] .area0) ≡ n → (H : Term → TraceSet) → Model t H → (s w : List ℕ)
-    → JudgesOne l t H (monitorAfter t n []) s w
-judges-one l ns t says regular n low high fed c H model s w =
-    record {
-      runs = λ r e. let g = given-verdict t regular n [] fed l ns says low high s w r e in let j =
-          judged-running t regular H model s in (λ x. j .0 (sym g ∙ x), λ x. g ∙ j .1 x);
-      fails = λ r e p. let g = given-verdict t regular n [] fed l ns says low high s w r e in let j =
-          fails-exactly t regular H model s p in (λ x. j .0 (sym g ∙ x), λ x. g ∙ j .1 x);
-      peaks = λ r e. rw (given-record t regular n [] fed l ns says low high s w r e) (record-greatest t s);
-      exceeds = λ p. rw c (answers-one t regular n [] fed l ns says low high s w .stops 13 p);
-    }

@@ -1,5 +1,6 @@
 -- What an ending answers, and when an event stops the call: 11, 12 or 13, exactly. Assumes nothing.
---     none-answer, some-answer, ending-given, ending-stopped   an ending's answer, from its reason and back
+--     none-answer, some-answer, ending-given, ending-stopped   an ending's answer, from its reason and back;
+--                                                              ending-refused: it always has a record
 --     stops-out, stops-in                                      the event's refusal, on the monitor that a list calls
 --                                                              for
 use Prim.Native.Nat.{ℕ, _≤_}
@@ -14,13 +15,14 @@ use borrow.Author.Tests.{leb-true, leb-false, le-leb, lt-leb, ltb-true, lt-ltb, 
 use Rattle.table.specs.Table.{Table}
 use Rattle.monitor_spec.specs.Regular.{Regular}
 use Rattle.monitor_spec.specs.Fold.{Step, stops, Ended}
-use Rattle.monitor_spec.specs.State.{State, Monitor, given, stopped}
+use Rattle.monitor_spec.specs.State.{State, Monitor, given, refused, stopped}
 use Rattle.monitor_spec.specs.Feed.{takeEvent, endingOf}
 use Rattle.monitor_spec.specs.Joined.{residualCount}
 use Rattle.monitor_spec.specs.Expected.{monitorAfter}
 use Rattle.monitor_spec.specs.Expected.Records.{length-snoc}
 use Rattle.monitor_spec.specs.Expected.Steps.{Fed, sift, take-sifts}
 use Rattle.monitor_spec.specs.Stops.{Stops, unknown, full, exceeded}
+use Rattle.monitor_spec.proofs.Forms.{refused-given, refused-stopped}
 
 pub T-true : (b : Bool) → T b → b ≡ true
 T-true true h = refl
@@ -75,6 +77,13 @@ ending-stopped k x n p r e = by (x .why) refl
     by (some m) q =
         let w : stopped m (x .taken) (x .at .state) ≡ stopped n p r = sym (some-answer k x m q) ∙ e in
         (q ∙ ap some (number m n (x .taken) p (x .at .state) r w), place m n (x .taken) p (x .at .state) r w)
+
+pub ending-refused : {X : Type 0} (k : ℕ) (x : Ended Monitor) (n p : ℕ) → endingOf k x .answer ≡ refused n p → X
+ending-refused {X} k x n p e = by (x .why) refl
+  where
+    by : (o : Option ℕ) → x .why ≡ o → X
+    by none q = refused-given n p (x .at .state) e (none-answer k x q)
+    by (some j) q = refused-stopped n p j (x .taken) (x .at .state) e (some-answer k x j q)
 
 -- ---- one event, after a list
 

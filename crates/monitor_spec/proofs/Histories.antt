@@ -1,6 +1,6 @@
--- `Histories`: a fresh monitor is the one that the empty list calls for, so after the calls it is the one that the
--- joined events call for; its verdict is that of the residuals, which are the traces. Assumes nothing.
-use Prim.Native.Nat.{ℕ, _≤_}
+-- `Histories`: what an Open gave is the monitor that its joined events call for, so after the calls it is the one that
+-- all joined events call for; its verdict is that of the residuals, which are the traces. Assumes nothing.
+use Prim.Native.Nat.{ℕ, _/_, _≤_}
 use mathlib.Core.Path.{_≡_, refl, ap, sym, subst, _∙_}
 use mathlib.Core.Bool.{Bool, true, false}
 use mathlib.Core.List.{List, [], _∷_}
@@ -15,17 +15,20 @@ use Rattle.monitor_spec.specs.Regular.{Regular}
 use Rattle.residuals.specs.Residual.{residualsOf}
 use Rattle.monitor_spec.specs.Fold.{Ended, through}
 use Rattle.monitor_spec.specs.Fold.Laws.{some-stopped}
-use Rattle.monitor_spec.specs.State.{Monitor, Outcome, workMeasured, slotCount}
+use Rattle.monitor_spec.specs.Valid.Laws.{and-split}
+use Rattle.monitor_spec.specs.State.{Monitor, Outcome, areasMeasured, workMeasured, slotCount}
+use Rattle.monitor_spec.specs.State.Areas.{both-true}
 use Rattle.monitor_spec.specs.Entering.{refusing}
 use Rattle.monitor_spec.specs.Feed.{takeEvent, endingOf, feedOf}
-use Rattle.monitor_spec.specs.Joined.{Call, extend, joinCall, joined}
+use Rattle.monitor_spec.specs.Open.{openOf}
+use Rattle.monitor_spec.specs.Refusals.Laws.{lent}
+use Rattle.monitor_spec.specs.Joined.{Call, residualCount, extend, joinCall, joined}
 use Rattle.monitor_spec.specs.Expected.{recordOf, monitorAfter}
-use Rattle.monitor_spec.specs.Expected.Laid.{laid-count}
-use Rattle.monitor_spec.specs.Expected.Steps.{Fed, fed-sensible}
-use Rattle.monitor_spec.specs.History.{history, Fresh, Leaves, Eventful, Along, AfterCalls}
+use Rattle.monitor_spec.specs.Expected.Steps.{Fed}
+use Rattle.monitor_spec.specs.History.{history, Opened, Leaves, Eventful, Along, AfterCalls}
 use Rattle.monitor_spec.specs.History.Laws.{extends, measured, feed-refused, feed-goes, fed-join, call-join}
-use Rattle.monitor_spec.specs.History.Laws.{history-joined, one-goes}
-use Rattle.monitor_spec.specs.History.Begun.{fresh-began}
+use Rattle.monitor_spec.specs.History.Laws.{fed-joined, joined-ends, history-joined}
+use Rattle.monitor_spec.specs.History.Begun.{fresh-fed, open-goes, Began, opened-began}
 use Rattle.monitor_spec.specs.History.After.{after-events}
 use Rattle.monitor_spec.proofs.Endings.{T-true, true-T, false-T, none-answer, some-answer, stops-out}
 use Rattle.monitor_spec.proofs.Endings.{stops-range}
@@ -45,14 +48,37 @@ module _ (l ns : List ℕ) (t : Table) (says : judgeList l ≡ accepted ns t) (r
         area1-same = ap (λ (z : Outcome). z .area1) e;
       }
 
-  after-all : (n : ℕ) → 1 ≤ n → n ≤ 256 → Fed t n [] → (calls : List Call)
-      → AfterCalls l t H n (monitorAfter t n []) (joined t n calls) (monitorAfter t n (joined t n calls))
-  after-all n low high f calls =
-      let s : List ℕ = joined t n calls in
+  -- "the one call on all joined events is an Open", lent areas c and d of the first's length
+  one-open : (n : ℕ) (first : Call) (calls : List Call) (c d work : List ℕ) → lent c d work ≡ true → slotCount c ≡ n
+      → residualCount t [] ≤ n
+      → Leaves (openOf l c d (joined t n first calls) work) (monitorAfter t n (joined t n first calls))
+  one-open n first calls c d work e i h =
+      let s : List ℕ = joined t n first calls in
+      leaves-after n (length work) s (openOf l c d s work)
+      (open-goes l ns t says c d s work e (rw i h)
+      ∙ ap (λ (k : ℕ). endingOf (length work) (through (takeEvent t) (monitorAfter t k []) 0 s)) i
+      ∙ ap (endingOf (length work)) (joined-ends t regular n first calls (fresh-fed t n h)))
+
+  relent : (a b w c d work : List ℕ) → lent a b w ≡ true → length c ≡ length a → length d ≡ length b
+      → workMeasured work ≡ true → lent c d work ≡ true
+  unfolding areasMeasured
+  relent a b w c d work e p q v =
+      let (x, y) = and-split (areasMeasured a b) (workMeasured w) e in
+      let z : areasMeasured c d ≡ true = rw (p, q) x in
+      both-true z v
+
+  after-all : (a b : List ℕ) (first : Call) (m : Monitor) → Began a b t first m → (calls : List Call)
+      → AfterCalls l t H a b (joined t (slotCount a) first calls)
+      (monitorAfter t (slotCount a) (joined t (slotCount a) first calls))
+  unfolding slotCount
+  after-all a b first m g calls =
+      let n : ℕ = slotCount a in
+      let s : List ℕ = joined t n first calls in
       record {
         after = after-events t n s regular H model;
-        one-call = λ work w. leaves-after n (length work) s (feedOf l (monitorAfter t n []) s work)
-            (one-goes t regular n l ns says low high calls f work (T-true (workMeasured work) w));
+        one-call = λ x y work p q w. one-open n first calls x y work
+            (relent a b (first .work) x y work (g .measured) p q (T-true (workMeasured work) w))
+            (ap (λ (k : ℕ). k / 16) p) (g .room);
       }
 
 -- ---- no call of a history is refused with 2 to 10
@@ -96,51 +122,41 @@ module _ (l ns : List ℕ) (t : Table) (says : judgeList l ≡ accepted ns t) (r
         (along-joined cs (joinCall t n s c) (fed-join t regular n s c f)),
   )
 
--- ---- of a fresh monitor
-
-pub count-fresh : (t : Table) → Regular t → (n : ℕ) → Fed t n [] → slotCount (monitorAfter t n [] .area0) ≡ n
-unfolding monitorAfter
-count-fresh t regular n f =
-    laid-count t regular n (recordOf t []) (residualsOf t []) (fed-sensible t regular n [] f)
+-- ---- of what an Open gave
 
 -- what every claim along a history starts from
-pub record Reached (l : List ℕ) (t : Table) (n : ℕ) (fresh : Monitor) (calls : List Call) : Type 0 where
-  pub low : 1 ≤ n
-  pub high : n ≤ 256
-  pub fed : Fed t n []
-  pub same : fresh ≡ monitorAfter t n []
-  pub slots : slotCount (fresh .area0) ≡ n
-  pub after : history l fresh calls ≡ monitorAfter t n (joined t n calls)
+pub record Reached (l a b : List ℕ) (t : Table) (first : Call) (m : Monitor) (calls : List Call) : Type 0 where
+  pub began : Began a b t first m
+  pub fed : Fed t (slotCount a) (joined t (slotCount a) first calls)
+  pub after : history l m calls ≡ monitorAfter t (slotCount a) (joined t (slotCount a) first calls)
 
-pub reached : (l ns : List ℕ) (t : Table) → judgeList l ≡ accepted ns t → Regular t
-    → (a b work : List ℕ) (fresh : Monitor)
-    → Fresh l a b work fresh → (calls : List Call) → Reached l t (slotCount a) fresh calls
-unfolding joined
-reached l ns t says regular a b work fresh f calls =
-    let g = fresh-began l ns t says a b work fresh f in
-    let n : ℕ = slotCount a in
-    record {
-      low = g .low;
-      high = g .high;
-      fed = g .fed;
-      same = g .same;
-      slots = ap (λ (m : Monitor). slotCount (m .area0)) (g .same) ∙ count-fresh t regular n (g .fed);
-      after = ap (λ (x : Monitor). history l x calls) (g .same)
-          ∙ history-joined t regular n l ns says (g .low) (g .high) calls [] (g .fed);
-    }
+module _ (l ns : List ℕ) (t : Table) (says : judgeList l ≡ accepted ns t) (regular : Regular t) (a b : List ℕ)
+    (first : Call) (m : Monitor) (o : Opened l a b first m) (calls : List Call) where
+  abbrev n : ℕ
+  n = slotCount a
 
-pub history-holds : (l ns : List ℕ) (t : Table) → judgeList l ≡ accepted ns t → Regular t
-    → (a b work : List ℕ) (fresh : Monitor)
-    → Fresh l a b work fresh → (calls : List Call) → (H : Term → TraceSet) → Model t H
-    → Along l fresh calls × AfterCalls l t H (slotCount (fresh .area0)) fresh
-    (joined t (slotCount (fresh .area0)) calls) (history l fresh calls)
-history-holds l ns t says regular a b work fresh f calls H model =
-    let g = reached l ns t says regular a b work fresh f calls in
-    let n : ℕ = slotCount a in
-    rw (g .slots, g .after) (
-      subst (λ (x : Monitor). Along l x calls) (sym (g .same))
-          (along-joined l ns t says regular n (g .low) (g .high) calls [] (g .fed)),
-      subst (λ (x : Monitor). AfterCalls l t H n x (joined t n calls) (monitorAfter t n (joined t n calls)))
-          (sym (g .same))
-          (after-all l ns t says regular H model n (g .low) (g .high) (g .fed) calls),
-    )
+  -- the events that the Open joined
+  abbrev begun : List ℕ
+  begun = joinCall t n [] first
+
+  pub reached : Reached l a b t first m calls
+  unfolding joined
+  reached =
+      let g = opened-began l ns t says regular a b first m o in
+      let f = fed-join t regular n [] first (g .fed) in
+      record {
+        began = g;
+        fed = fed-joined t regular n calls begun f;
+        after = ap (λ (x : Monitor). history l x calls) (g .same)
+            ∙ history-joined t regular n l ns says (g .low) (g .high) calls begun f;
+      }
+
+  pub history-holds : (H : Term → TraceSet) → Model t H
+      → Along l m calls × AfterCalls l t H a b (joined t n first calls) (history l m calls)
+  history-holds H model =
+      let g = reached .began in (
+        subst (λ (x : Monitor). Along l x calls) (sym (g .same))
+            (along-joined l ns t says regular n (g .low) (g .high) calls begun
+            (fed-join t regular n [] first (g .fed))),
+        rw (reached .after) (after-all l ns t says regular H model a b first m g calls),
+      )

@@ -5,10 +5,13 @@ pub mod Endings
 pub mod Exceeds
 pub mod Histories
 pub mod Answers
+pub mod Judges
 pub mod Counts
 pub mod Offers
 pub mod Gate
-pub mod Starts
+pub mod Opens
+pub mod Runs
+pub mod Settled
 pub mod Feeds
 pub mod Onward
 pub mod Offering

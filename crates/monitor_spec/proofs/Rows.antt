@@ -41,12 +41,12 @@ use Rattle.monitor_spec.specs.Fold.{through}
 use Rattle.monitor_spec.specs.Feed.{presentSlots, nextSlots, taking, eventRefused, takeEvent}
 use Rattle.monitor_spec.specs.Feed.{endingOf}
 use Rattle.monitor_spec.specs.Feed.{feedOf}
-use Rattle.monitor_spec.specs.Start.{startAccepted, startOf}
+use Rattle.monitor_spec.specs.Open.{freshMonitor, openAccepted, openOf}
 use Rattle.monitor_spec.specs.Offer.{bitOf, bitsFrom, wordBits, wordFrom, allBits, offerBits, offering, offerOf}
 use Rattle.monitor_spec.specs.View.{partBy, viewPart, wordsIn, viewOf}
-use Rattle.monitor_spec.specs.History.{standing, callOn, history}
-use Rattle.monitor_spec.specs.Examples.{drawn, feedAfter, startAndFeed, rows, saysAll}
-use Rattle.monitor_spec.specs.Cases.{fed, afterCalls, afterStart, cases, casesHold}
+use Rattle.monitor_spec.specs.History.{standing, callOn, history, recordIn}
+use Rattle.monitor_spec.specs.Examples.{drawn, opening, rows, saysAll}
+use Rattle.monitor_spec.specs.Cases.{fed, afterCalls, afterFirst, cases, casesHold}
 use Rattle.monitor_spec.specs.PeakCases.{peakCases}
 use Rattle.monitor_spec.specs.Buffers.{deep, BuffersStand}
 
@@ -66,8 +66,8 @@ unfolding flatMap size sizes bodyOf bodyNumber termIn termOfDefs termAt prefixes
     validSlot
     areasMeasured workMeasured slotCount even choose chunks flatten fill
     every allZero ascendsFrom ascends verdictFits peakFits recordFits areaFits consistent through
-    presentSlots nextSlots nextVerdict freshState stateAfter counted holding taking eventRefused takeEvent endingOf feedOf
-    measuring judging entrance agreeing entranceOn entering refusing startAccepted startOf drawn feedAfter startAndFeed
+    presentSlots nextSlots nextVerdict freshState stateAfter counted holding taking eventRefused takeEvent
+    endingOf feedOf measuring judging entrance agreeing entranceOn entering refusing freshMonitor openAccepted openOf drawn opening
 marked = refl
 
 pub further : casesHold (cases ++ peakCases)
@@ -86,9 +86,9 @@ unfolding flatMap size sizes bodyOf bodyNumber termIn termOfDefs termAt prefixes
     validSlot
     areasMeasured workMeasured slotCount even choose chunks flatten fill
     every allZero ascendsFrom ascends verdictFits peakFits recordFits areaFits consistent through
-    presentSlots nextSlots nextVerdict freshState stateAfter counted holding taking eventRefused takeEvent endingOf feedOf
-    measuring judging entrance agreeing entranceOn entering refusing startAccepted startOf drawn feedAfter startAndFeed
-    standing callOn history fed afterCalls afterStart
+    presentSlots nextSlots nextVerdict freshState stateAfter counted holding taking eventRefused takeEvent
+    endingOf feedOf measuring judging entrance agreeing entranceOn entering refusing freshMonitor openAccepted openOf drawn opening
+    standing callOn history recordIn fed afterCalls afterFirst
 further = refl
 
 pub outcomes-stand : BuffersStand
@@ -107,7 +107,7 @@ unfolding flatMap size sizes bodyOf bodyNumber termIn termOfDefs termAt prefixes
     validSlot
     areasMeasured workMeasured slotCount even choose chunks flatten fill
     every allZero ascendsFrom ascends verdictFits peakFits recordFits areaFits consistent through
-    presentSlots nextSlots nextVerdict freshState stateAfter counted holding taking eventRefused takeEvent endingOf feedOf
-    measuring judging entrance agreeing entranceOn entering refusing startAccepted startOf drawn feedAfter startAndFeed
+    presentSlots nextSlots nextVerdict freshState stateAfter counted holding taking eventRefused takeEvent
+    endingOf feedOf measuring judging entrance agreeing entranceOn entering refusing freshMonitor openAccepted openOf drawn opening
     bitOf bitsFrom wordBits wordFrom allBits offerBits offering offerOf partBy viewPart wordsIn viewOf deep
 outcomes-stand = (refl, refl, refl)

@@ -25,34 +25,34 @@ use Rattle.monitor_spec.specs.Consistent.Reading.{consistent-laid}
 use Rattle.monitor_spec.specs.Consistent.Laws.{laid-still}
 use Rattle.monitor_spec.specs.Views.Laws.{part-way}
 use Rattle.monitor_spec.specs.Joined.{Call, residualCount, joined}
-use Rattle.monitor_spec.specs.Expected.{recordOnward, monitorOnward, monitorAfter}
+use Rattle.monitor_spec.specs.Expected.{recordOnward, monitorOnward}
 use Rattle.monitor_spec.specs.Expected.Peaks.{peak-grows, peak-over, peak-stands}
-use Rattle.monitor_spec.specs.Stops.{JudgesOne}
-use Rattle.monitor_spec.specs.Expected.Steps.{Fed}
-use Rattle.monitor_spec.specs.History.{callOn, history, slotsLent, AfterCalls}
-use Rattle.monitor_spec.specs.History.Laws.{fed-joined}
+use Rattle.monitor_spec.specs.History.{callOn, history, AfterCalls}
 use Rattle.monitor_spec.specs.Try.{tryOf}
 use Rattle.monitor_spec.specs.Tried.{tried}
-use Rattle.monitor_spec.specs.History.Begun.{start-never}
 use Rattle.monitor_spec.specs.Claims.{ResidualsAreTraces, DefinitionsAreTraces, LastIsTraces, ResolvesReach}
 use Rattle.monitor_spec.specs.Claims.{SlotsTell, CountsDistinct, ValidExactly, ConsistentExactly}
-use Rattle.monitor_spec.specs.Claims.{StartRefusedExactly, StartGives, StartAnswers, StartBuffers, StartExceeds}
+use Rattle.monitor_spec.specs.Claims.{OpenRefusedExactly, OpenStopsExactly, OpenGivesExactly, OpenEmpty}
+use Rattle.monitor_spec.specs.Claims.{OpenIsFeed, OpenBuffers, OpenExceeds, OpenBegins}
 use Rattle.monitor_spec.specs.Claims.{FeedRefusedExactly, FeedStopsExactly, FeedGivesExactly, FeedBuffers}
-use Rattle.monitor_spec.specs.Claims.{StartFits, FeedPeaks, OfferRefusedExactly, OfferBits, OfferBuffers, ViewsPart}
+use Rattle.monitor_spec.specs.Claims.{OpenFits, FeedPeaks, OfferRefusedExactly, OfferBits, OfferBuffers}
+use Rattle.monitor_spec.specs.Claims.{ViewsPart}
 use Rattle.monitor_spec.specs.Claims.{Judges, Answers, Histories, OffersTraces, ViewsResiduals, FeedKeeps}
 use Rattle.monitor_spec.specs.Claims.{TryIsFeed, TryUnlike, TryRefusedExactly, TryStopsExactly, TryGivesExactly}
 use Rattle.monitor_spec.specs.Claims.{TryBuffers, TryForetells, TryJudges}
 use Rattle.monitor_spec.specs.Claims.{Examples, Cases, Buffers}
 use Rattle.monitor_spec.proofs.Endings.{T-true, true-T}
-use Rattle.monitor_spec.proofs.Starts.{start-refused, start-gives as started, start-work, start-keeps}
-use Rattle.monitor_spec.proofs.Starts.{start-zeroes}
+use Rattle.monitor_spec.proofs.Opens as opens
+use Rattle.monitor_spec.proofs.Runs as runs
+use Rattle.monitor_spec.proofs.Settled as settled
 use Rattle.monitor_spec.proofs.Feeds as feeds
 use Rattle.monitor_spec.proofs.Onward.{feed-stops, feed-gives}
 use Rattle.monitor_spec.proofs.Offering as offering
-use Rattle.monitor_spec.proofs.Exceeds.{start-exceeds-exactly}
+use Rattle.monitor_spec.proofs.Exceeds.{open-exceeds-exactly}
 use Rattle.monitor_spec.proofs.Histories.{reached, history-holds}
 use Rattle.monitor_spec.specs.History.Verdicts.{held-some}
-use Rattle.monitor_spec.proofs.Answers.{answers-one, judges-one}
+use Rattle.monitor_spec.proofs.Answers.{answers-one}
+use Rattle.monitor_spec.proofs.Judges.{judges-one}
 use Rattle.monitor_spec.proofs.Counts.{slot-once, counts}
 use Rattle.monitor_spec.proofs.Offers.{offers-after, views-after}
 use Rattle.monitor_spec.proofs.Keeps.{call-keeps}
@@ -103,24 +103,32 @@ pub resolves-reach : ResolvesReach
 unfolding ResolvesReach
 resolves-reach t rules n m p e = resolve-reach t (regular t rules) n m p (number-at t n p e .stands)
 
-pub start-fits : StartFits
-unfolding StartFits residualCount
-start-fits t rules =
+pub open-fits : OpenFits
+unfolding OpenFits residualCount
+open-fits t rules =
     let a = slots-few (residualsOf t []) in
     let b = residuals-few t rules in
     omega arith
 
-pub start-refused-exactly : StartRefusedExactly
-unfolding StartRefusedExactly
-start-refused-exactly l a b w = start-refused l a b w
+pub open-refused-exactly : OpenRefusedExactly
+unfolding OpenRefusedExactly
+open-refused-exactly l a b es w = opens.open-refused l a b es w
 
-pub start-gives : StartGives
-unfolding StartGives
-start-gives l a b w = started l a b w
+pub open-stops-exactly : OpenStopsExactly
+unfolding OpenStopsExactly
+open-stops-exactly l a b es w = runs.open-stops l a b es w
 
-pub start-answers : StartAnswers
-unfolding StartAnswers
-start-answers l a b w = start-never l a b w
+pub open-gives-exactly : OpenGivesExactly
+unfolding OpenGivesExactly
+open-gives-exactly l a b es w = runs.open-gives l a b es w
+
+pub open-empty : OpenEmpty
+unfolding OpenEmpty
+open-empty l a b w = settled.open-fresh l a b w
+
+pub open-is-feed : OpenIsFeed
+unfolding OpenIsFeed
+open-is-feed l a b w m o es work v = settled.open-feeds l a b w m o es work (T-true (workMeasured work) v)
 
 pub feed-refused-exactly : FeedRefusedExactly
 unfolding FeedRefusedExactly
@@ -155,9 +163,9 @@ pub offer-bits : OfferBits
 unfolding OfferBits
 offer-bits l m w = offering.offer-bits l m w
 
-pub start-buffers : StartBuffers
-unfolding StartBuffers
-start-buffers l a b w = (start-work l a b w, start-keeps l a b w, start-zeroes l a b w)
+pub open-buffers : OpenBuffers
+unfolding OpenBuffers
+open-buffers l a b es w = (opens.open-work l a b es w, opens.open-keeps l a b es w, opens.open-zeroes l a b es w)
 
 pub feed-buffers : FeedBuffers
 unfolding FeedBuffers
@@ -171,52 +179,49 @@ pub views-part : ViewsPart
 unfolding ViewsPart
 views-part = part-way
 
-pub start-exceeds : StartExceeds
-unfolding StartExceeds
-start-exceeds l ns t says a b work = start-exceeds-exactly l ns t says a b work
+pub open-exceeds : OpenExceeds
+unfolding OpenExceeds
+open-exceeds l ns t says a b es work p = open-exceeds-exactly l ns t says a b es work p
+
+pub open-begins : OpenBegins
+unfolding OpenBegins
+open-begins l a b c m = runs.open-begins l a b c m
 
 pub judges : Judges
 unfolding Judges
-judges l ns t says a b work fresh f H model s work′ =
-    let reg = accepts l ns t says in
-    let g = reached l ns t says reg a b work fresh f [] in
-    let n : ℕ = slotCount a in
-    let c : slotCount (monitorAfter t n [] .area0) ≡ n =
-    ap (λ (m : Monitor). slotCount (m .area0)) (sym (g .same)) ∙ g .slots in
-    subst (λ (m : Monitor). JudgesOne l t H m s work′) (sym (g .same))
-    (judges-one l ns t says reg n (g .low) (g .high) (g .fed) c H model s work′)
+judges l ns t says H model a b s work = judges-one l ns t says (accepts l ns t says) a b s work H model
 
 pub answers : Answers
-unfolding Answers joined
-answers l ns t says a b work fresh f calls es w =
+unfolding Answers
+answers l ns t says a b first opened o calls es w =
     let reg = accepts l ns t says in
-    let g = reached l ns t says reg a b work fresh f calls in
+    let g = reached l ns t says reg a b first opened o calls in
     let n : ℕ = slotCount a in
-    rw (g .slots, g .after)
-    (answers-one t reg n (joined t n calls) (fed-joined t reg n calls [] (g .fed)) l ns says (g .low) (g .high) es w)
+    rw (g .after)
+    (answers-one t reg n (joined t n first calls) (g .fed) l ns says (g .began .low) (g .began .high) es w)
 
 pub histories : Histories
 unfolding Histories
-histories l ns t says a b work fresh f calls H model =
-    history-holds l ns t says (accepts l ns t says) a b work fresh f calls H model
+histories l ns t says a b first opened o calls H model =
+    history-holds l ns t says (accepts l ns t says) a b first opened o calls H model
 
 pub offers-traces : OffersTraces
-unfolding OffersTraces joined
-offers-traces l ns t says a b work fresh f calls H model w h =
+unfolding OffersTraces
+offers-traces l ns t says a b first opened o calls H model w h =
     let reg = accepts l ns t says in
-    let g = reached l ns t says reg a b work fresh f calls in
+    let g = reached l ns t says reg a b first opened o calls in
     let n : ℕ = slotCount a in
-    let d : Fed t n (joined t n calls) = fed-joined t reg n calls [] (g .fed) in
-    rw (g .slots, g .after)
-    (offers-after l ns t says reg n (g .low) (g .high) (joined t n calls) d H model w (T-true (workMeasured w) h))
+    rw (g .after)
+    (offers-after l ns t says reg n (g .began .low) (g .began .high) (joined t n first calls) (g .fed) H model w
+    (T-true (workMeasured w) h))
 
 pub views-residuals : ViewsResiduals
-unfolding ViewsResiduals joined
-views-residuals l ns t says a b work fresh f calls =
+unfolding ViewsResiduals
+views-residuals l ns t says a b first opened o calls =
     let reg = accepts l ns t says in
-    let g = reached l ns t says reg a b work fresh f calls in
+    let g = reached l ns t says reg a b first opened o calls in
     let n : ℕ = slotCount a in
-    rw (g .slots, g .after) (views-after l ns t says reg n (joined t n calls) (fed-joined t reg n calls [] (g .fed)))
+    rw (g .after) (views-after l ns t says reg n (joined t n first calls) (g .fed))
 
 pub feed-keeps : FeedKeeps
 unfolding FeedKeeps
@@ -247,31 +252,30 @@ unfolding TryBuffers
 try-buffers l m c d es w = (tries.try-work l m c d es w, tries.try-keeps l m c d es w)
 
 pub try-foretells : TryForetells
-unfolding TryForetells joined
-try-foretells l ns t says a b work fresh f calls c d es w work′ h e e′ =
+unfolding TryForetells
+try-foretells l ns t says a b first opened o calls c d es w work′ h e e′ =
     let reg = accepts l ns t says in
-    let g = reached l ns t says reg a b work fresh f calls in
+    let g = reached l ns t says reg a b first opened o calls in
     let n : ℕ = slotCount a in
     rw (g .after)
-    (tries.foretells l ns t says reg n (g .low) (g .high) (joined t n calls) (fed-joined t reg n calls [] (g .fed)) c d
-    es w (rw (g .after) at h) (T-true (workMeasured w) e) work′ (T-true (workMeasured work′) e′))
+    (tries.foretells l ns t says reg n (g .began .low) (g .began .high) (joined t n first calls) (g .fed) c d es w
+    (rw (g .after) at h) (T-true (workMeasured w) e) work′ (T-true (workMeasured work′) e′))
 
 pub try-judges : TryJudges
-unfolding TryJudges joined
-try-judges l ns t says a b work fresh f calls c d es w h e H model =
+unfolding TryJudges
+try-judges l ns t says a b first opened o calls c d es w h e H model =
     let reg = accepts l ns t says in
-    let g = reached l ns t says reg a b work fresh f calls in
+    let g = reached l ns t says reg a b first opened o calls in
     let n : ℕ = slotCount a in
     let k : Call = record { events = es; work = w } in
-    let s : List ℕ = joined t n calls in
-    let x : tried (history l fresh calls) (tryOf l (history l fresh calls) c d es w)
-    ≡ callOn l (history l fresh calls) k =
+    let x : tried (history l opened calls) (tryOf l (history l opened calls) c d es w)
+    ≡ callOn l (history l opened calls) k =
     rw (g .after)
-    (tries.tried-call l ns t says reg n (g .low) (g .high) s (fed-joined t reg n calls [] (g .fed)) c d es w
+    (tries.tried-call l ns t says reg n (g .began .low) (g .began .high) (joined t n first calls) (g .fed) c d es w
     (rw (g .after) at h) (T-true (workMeasured w) e)) in
-    subst (λ (m : Monitor). AfterCalls l t H (slotsLent fresh) fresh (joined t (slotsLent fresh) (calls ++ k ∷ [])) m)
-    (tries.history-more l fresh calls k ∙ sym x)
-    (history-holds l ns t says reg a b work fresh f (calls ++ k ∷ []) H model .1)
+    subst (λ (m : Monitor). AfterCalls l t H a b (joined t n first (calls ++ k ∷ [])) m)
+    (tries.history-more l opened calls k ∙ sym x)
+    (history-holds l ns t says reg a b first opened o (calls ++ k ∷ []) H model .1)
 
 pub examples : Examples
 unfolding Examples

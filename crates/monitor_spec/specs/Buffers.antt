@@ -1,6 +1,6 @@
 -- What stands in each lent buffer after a call (01, "Operations", "When the monitor declines"): whole outcomes of
--- Start, Feed, Offer and View, word by word; the words themselves are written out here.
---     Left, outcomes      what Start and Feed leave, beside what is expected
+-- Open, Feed, Offer and View, word by word; the words themselves are written out here.
+--     Left, outcomes      what Open and Feed leave, beside what is expected
 --     Shown, offered      what Offer leaves;  Viewed, Seen, views: what View hands back
 -- Assumes nothing.
 use Prim.Native.Nat.{ℕ}
@@ -13,7 +13,7 @@ use Rattle.table.specs.Operations.{zeros}
 use Rattle.monitor_spec.specs.State.{Verdict, running, failedAt, Monitor, Answer, given, refused, stopped}
 use Rattle.monitor_spec.specs.State.{Outcome}
 use Rattle.monitor_spec.specs.Feed.{counterMost, feedOf}
-use Rattle.monitor_spec.specs.Start.{startOf}
+use Rattle.monitor_spec.specs.Open.{openOf}
 use Rattle.monitor_spec.specs.Offer as Offer
 use Rattle.monitor_spec.specs.Offer.{OfferOutcome, offerOf}
 use Rattle.monitor_spec.specs.View.{Part, viewPart, viewOf}
@@ -70,7 +70,7 @@ fullSlot =
     15 ∷ map (λ (n : ℕ). word n 0)
     (0 ∷ 1 ∷ 2 ∷ 3 ∷ 4 ∷ 5 ∷ 6 ∷ 7 ∷ 8 ∷ 9 ∷ 10 ∷ 11 ∷ 12 ∷ 13 ∷ 14 ∷ [])
 
--- the slots of K7 at Start
+-- the slots of K7 before any event
 abbrev both : List ℕ
 both = oneNode (word 1 0) ++ oneNode (word 3 0)
 
@@ -112,7 +112,7 @@ outcomes =
     (127 ∷ []) (sevens 8192))
     (given (st 5 1 running)) (zeros 16) (oneNode 1610612735) (zeros 8192)
     -- "A slot is 16 words": one with no word left over
-    ∷ leaves (startOf full (sevens 16) (sevens 16) (sevens 8192))
+    ∷ leaves (openOf full (sevens 16) (sevens 16) [] (sevens 8192))
     (given (st 0 1 running)) fullSlot (zeros 16) (zeros 8192)
     ∷ leaves (feedOf full (mon 0 1 running fullSlot (zeros 16)) [] (sevens 8192))
     (given (st 0 1 running)) fullSlot (zeros 16) (zeros 8192)
@@ -124,28 +124,53 @@ outcomes =
     (given (st 0 2 running)) both (zeros 32) (zeros 8192)
     ∷ leaves (feedOf seven (mon 0 2 running (oneNode (word 3 0) ++ oneNode (word 1 0)) (zeros 32)) [] (sevens 8192))
     (refused 10 0) (oneNode (word 3 0) ++ oneNode (word 1 0)) (zeros 32) (zeros 8192)
-    -- Start: a result; capacity exceeded; 2 to 9; 1
-    ∷ leaves (startOf seven (sevens 32) (sevens 32) (sevens 8192))
+    -- Open of an empty list: a result; capacity exceeded; 2 to 9; 1
+    ∷ leaves (openOf seven (sevens 32) (sevens 32) [] (sevens 8192))
     (given (st 0 2 running)) both (zeros 32) (zeros 8192)
-    ∷ leaves (startOf seven (sevens 16) (sevens 16) (sevens 8192))
+    ∷ leaves (openOf seven (sevens 16) (sevens 16) [] (sevens 8192))
     (refused 13 0) (zeros 16) (zeros 16) (zeros 8192)
-    ∷ leaves (startOf trailing (sevens 16) (sevens 16) (sevens 8192))
+    ∷ leaves (openOf trailing (sevens 16) (sevens 16) [] (sevens 8192))
     (refused 6 16) (sevens 16) (sevens 16) (zeros 8192)
-    ∷ leaves (startOf seven (sevens 16) (sevens 32) (sevens 8192))
+    ∷ leaves (openOf seven (sevens 16) (sevens 32) [] (sevens 8192))
     (refused 1 0) (sevens 16) (sevens 32) (sevens 8192)
-    ∷ leaves (startOf seven (sevens 32) (sevens 16) (sevens 8192))
+    ∷ leaves (openOf seven (sevens 32) (sevens 16) [] (sevens 8192))
     (refused 1 0) (sevens 32) (sevens 16) (sevens 8192)
     -- "a multiple of 16 from 16 to 4,096": 0 and 4,112 are not, 4,096 is
-    ∷ leaves (startOf tableB [] [] (sevens 8192)) (refused 1 0) [] [] (sevens 8192)
-    ∷ leaves (startOf tableB (sevens 4112) (sevens 4112) (sevens 8192))
+    ∷ leaves (openOf tableB [] [] [] (sevens 8192)) (refused 1 0) [] [] (sevens 8192)
+    ∷ leaves (openOf tableB (sevens 4112) (sevens 4112) [] (sevens 8192))
     (refused 1 0) (sevens 4112) (sevens 4112) (sevens 8192)
-    ∷ leaves (startOf tableB (sevens 4096) (sevens 4096) (sevens 8192))
+    ∷ leaves (openOf tableB (sevens 4096) (sevens 4096) [] (sevens 8192))
     (given (st 0 1 running)) (oneNode 0 ++ zeros 4080) (zeros 4096) (zeros 8192)
-    ∷ leaves (startOf tableB (sevens 16) (sevens 16) (sevens 8192))
+    ∷ leaves (openOf tableB (sevens 16) (sevens 16) [] (sevens 8192))
     (given (st 0 1 running)) (oneNode 0) (zeros 16) (zeros 8192)
-    -- "(0 at Start)": K5
-    ∷ leaves (startOf (drawn (par (fixed 2) stop fail)) (sevens 16) (sevens 16) (sevens 8192))
+    -- "failed, at .. (0 at Start)": K5
+    ∷ leaves (openOf (drawn (par (fixed 2) stop fail)) (sevens 16) (sevens 16) [] (sevens 8192))
     (given (st 0 0 (failedAt 0))) (zeros 16) (zeros 16) (zeros 8192)
+    -- and on 0,0 and 0,9: events are counted, and refused, after the failure too
+    ∷ leaves (openOf (drawn (par (fixed 2) stop fail)) (sevens 16) (sevens 16) (0 ∷ 0 ∷ []) (sevens 8192))
+    (given (st 2 0 (failedAt 0))) (zeros 16) (zeros 16) (zeros 8192)
+    ∷ leaves (openOf (drawn (par (fixed 2) stop fail)) (sevens 16) (sevens 16) (0 ∷ 9 ∷ []) (sevens 8192))
+    (stopped 11 1 (st 1 0 (failedAt 0))) (zeros 16) (zeros 16) (zeros 8192)
+    -- K7 on 1: the peak is that of settling
+    ∷ leaves (openOf seven (sevens 32) (sevens 32) (1 ∷ []) (sevens 8192))
+    (given (peaked 1 0 2 (failedAt 1))) (zeros 32) (zeros 32) (zeros 8192)
+    -- 02, W7: a list: all taken; 11 at place 1, record and areas after the event taken; 2 to 9 and 1 whatever it is
+    ∷ leaves (openOf tableB (sevens 16) (sevens 16) (0 ∷ 1 ∷ []) (sevens 8192))
+    (given (st 2 1 running)) (oneNode 0) (zeros 16) (zeros 8192)
+    ∷ leaves (openOf tableB (sevens 16) (sevens 16) (0 ∷ 9 ∷ 1 ∷ []) (sevens 8192))
+    (stopped 11 1 (st 1 1 running)) (zeros 16) (oneNode (word 1 0)) (zeros 8192)
+    ∷ leaves (openOf trailing (sevens 16) (sevens 16) (9 ∷ []) (sevens 8192))
+    (refused 6 16) (sevens 16) (sevens 16) (zeros 8192)
+    ∷ leaves (openOf tableB (sevens 16) (sevens 16) (9 ∷ []) (sevens 8191))
+    (refused 1 0) (sevens 16) (sevens 16) (sevens 8191)
+    -- 13 at place 0 in two forms: while settling, with no record and both areas zero; at the first event, with the
+    -- record and the settled areas
+    ∷ leaves (openOf seven (sevens 16) (sevens 16) (9 ∷ []) (sevens 8192))
+    (refused 13 0) (zeros 16) (zeros 16) (zeros 8192)
+    ∷ leaves (openOf eight (sevens 16) (sevens 16) (0 ∷ []) (sevens 8192))
+    (stopped 13 0 (st 0 1 running)) (threeNodes (word 0 0) (word 1 0) (word 3 0)) (zeros 16) (zeros 8192)
+    ∷ leaves (openOf delayed (sevens 16) (sevens 16) (1 ∷ 0 ∷ []) (sevens 8192))
+    (stopped 13 1 (st 1 1 running)) (zeros 16) (threeNodes (word 1 1) (word 2 1) (word 4 1)) (zeros 8192)
     ∷ []
 
 pub record Shown : Type 0 where

@@ -1,11 +1,13 @@
 -- Further worked cases (ours, from 01's sentences): memories, calls, one residual from two sides, the counter, lists
 -- of calls, inconsistent states; refusals 1 and 10 to 13 with their places.
 --     Case, is         what was got beside what is expected
---     startAndFeed, fed    Start and one Feed; Feed on a record and two areas as they are;  afterStart: a list of calls
+--     fed              Feed on a record and two areas as they are
+--     afterOpen        an Open and a list of calls;  afterFirst: with a list of its own
 -- Assumes nothing.
 use Prim.Native.Nat.{ℕ, _+_, _*_}
 use mathlib.Core.Path.{_≡_}
 use mathlib.Core.List.{List, [], _∷_, _++_, map}
+use mathlib.Core.Option.{Option, none, some}
 use lib.ListN.{replicate}
 use Rattle.table.specs.Table.{fixed, family, Term, stop, fail, prefix, choice, par, call, one, each, Definition}
 use Rattle.table.specs.Table.{SetDef}
@@ -14,10 +16,10 @@ use Rattle.table.specs.Operations.{zeros}
 use Rattle.monitor_spec.specs.State.{Verdict, running, failedAt, State, Answer, given, refused, stopped}
 use Rattle.monitor_spec.specs.State.{Outcome}
 use Rattle.monitor_spec.specs.Feed.{counterMost, feedOf}
-use Rattle.monitor_spec.specs.Start.{startOf}
+use Rattle.monitor_spec.specs.Open.{openOf}
 use Rattle.monitor_spec.specs.Joined.{Call}
-use Rattle.monitor_spec.specs.History.{history}
-use Rattle.monitor_spec.specs.Examples.{tableB, drawn, a, b, startAndFeed}
+use Rattle.monitor_spec.specs.History.{recordIn, history}
+use Rattle.monitor_spec.specs.Examples.{tableB, drawn, a, b, opening}
 
 pub record Case : Type 0 where
   pub got : Answer
@@ -43,16 +45,18 @@ said k c v = saidPeak k c c v
 unfoldable pub fed : List ℕ → State → List ℕ → List ℕ → List ℕ → Answer
 fed l s x y es = feedOf l (record { state = s; area0 = x; area1 = y }) es (zeros 8192) .answer
 
--- the record after Start with so many slots and then these calls
-unfoldable pub afterCalls : List ℕ → Outcome → Answer → List Call → Answer
-afterCalls l o (given s) cs = given (history l (record { state = s; area0 = o .area0; area1 = o .area1 }) cs .state)
-afterCalls l o (refused n p) cs = refused n p
-afterCalls l o (stopped n p s) cs = stopped n p s
+-- the record after an Open with these events and so many slots, and then these calls
+unfoldable pub afterCalls : List ℕ → Outcome → Option State → List Call → Answer
+afterCalls l o (some s) cs = given (history l (record { state = s; area0 = o .area0; area1 = o .area1 }) cs .state)
+afterCalls l o none cs = o .answer
 
-unfoldable pub afterStart : ℕ → List ℕ → List Call → Answer
-afterStart n l cs =
-    let o = startOf l (zeros (n * 16)) (zeros (n * 16)) (zeros 8192) in
-    afterCalls l o (o .answer) cs
+unfoldable pub afterFirst : ℕ → List ℕ → List ℕ → List Call → Answer
+afterFirst n l es cs =
+    let o = openOf l (zeros (n * 16)) (zeros (n * 16)) es (zeros 8192) in
+    afterCalls l o (recordIn (o .answer)) cs
+
+abbrev pub afterOpen : ℕ → List ℕ → List Call → Answer
+afterOpen n l cs = afterFirst n l [] cs
 
 -- a call with a work area of the right length, of any words; one with a wrong length
 abbrev pub feeds : List ℕ → Call
@@ -137,36 +141,43 @@ behind k = drawn (either (either (either (either (prefix (family 4 k) stop)))))
 abbrev pub cases : List Case
 cases =
     -- "STOP and a prefix give themselves with their memory": STOP after 0 and after 1 are two residuals
-    is (startAndFeed 4 twice (0 ∷ 1 ∷ [])) (said 2 2 running)
+    is (opening 4 twice (0 ∷ 1 ∷ [])) (said 2 2 running)
     -- a pair's memory is "kept through later events"
-    ∷ is (startAndFeed 4 rowed (0 ∷ 1 ∷ [])) (said 2 1 running)
-    ∷ is (startAndFeed 4 rowed (0 ∷ 1 ∷ 1 ∷ [])) (saidPeak 3 0 1 (failedAt 3))
-    ∷ is (startAndFeed 4 rowed (1 ∷ 1 ∷ [])) (said 2 2 running)
-    ∷ is (startAndFeed 4 rowed (1 ∷ 1 ∷ 1 ∷ 1 ∷ [])) (saidPeak 4 1 2 running)
+    ∷ is (opening 4 rowed (0 ∷ 1 ∷ [])) (said 2 1 running)
+    ∷ is (opening 4 rowed (0 ∷ 1 ∷ 1 ∷ [])) (saidPeak 3 0 1 (failedAt 3))
+    ∷ is (opening 4 rowed (1 ∷ 1 ∷ [])) (said 2 2 running)
+    ∷ is (opening 4 rowed (1 ∷ 1 ∷ 1 ∷ 1 ∷ [])) (saidPeak 4 1 2 running)
     -- "A residual already held is not held twice": the same from both sides
-    ∷ is (startAndFeed 1 loops (0 ∷ [])) (said 1 1 running)
+    ∷ is (opening 1 loops (0 ∷ [])) (said 1 1 running)
     -- a follower may call a higher definition number
-    ∷ is (startAndFeed 1 higher (0 ∷ [])) (said 1 1 running)
-    ∷ is (startAndFeed 1 higher (0 ∷ 0 ∷ [])) (saidPeak 2 0 1 (failedAt 2))
+    ∷ is (opening 1 higher (0 ∷ [])) (said 1 1 running)
+    ∷ is (opening 1 higher (0 ∷ 0 ∷ [])) (saidPeak 2 0 1 (failedAt 2))
     -- "memory (e, m0, m1, m2)": parameters 0 and 3
-    ∷ is (startAndFeed 1 (behind 0) (1 ∷ 1 ∷ 1 ∷ 0 ∷ 1 ∷ [])) (said 5 1 running)
-    ∷ is (startAndFeed 1 (behind 3) (0 ∷ 1 ∷ 1 ∷ 1 ∷ 1 ∷ [])) (said 5 1 running)
-    ∷ is (startAndFeed 1 (behind 3) (0 ∷ 1 ∷ 1 ∷ 1 ∷ 0 ∷ [])) (saidPeak 5 0 1 (failedAt 5))
+    ∷ is (opening 1 (behind 0) (1 ∷ 1 ∷ 1 ∷ 0 ∷ 1 ∷ [])) (said 5 1 running)
+    ∷ is (opening 1 (behind 3) (0 ∷ 1 ∷ 1 ∷ 1 ∷ 1 ∷ [])) (said 5 1 running)
+    ∷ is (opening 1 (behind 3) (0 ∷ 1 ∷ 1 ∷ 1 ∷ 0 ∷ [])) (saidPeak 5 0 1 (failedAt 5))
     -- "Later events are taken; the place stays."
-    ∷ is (startAndFeed 1 tableB (0 ∷ 0 ∷ 1 ∷ [])) (saidPeak 3 0 1 (failedAt 2))
+    ∷ is (opening 1 tableB (0 ∷ 0 ∷ 1 ∷ [])) (saidPeak 3 0 1 (failedAt 2))
     -- 11: place "events taken by this call", also after failure
-    ∷ is (startAndFeed 1 tableB (0 ∷ 9 ∷ 1 ∷ [])) (stopped 11 1 (st 1 1 running))
-    ∷ is (startAndFeed 1 tableB (1 ∷ 3 ∷ [])) (stopped 11 1 (peaked 1 0 1 (failedAt 1)))
+    ∷ is (opening 1 tableB (0 ∷ 9 ∷ 1 ∷ [])) (stopped 11 1 (st 1 1 running))
+    ∷ is (opening 1 tableB (1 ∷ 3 ∷ [])) (stopped 11 1 (peaked 1 0 1 (failedAt 1)))
     -- 13 at place 0 and at place 1: K8, and 1 to K8
-    ∷ is (startAndFeed 1 (drawn (par (fixed 2) (a stop) (a stop))) (0 ∷ [])) (stopped 13 0 (st 0 1 running))
-    ∷ is (startAndFeed 1 (drawn (b (par (fixed 2) (a stop) (a stop)))) (1 ∷ 0 ∷ [])) (stopped 13 1 (st 1 1 running))
+    ∷ is (opening 1 (drawn (par (fixed 2) (a stop) (a stop))) (0 ∷ [])) (stopped 13 0 (st 0 1 running))
+    ∷ is (opening 1 (drawn (b (par (fixed 2) (a stop) (a stop)))) (1 ∷ 0 ∷ [])) (stopped 13 1 (st 1 1 running))
     -- lists of calls: one event at a time; a refused event is left out; a wrong work length adds none
-    ∷ is (afterStart 1 tableB []) (said 0 1 running)
-    ∷ is (afterStart 1 tableB (feeds (0 ∷ []) ∷ feeds (0 ∷ []) ∷ [])) (saidPeak 2 0 1 (failedAt 2))
-    ∷ is (afterStart 1 tableB (feeds (0 ∷ 9 ∷ []) ∷ feeds [] ∷ feeds (1 ∷ 0 ∷ []) ∷ [])) (said 3 1 running)
-    ∷ is (afterStart 1 tableB (feeds (0 ∷ []) ∷ short (0 ∷ []) ∷ feeds (1 ∷ []) ∷ [])) (said 2 1 running)
-    ∷ is (afterStart 1 (drawn (b (par (fixed 2) (a stop) (a stop)))) (feeds (1 ∷ 0 ∷ []) ∷ feeds (2 ∷ []) ∷ []))
+    ∷ is (afterOpen 1 tableB []) (said 0 1 running)
+    ∷ is (afterOpen 1 tableB (feeds (0 ∷ []) ∷ feeds (0 ∷ []) ∷ [])) (saidPeak 2 0 1 (failedAt 2))
+    ∷ is (afterOpen 1 tableB (feeds (0 ∷ 9 ∷ []) ∷ feeds [] ∷ feeds (1 ∷ 0 ∷ []) ∷ [])) (said 3 1 running)
+    ∷ is (afterOpen 1 tableB (feeds (0 ∷ []) ∷ short (0 ∷ []) ∷ feeds (1 ∷ []) ∷ [])) (said 2 1 running)
+    ∷ is (afterOpen 1 (drawn (b (par (fixed 2) (a stop) (a stop)))) (feeds (1 ∷ 0 ∷ []) ∷ feeds (2 ∷ []) ∷ []))
     (saidPeak 2 0 1 (failedAt 2))
+    -- 02, W7: an Open refused midway with 11 or 13 begins a history, and nothing from the refused event on joins; after
+    -- crowded settling none begins
+    ∷ is (afterFirst 1 tableB (0 ∷ 9 ∷ 0 ∷ []) (feeds (1 ∷ 0 ∷ []) ∷ [])) (said 3 1 running)
+    ∷ is (afterFirst 1 tableB (9 ∷ 0 ∷ []) (feeds (0 ∷ []) ∷ [])) (said 1 1 running)
+    ∷ is (afterFirst 1 (drawn (b (par (fixed 2) (a stop) (a stop)))) (1 ∷ 0 ∷ 2 ∷ []) (feeds [] ∷ []))
+    (said 1 1 running)
+    ∷ is (afterFirst 1 (drawn (choice (a stop) (a (b stop)))) (0 ∷ []) (feeds (0 ∷ []) ∷ [])) (refused 13 0)
     -- the counter: 11 before 12, 12 only with an event; 2^64-2 and 2^64-1
     ∷ is (fed tableB (st counterMost 1 running) (zeros 16) (oneNode 0) []) (said counterMost 1 running)
     ∷ is (fed tableB (st counterMost 1 running) (zeros 16) (oneNode 0) (3 ∷ []))

@@ -2,22 +2,25 @@
 -- same names.
 --     ResidualsAreTraces      of every list of residual trees
 --     DefinitionsAreTraces    from every definition;  LastIsTraces: from the last
---     StartFits               at most 256 residuals at Start
+--     OpenFits                before any event there are at most 256 residuals
 --     ResolvesReach           the leaves of a term's residual together have at most the reach of the term
 --     SlotsTell               a slot tells its residual
 --     CountsDistinct          how many residuals there are, by the residuals and not by their words
 --     ValidExactly            the valid slots are those of proper residuals
 --     ConsistentExactly       the consistent monitors are those laid out of proper residuals
---     StartRefusedExactly, StartGives, StartAnswers           demand 1, on every input: Start
+--     OpenRefusedExactly, OpenStopsExactly, OpenGivesExactly  demand 1, on every input: Open
+--     OpenEmpty               Open of an empty list gives the settled monitor
+--     OpenIsFeed              Open of a list is Feed on that
 --     FeedRefusedExactly, FeedStopsExactly, FeedGivesExactly  Feed
 --     FeedPeaks                                               the peak that Feed leaves
 --     OfferRefusedExactly, OfferBits                          Offer
---     StartBuffers, FeedBuffers, OfferBuffers                 areas and work words on every input
+--     OpenBuffers, FeedBuffers, OfferBuffers                  areas and work words on every input
 --     ViewsPart               View, on every input: which area, how many words, and which
---     StartExceeds            capacity exceeded at Start, exactly, on an accepted table
---     Judges                  demand 2: one list fed to a fresh monitor
+--     OpenExceeds             capacity exceeded while settling, exactly, on an accepted table
+--     OpenBegins              the Opens that gave a record, with which histories begin
+--     Judges                  demand 2: one list, given to Open
 --     Answers                 what a call along a history answers, exactly: 1, 11, 12, 13 with places, or a record
---     Histories               demand 3: one claim over the whole list of calls
+--     Histories               demand 3: one claim over an Open and the whole list of calls after it
 --     OffersTraces            Offer's bits along a history;  ViewsResiduals: what View hands back there
 --     FeedKeeps               no call makes a consistent monitor inconsistent
 --     TryIsFeed, TryUnlike    Try gives Feed's answer and work words;  1 where a further area has another length
@@ -29,7 +32,7 @@ use Prim.Native.Nat.{ℕ, _≤_, _<_}
 use mathlib.Core.Path.{_≡_}
 use mathlib.Core.List.{List, [], _∷_, _++_, flatten}
 use mathlib.Core.Option.{some}
-use mathlib.Core.Logic.{_↔_}
+use mathlib.Core.Logic.{_↔_, _⊎_}
 use lib.ListN.{length}
 use lib.Dec.{T}
 use Rattle.table.specs.Table
@@ -46,10 +49,10 @@ use Rattle.meaning.specs.Figure2.{TraceSet, Model}
 use Rattle.residuals.specs.Residual.{Residual, resolve, run, fromDefinition, residualsOf}
 use Rattle.residuals.specs.Slots.{slotOf, slotsOf}
 use Rattle.monitor_spec.specs.Valid.{reachSum, validSlot}
-use Rattle.monitor_spec.specs.State.{State, Monitor, refused, stopped, areasMeasured, workMeasured, slotCount}
+use Rattle.monitor_spec.specs.State.{Monitor, refused, areasMeasured, workMeasured, slotCount}
 use Rattle.monitor_spec.specs.Consistent.{consistent}
-use Rattle.monitor_spec.specs.Start.{startOf}
 use Rattle.monitor_spec.specs.Feed.{feedOf}
+use Rattle.monitor_spec.specs.Open.{openOf}
 use Rattle.monitor_spec.specs.Offer as Offer
 use Rattle.monitor_spec.specs.Offer.{EventBits, offers, offerOf}
 use Rattle.monitor_spec.specs.View.{viewPart, viewOf}
@@ -60,9 +63,9 @@ use Rattle.monitor_spec.specs.Meaning.{denote, Sound, Some}
 use Rattle.monitor_spec.specs.Proper.{Proper}
 use Rattle.monitor_spec.specs.Sensible.{Laid}
 use Rattle.monitor_spec.specs.Expected.{monitorOnward}
-use Rattle.monitor_spec.specs.Refusals.{StartRefused, Starts, CallRefused, Offers, WorkLeft}
-use Rattle.monitor_spec.specs.Progress.{LeavesAt, PeakOnward, FeedStops, FeedGives}
-use Rattle.monitor_spec.specs.History.{callOn, history, Fresh, slotsLent, start, Leaves, Along, AfterCalls}
+use Rattle.monitor_spec.specs.Refusals.{OpenRefused, Fresh, CallRefused, Offers, WorkLeft}
+use Rattle.monitor_spec.specs.Progress.{LeavesAt, PeakOnward, FeedStops, FeedGives, OpenStops, OpenGives}
+use Rattle.monitor_spec.specs.History.{callOn, history, Opened, start, Leaves, Along, AfterCalls}
 use Rattle.monitor_spec.specs.Stops.{AnswersOne, JudgesOne}
 use Rattle.monitor_spec.specs.Offers.{OffersJust}
 use Rattle.monitor_spec.specs.Views.{PartWay}
@@ -96,9 +99,9 @@ ResolvesReach =
     (t : Table) → Rules t → (n : ℕ) (m : Memory) (p : Table.Term) → termAt t n ≡ some p
     → All (λ r. reachSum t r ≤ reach t p) (resolve t n m)
 
--- 01, "Openings": "Each body .. has at most 256": with 256 slots Start is never refused with 13
-unfoldable pub StartFits : Type 0
-StartFits = (t : Table) → Rules t → residualCount t [] ≤ 256
+-- 01, "Openings": "Each body .. has at most 256": with 256 slots settling is never refused with 13
+unfoldable pub OpenFits : Type 0
+OpenFits = (t : Table) → Rules t → residualCount t [] ≤ 256
 
 -- 01, "Residuals": "Two residuals are equal when their words are."
 unfoldable pub SlotsTell : Type 0
@@ -123,17 +126,30 @@ ConsistentExactly =
 
 -- 00, demand 1: "for all tables, state records, events and buffers, .. a refusal only on its listed condition"; 01,
 -- "When the monitor declines": "Each is given exactly on its condition"
-unfoldable pub StartRefusedExactly : Type 0
-StartRefusedExactly =
-    (l a b w : List ℕ) (n p : ℕ) → (startOf l a b w .answer ≡ refused n p) ↔ StartRefused l a b w n p
+unfoldable pub OpenRefusedExactly : Type 0
+OpenRefusedExactly =
+    (l a b es w : List ℕ) (n p : ℕ) → (openOf l a b es w .answer ≡ refused n p) ↔ OpenRefused l a b w n p
 
--- 01: "Start settles the last definition into area 0, zeroes area 1, taken 0."
-unfoldable pub StartGives : Type 0
-StartGives = (l a b w : List ℕ) (m : Monitor) → Fresh l a b w m ↔ Starts l a b w m
+-- 02, W7: "Refusals 11 to 13 during the list answer as Feed's"
+unfoldable pub OpenStopsExactly : Type 0
+OpenStopsExactly =
+    (l a b es w : List ℕ) (n p : ℕ) (left : Monitor)
+    → LeavesAt (openOf l a b es w) n p left ↔ OpenStops l a b es w n p left
 
--- 01: "Start crowded (place 0) .. returns no record": no answer of Start has a number and a record
-unfoldable pub StartAnswers : Type 0
-StartAnswers = (l a b w : List ℕ) (n p : ℕ) (s : State) → startOf l a b w .answer ≡ stopped n p s → ⊥
+unfoldable pub OpenGivesExactly : Type 0
+OpenGivesExactly =
+    (l a b es w : List ℕ) (left : Monitor) → Leaves (openOf l a b es w) left ↔ OpenGives l a b es w left
+
+-- 02, W7: "with an empty list it gives what Start gave"; 01: "settles the last definition into area 0, zeroes area 1,
+-- taken 0"
+unfoldable pub OpenEmpty : Type 0
+OpenEmpty = (l a b w : List ℕ) (m : Monitor) → Leaves (openOf l a b [] w) m ↔ Fresh l a b w m
+
+-- 02, W7: "Start and the first Feed become one operation": whatever stands in Feed's work area
+unfoldable pub OpenIsFeed : Type 0
+OpenIsFeed =
+    (l a b w : List ℕ) (m : Monitor) → Leaves (openOf l a b [] w) m
+    → (es work : List ℕ) → T (workMeasured work) → openOf l a b es w ≡ feedOf l m es work
 
 unfoldable pub FeedRefusedExactly : Type 0
 FeedRefusedExactly =
@@ -173,14 +189,14 @@ OfferBits =
 
 -- 01: "Refusals 1 to 10 .. keep areas"; "Start crowded (place 0) zeroes both areas"; the work area is "all zero after
 -- each call, but kept on refusal 1"
-unfoldable pub StartBuffers : Type 0
-StartBuffers =
-    (l a b w : List ℕ)
-    → WorkLeft a b w (startOf l a b w .work)
-    × ((n p : ℕ) → startOf l a b w .answer ≡ refused n p → n ≤ 10
-    → (startOf l a b w .area0 ≡ a) × (startOf l a b w .area1 ≡ b))
-    × ((p : ℕ) → startOf l a b w .answer ≡ refused 13 p
-    → (startOf l a b w .area0 ≡ zeros (length a)) × (startOf l a b w .area1 ≡ zeros (length b)))
+unfoldable pub OpenBuffers : Type 0
+OpenBuffers =
+    (l a b es w : List ℕ)
+    → WorkLeft a b w (openOf l a b es w .work)
+    × ((n p : ℕ) → openOf l a b es w .answer ≡ refused n p → n ≤ 10
+    → (openOf l a b es w .area0 ≡ a) × (openOf l a b es w .area1 ≡ b))
+    × ((p : ℕ) → openOf l a b es w .answer ≡ refused 13 p
+    → (openOf l a b es w .area0 ≡ zeros (length a)) × (openOf l a b es w .area1 ≡ zeros (length b)))
 
 unfoldable pub FeedBuffers : Type 0
 FeedBuffers =
@@ -200,57 +216,65 @@ OfferBuffers =
 unfoldable pub ViewsPart : Type 0
 ViewsPart = (m : Monitor) → PartWay m (viewPart (m .state) (length (m .area0)) (length (m .area1))) (viewOf m)
 
--- 01: "crowded: residuals .. at Start, exceed the slots", place 0, when refusal 1 is not met
-unfoldable pub StartExceeds : Type 0
-StartExceeds =
+-- 01: "crowded: residuals .. at Start, exceed the slots", place 0, when refusal 1 is not met; no record
+unfoldable pub OpenExceeds : Type 0
+OpenExceeds =
     (l ns : List ℕ) (t : Table) → judgeList l ≡ accepted ns t
-    → (a b work : List ℕ)
-    → (startOf l a b work .answer ≡ refused 13 0)
-    ↔ (T (areasMeasured a b) × T (workMeasured work) × (slotCount a < residualCount t []))
+    → (a b es work : List ℕ) (p : ℕ)
+    → (openOf l a b es work .answer ≡ refused 13 p)
+    ↔ (T (areasMeasured a b) × T (workMeasured work) × (slotCount a < residualCount t []) × (p ≡ 0))
+
+-- 02, W7: "A history of calls now begins with an Open that gave a record": one that took all its events, or was refused
+-- at one; with no other
+unfoldable pub OpenBegins : Type 0
+OpenBegins =
+    (l a b : List ℕ) (c : Call) (m : Monitor)
+    → Opened l a b c m
+    ↔ (OpenGives l a b (c .events) (c .work) m ⊎ ((n : ℕ) × (p : ℕ) × OpenStops l a b (c .events) (c .work) n p m))
 
 unfoldable pub Judges : Type 1
 Judges =
     (l ns : List ℕ) (t : Table) → judgeList l ≡ accepted ns t
-    → (a b work : List ℕ) (fresh : Monitor) → Fresh l a b work fresh
     → (H : Term → TraceSet) → Model t H
-    → (s work′ : List ℕ) → JudgesOne l t H fresh s work′
+    → (a b s work : List ℕ) → JudgesOne l t H a b s work
 
 unfoldable pub Answers : Type 0
 Answers =
     (l ns : List ℕ) (t : Table) → judgeList l ≡ accepted ns t
-    → (a b work : List ℕ) (fresh : Monitor) → Fresh l a b work fresh
+    → (a b : List ℕ) (first : Call) (opened : Monitor) → Opened l a b first opened
     → (calls : List Call) (es w : List ℕ)
-    → AnswersOne l t (slotsLent fresh) (joined t (slotsLent fresh) calls) (history l fresh calls) es w
+    → AnswersOne l t (slotCount a) (joined t (slotCount a) first calls) (history l opened calls) es w
 
--- 00, demand 3: "For every list of feeding calls from a fresh monitor, refused ones included, each lent that table
--- and the record and areas just as the call before left them, after it .."; and no call is refused with 2 to 10
+-- 00, demand 3: "For every list of feeding calls .., refused ones included, each lent that table and the record and
+-- areas just as the call before left them, after it .."; 02, W7: "A history of calls now begins with an Open that gave
+-- a record"; and no call is refused with 2 to 10
 unfoldable pub Histories : Type 1
 Histories =
     (l ns : List ℕ) (t : Table) → judgeList l ≡ accepted ns t
-    → (a b work : List ℕ) (fresh : Monitor) → Fresh l a b work fresh
+    → (a b : List ℕ) (first : Call) (opened : Monitor) → Opened l a b first opened
     → (calls : List Call)
     → (H : Term → TraceSet) → Model t H
-    → Along l fresh calls
-    × AfterCalls l t H (slotsLent fresh) fresh (joined t (slotsLent fresh) calls) (history l fresh calls)
+    → Along l opened calls
+    × AfterCalls l t H a b (joined t (slotCount a) first calls) (history l opened calls)
 
 -- 00: "the events permitted next": bit e is set exactly when the joined events with e more are a trace
 unfoldable pub OffersTraces : Type 1
 OffersTraces =
     (l ns : List ℕ) (t : Table) → judgeList l ≡ accepted ns t
-    → (a b work : List ℕ) (fresh : Monitor) → Fresh l a b work fresh
+    → (a b : List ℕ) (first : Call) (opened : Monitor) → Opened l a b first opened
     → (calls : List Call)
     → (H : Term → TraceSet) → Model t H
     → (w : List ℕ) → T (workMeasured w)
-    → OffersJust (t .alphabet) (H (start t)) (joined t (slotsLent fresh) calls)
-    (offerOf l (history l fresh calls) w .answer)
+    → OffersJust (t .alphabet) (H (start t)) (joined t (slotCount a) first calls)
+    (offerOf l (history l opened calls) w .answer)
 
 -- 01: "View hands back the part of whichever of the two areas holds the residuals"
 unfoldable pub ViewsResiduals : Type 0
 ViewsResiduals =
     (l ns : List ℕ) (t : Table) → judgeList l ≡ accepted ns t
-    → (a b work : List ℕ) (fresh : Monitor) → Fresh l a b work fresh
+    → (a b : List ℕ) (first : Call) (opened : Monitor) → Opened l a b first opened
     → (calls : List Call)
-    → viewOf (history l fresh calls) ≡ flatten (slotsOf (residualsOf t (joined t (slotsLent fresh) calls)))
+    → viewOf (history l opened calls) ≡ flatten (slotsOf (residualsOf t (joined t (slotCount a) first calls)))
 
 -- 01, "Disturbed": whatever the monitor, the events and the work area
 unfoldable pub FeedKeeps : Type 0
@@ -300,22 +324,21 @@ TryBuffers =
 unfoldable pub TryForetells : Type 0
 TryForetells =
     (l ns : List ℕ) (t : Table) → judgeList l ≡ accepted ns t
-    → (a b work : List ℕ) (fresh : Monitor) → Fresh l a b work fresh
+    → (a b : List ℕ) (first : Call) (opened : Monitor) → Opened l a b first opened
     → (calls : List Call) (c d es w work′ : List ℕ)
-    → Alike (history l fresh calls) c d → T (workMeasured w) → T (workMeasured work′)
-    → Foretells (tryOf l (history l fresh calls) c d es w) (feedOf l (history l fresh calls) es work′)
+    → Alike (history l opened calls) c d → T (workMeasured w) → T (workMeasured work′)
+    → Foretells (tryOf l (history l opened calls) c d es w) (feedOf l (history l opened calls) es work′)
 
 -- so the copy is what demand 3 says of the calls with one more of these events, and can stand for the monitor
 unfoldable pub TryJudges : Type 1
 TryJudges =
     (l ns : List ℕ) (t : Table) → judgeList l ≡ accepted ns t
-    → (a b work : List ℕ) (fresh : Monitor) → Fresh l a b work fresh
+    → (a b : List ℕ) (first : Call) (opened : Monitor) → Opened l a b first opened
     → (calls : List Call) (c d es w : List ℕ)
-    → Alike (history l fresh calls) c d → T (workMeasured w)
+    → Alike (history l opened calls) c d → T (workMeasured w)
     → (H : Term → TraceSet) → Model t H
-    → AfterCalls l t H (slotsLent fresh) fresh
-    (joined t (slotsLent fresh) (calls ++ record { events = es; work = w } ∷ []))
-    (tried (history l fresh calls) (tryOf l (history l fresh calls) c d es w))
+    → AfterCalls l t H a b (joined t (slotCount a) first (calls ++ record { events = es; work = w } ∷ []))
+    (tried (history l opened calls) (tryOf l (history l opened calls) c d es w))
 
 -- 01, "Strength of the statements": "K1 to K12 are proved together, as rows under one theorem on the definitions"
 unfoldable pub Examples : Type 0

@@ -1,5 +1,5 @@
 -- What stands before an operation's own work (01, "When the monitor declines": "Order: 1; 2; .. 9; 10; .."). The
--- operations are defined by it: Start, Feed, Offer.
+-- operations are defined by it: Open, Feed, Offer.
 --     Entrance                refused, by number, place and the work words then; or the table
 --     measuring, judging      1, for lent lengths; 2 to 9, for the table
 --     entrance                both, in this order

@@ -1,6 +1,6 @@
--- 01, "Drawings on the wall": K1 to K12 as rows of one statement, each through Start and one Feed on a number list.
+-- 01, "Drawings on the wall": K1 to K12 as rows of one statement, each through one Open on a number list.
 --     Row, rows, saysAll    a list, its events and what is answered; the rows; that each is answered so
---     startAndFeed          Start with so many slots, then Feed on what it gave
+--     opening               the answer of an Open with so many slots
 -- Assumes nothing.
 use Prim.Native.Nat.{ℕ, _*_}
 use mathlib.Core.Path.{_≡_}
@@ -8,9 +8,8 @@ use mathlib.Core.List.{List, [], _∷_, map}
 use Rattle.table.specs.Table.{fixed, family, Term, stop, fail, prefix, choice, par, one, each}
 use Rattle.table.specs.Writing.{numbersOf}
 use Rattle.table.specs.Operations.{zeros}
-use Rattle.monitor_spec.specs.State.{Verdict, running, failedAt, Answer, given, refused, stopped, Outcome}
-use Rattle.monitor_spec.specs.Feed.{feedOf}
-use Rattle.monitor_spec.specs.Start.{startOf}
+use Rattle.monitor_spec.specs.State.{Verdict, running, failedAt, Answer, given, refused}
+use Rattle.monitor_spec.specs.Open.{openOf}
 
 -- "Table B, A = 3, sets {0} and {1}, prefix {0}, prefix {1}, call 0": its numbers are its bytes
 abbrev pub tableB : List ℕ
@@ -32,16 +31,8 @@ a p = prefix (fixed 0) p
 abbrev pub b : Term → Term
 b p = prefix (fixed 1) p
 
-unfoldable pub feedAfter : List ℕ → Outcome → Answer → List ℕ → Answer
-feedAfter l o (given s) es =
-    feedOf l (record { state = s; area0 = o .area0; area1 = o .area1 }) es (zeros 8192) .answer
-feedAfter l o (refused n p) es = refused n p
-feedAfter l o (stopped n p s) es = stopped n p s
-
-unfoldable pub startAndFeed : ℕ → List ℕ → List ℕ → Answer
-startAndFeed n l es =
-    let o = startOf l (zeros (n * 16)) (zeros (n * 16)) (zeros 8192) in
-    feedAfter l o (o .answer) es
+unfoldable pub opening : ℕ → List ℕ → List ℕ → Answer
+opening n l es = openOf l (zeros (n * 16)) (zeros (n * 16)) es (zeros 8192) .answer
 
 pub record Row : Type 0 where
   pub list : List ℕ
@@ -49,7 +40,7 @@ pub record Row : Type 0 where
   pub events : List ℕ
   pub answer : Answer
 
--- the record after so many events, with so many residuals, and so many at most since Start
+-- the record after so many events, with so many residuals, and so many at most since it was opened
 abbrev pub said : ℕ → ℕ → ℕ → Verdict → Answer
 said n c p v = given (record { taken = n; count = c; peak = p; verdict = v })
 
@@ -109,10 +100,10 @@ rows =
       events = 0 ∷ 0 ∷ [];
       answer = said 2 0 1 (failedAt 2);
     }
-    -- "K7 with one slot is crowded, place 0", at Start
+    -- "K7 with one slot is crowded, place 0", while settling
     ∷ record { list = drawn (choice (a stop) (a (b stop))); slots = 1; events = []; answer = refused 13 0 }
     ∷ []
 
 abbrev pub saysAll : List Row → Type 0
 saysAll rs =
-    map (λ (r : Row). startAndFeed (r .slots) (r .list) (r .events)) rs ≡ map (λ (r : Row). r .answer) rs
+    map (λ (r : Row). opening (r .slots) (r .list) (r .events)) rs ≡ map (λ (r : Row). r .answer) rs

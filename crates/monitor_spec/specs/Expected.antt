@@ -55,7 +55,8 @@ recordOnward t s rs es =
 unfoldable pub monitorOnward : Table → ℕ → State → List Residual → List ℕ → Monitor
 monitorOnward t n s rs es = laid n (recordOnward t s rs es) (slotsOf (run t rs es))
 
--- from Start on: `stateAfter` from `freshState` over the counts of the list's beginnings (`Expected/Records.antt`)
+-- from the settled monitor on: `stateAfter` from `freshState` over the counts of the list's beginnings
+-- (`Expected/Records.antt`)
 unfoldable pub recordOf : Table → List ℕ → State
 recordOf t s = recordOnward t (freshState (length (slotsOf (residualsOf t [])))) (residualsOf t []) s
 

@@ -1,6 +1,7 @@
--- A monitor along a list of feeding calls, and what demand 3 says of it (00, demand 3; 01, "Lists of calls").
+-- A monitor along an Open and a list of feeding calls, and what demand 3 says of it (00, demand 3; 01, "Lists of
+-- calls"; 02, W7).
 --     callOn, history      a monitor after one call; after a list of calls
---     Fresh                what a Start gave that was not refused
+--     recordIn, Opened     the record in an answer, if any; what an Open gave
 --     ShortestOutside      the length of a list's shortest beginning outside a trace set
 --     GreatestOver         the greatest value over a list's beginnings
 --     HoldsJust, Leaves    count, present area and other area are those of residuals; record and areas are an
@@ -8,11 +9,12 @@
 --     Eventful, Along      no call of a list is refused with 2 to 10
 --     AfterEvents          what demand 3 says of the monitor by the events since its start
 --     AfterCalls           all that demand 3 says of the monitor after the calls
--- The laws are in `History/`: `Laws`; `Begun`, of what Start gives; `Verdicts`, `Peaks` and `After`, of what a list
+-- The laws are in `History/`: `Laws`; `Begun`, of what Open gives; `Verdicts`, `Peaks` and `After`, of what a list
 -- calls for. Assumes nothing.
 use Prim.Native.Nat.{ℕ, _≤_, _<_}
 use mathlib.Core.Path.{_≡_}
 use mathlib.Core.List.{List, [], _∷_}
+use mathlib.Core.Option.{Option, none, some}
 use mathlib.Core.Logic.{_↔_}
 use lib.ListN.{length, take}
 use lib.Dec.{T}
@@ -24,8 +26,8 @@ use Rattle.residuals.specs.Residual.{Residual, residualsOf}
 use Rattle.residuals.specs.Slots.{slotsOf}
 use Rattle.monitor_spec.specs.State.{running, failedAt, State, Monitor, Answer, given, refused, stopped, Outcome}
 use Rattle.monitor_spec.specs.State.{workMeasured, slotCount, even, choose, fill}
-use Rattle.monitor_spec.specs.Start.{startOf}
 use Rattle.monitor_spec.specs.Feed.{feedOf}
+use Rattle.monitor_spec.specs.Open.{openOf}
 use Rattle.monitor_spec.specs.Joined.{Call, residualCount}
 pub mod Laws
 pub mod Begun
@@ -50,15 +52,19 @@ unfoldable pub history : List ℕ → Monitor → List Call → Monitor
 history l m [] = m
 history l m (c ∷ cs) = history l (callOn l m c) cs
 
--- "A fresh monitor is the record and both areas that a Start on that table, not refused, gave": lent a, b and work
-pub record Fresh (l a b work : List ℕ) (m : Monitor) : Type 0 where
-  pub gave : startOf l a b work .answer ≡ given (m .state)
-  pub gave0 : startOf l a b work .area0 ≡ m .area0
-  pub gave1 : startOf l a b work .area1 ≡ m .area1
+-- "Refusals 1 to 10 return number and place only"; "Refusals 11 to 13 also return the record": the one that an answer
+-- has, if any
+unfoldable pub recordIn : Answer → Option State
+recordIn (given r) = some r
+recordIn (refused n p) = none
+recordIn (stopped n p r) = some r
 
--- "the slots lent"
-abbrev pub slotsLent : Monitor → ℕ
-slotsLent m = slotCount (m .area0)
+-- 02, W7: "A history of calls now begins with an Open that gave a record": refused or not, lent the areas a and b; its
+-- events and work area are those of c
+pub record Opened (l a b : List ℕ) (c : Call) (m : Monitor) : Type 0 where
+  pub gave : recordIn (openOf l a b (c .events) (c .work) .answer) ≡ some (m .state)
+  pub gave0 : openOf l a b (c .events) (c .work) .area0 ≡ m .area0
+  pub gave1 : openOf l a b (c .events) (c .work) .area1 ≡ m .area1
 
 -- 01, "Numbers and table": "The last definition is the start."
 unfoldable pub start : Table → Term
@@ -115,10 +121,11 @@ pub record AfterEvents (t : Table) (H : Term → TraceSet) (n : ℕ) (s : List �
   -- "and the monitor holds just their residuals"
   pub holds : HoldsJust n (residualsOf t s) m
 
--- of the joined events s and the monitor m after the calls
-pub record AfterCalls (l : List ℕ) (t : Table) (H : Term → TraceSet) (n : ℕ) (fresh : Monitor) (s : List ℕ)
-    (m : Monitor) : Type 0 where
-  pub after : AfterEvents t H n s m
-  -- "Record and both areas equal what one feeding call on them all, from the same fresh monitor, leaves"; 01: "The
-  -- one call that it compares with has a work area of the right length"
-  pub one-call : (work : List ℕ) → T (workMeasured work) → Leaves (feedOf l fresh s work) m
+-- of the areas a and b that were lent to the Open, the joined events s and the monitor m after the calls
+pub record AfterCalls (l : List ℕ) (t : Table) (H : Term → TraceSet) (a b s : List ℕ) (m : Monitor) : Type 0 where
+  pub after : AfterEvents t H (slotCount a) s m
+  -- "Record and both areas equal what one feeding call on them all .. leaves"; 02, W7: "the one call on all joined
+  -- events is an Open, lent areas of the same length as the first", of any content; 01: "The one call that it compares
+  -- with has a work area of the right length"
+  pub one-call : (c d work : List ℕ) → length c ≡ length a → length d ≡ length b → T (workMeasured work)
+      → Leaves (openOf l c d s work) m

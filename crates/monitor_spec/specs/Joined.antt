@@ -1,9 +1,9 @@
--- Lists of calls and their joined events (01, "Lists of calls", "Joined events"). From those paragraphs alone:
--- nothing here knows of Feed's answers.
---     Call             a feeding call's own events and work area
+-- Lists of calls and their joined events (01, "Lists of calls", "Joined events"; 02, W7). From those paragraphs alone:
+-- nothing here knows of an operation's answers.
+--     Call             a call's own events and work area: an Open's, a feeding call's
 --     residualCount    how many residuals a list has
 --     halts            the call stops before this event
---     extend, joined   the list after one call's events; after a list of calls
+--     extend, joined   the list after one call's events; after an Open and a list of feeding calls
 -- Assumes nothing.
 use Prim.Native.Nat.{ℕ}
 use mathlib.Core.Bool.{Bool, true, false, _||_}
@@ -44,6 +44,6 @@ unfoldable pub joinFrom : Table → ℕ → List ℕ → List Call → List ℕ
 joinFrom t n s [] = s
 joinFrom t n s (c ∷ cs) = joinFrom t n (joinCall t n s c) cs
 
--- "at Start the list is empty"
-unfoldable pub joined : Table → ℕ → List Call → List ℕ
-joined t n cs = joinFrom t n [] cs
+-- 02, W7: "its list joins by the same rule, before the others": the Open c, and the feeding calls cs
+unfoldable pub joined : Table → ℕ → Call → List Call → List ℕ
+joined t n c cs = joinFrom t n (joinCall t n [] c) cs

@@ -7,7 +7,7 @@ pub mod Consistent
 pub mod Entering
 pub mod Fold
 pub mod Feed
-pub mod Start
+pub mod Open
 pub mod Offer
 pub mod View
 pub mod Try

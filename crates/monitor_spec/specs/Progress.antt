@@ -1,10 +1,11 @@
--- What a feeding call does with its events on any consistent monitor, reached or not (00, demand 1; 01, "When the
--- monitor declines").
+-- What a feeding call does with its events on any consistent monitor, reached or not, and what Open does with its
+-- list (00, demand 1; 01, "When the monitor declines"; 02, W7).
 --     Meets, Passes    an event meets 11, 12 or 13; the events of a list meet none
 --     HaltsAt          the first event that meets one, at its place
 --     LeavesAt         a refusal with a record: number, place, record and areas
 --     PeakOnward       the peak after a list of events, from any before it
 --     FeedStops        the call stops at an event;  FeedGives: it takes all events
+--     OpenStops, OpenGives     so of Open, from the settled monitor
 -- The laws are in `Progress/Laws.antt`. Assumes nothing.
 use Prim.Native.Nat.{ℕ, suc, _+_, _≤_, _<_}
 use mathlib.Core.Path.{_≡_}
@@ -12,11 +13,12 @@ use mathlib.Core.List.{List, [], _∷_, _++_}
 use mathlib.Core.Logic.{_⊎_}
 use lib.ListN.{length, take}
 use Rattle.table.specs.Table.{Table}
-use Rattle.residuals.specs.Residual.{Residual, afterAll, run}
+use Rattle.residuals.specs.Residual.{Residual, afterAll, run, residualsOf}
 use Rattle.residuals.specs.Slots.{slotsOf}
 use Rattle.monitor_spec.specs.State.{Monitor, stopped, Outcome, slotCount}
 use Rattle.monitor_spec.specs.Feed.{counterMost}
-use Rattle.monitor_spec.specs.Expected.{monitorOnward}
+use Rattle.monitor_spec.specs.Joined.{residualCount}
+use Rattle.monitor_spec.specs.Expected.{monitorOnward, monitorAfter}
 use Rattle.monitor_spec.specs.Sensible.{Laid}
 use Rattle.monitor_spec.specs.Refusals.{Measured, IsTable}
 pub mod Laws
@@ -79,3 +81,22 @@ pub record FeedGives (l : List ℕ) (m : Monitor) (es w : List ℕ) (left : Moni
   pub laid : Laid table (slotCount (m .area0)) m
   pub passes : Passes table (slotCount (m .area0)) (m .state .taken) (laid .residuals) es
   pub leaves : left ≡ monitorOnward table (slotCount (m .area0)) (m .state) (laid .residuals) es
+
+-- 02, W7: "Refusals 11 to 13 during the list answer as Feed's": the settled residuals fit the slots, and an event of
+-- the list meets a refusal, at its place; record and areas are as after the events before it
+pub record OpenStops (l a b es w : List ℕ) (number place : ℕ) (left : Monitor) : Type 0 where
+  pub measured : Measured a b w
+  pub table : Table
+  pub is-table : IsTable l table
+  pub room : residualCount table [] ≤ slotCount a
+  pub halts : HaltsAt table (slotCount a) 0 (residualsOf table []) es number place
+  pub leaves : left ≡ monitorAfter table (slotCount a) (halts .before)
+
+-- it takes all events of the list
+pub record OpenGives (l a b es w : List ℕ) (left : Monitor) : Type 0 where
+  pub measured : Measured a b w
+  pub table : Table
+  pub is-table : IsTable l table
+  pub room : residualCount table [] ≤ slotCount a
+  pub passes : Passes table (slotCount a) 0 (residualsOf table []) es
+  pub leaves : left ≡ monitorAfter table (slotCount a) es

@@ -1,12 +1,13 @@
--- Each refusal of Start, Feed and Offer by its condition, on every input (00, demand 1; 01, "When the monitor
+-- Each refusal of Open, Feed and Offer by its condition, on every input (00, demand 1; 01, "When the monitor
 -- declines"), and what is given where none is met.
 --     Measured         the lent lengths are as they should be
 --     IsTable          a number list meets none of 2 to 9
---     StartRefused     Start's refusals: 1, 2 to 9, 13;  Starts: what it gives
+--     OpenRefused      Open's refusals without a record: 1, 2 to 9, 13 while settling
+--     Fresh            the settled monitor: what it gives with an empty list
 --     CallRefused      the refusals of Feed and Offer before an event: 1, 2 to 9, 10
 --     Offers           the two words that Offer gives
 --     WorkLeft         what stands in the work area after a call
--- The laws are in `Refusals/Laws.antt`. What Feed does with its events is in `Progress.antt`. Assumes nothing.
+-- The laws are in `Refusals/Laws.antt`. What Open and Feed do with events is in `Progress.antt`. Assumes nothing.
 use Prim.Native.Nat.{ℕ, _%_, _≤_, _<_}
 use mathlib.Core.Path.{_≡_}
 use mathlib.Core.List.{List, []}
@@ -44,19 +45,19 @@ pub record IsTable (l : List ℕ) (t : Table) : Type 0 where
   pub rules : Rules t
   pub short : length (listBytes l) ≤ 16384
 
--- ---- Start
+-- ---- Open
 
-pub data StartRefused (l a b w : List ℕ) (n p : ℕ) : Type 0 where
+pub data OpenRefused (l a b w : List ℕ) (n p : ℕ) : Type 0 where
   -- 1, "wrong measure: a lent length is not as above", place 0
-  wrong-length : (Measured a b w → ⊥) → n ≡ 1 → p ≡ 0 → StartRefused l a b w n p
+  wrong-length : (Measured a b w → ⊥) → n ≡ 1 → p ≡ 0 → OpenRefused l a b w n p
   -- 2 to 9, by the conditions of the table layer
-  bad-table : Measured a b w → Refused l n p → StartRefused l a b w n p
-  -- 13, "crowded: residuals .. at Start, exceed the slots", place 0
+  bad-table : Measured a b w → Refused l n p → OpenRefused l a b w n p
+  -- 13, "crowded: residuals .. at Start, exceed the slots", place 0; 02, W7: "crowded while settling"
   exceeded : Measured a b w → (t : Table) → IsTable l t → slotCount a < residualCount t [] → n ≡ 13 → p ≡ 0
-      → StartRefused l a b w n p
+      → OpenRefused l a b w n p
 
--- what Start gives: a record and both areas
-pub record Starts (l a b w : List ℕ) (m : Monitor) : Type 0 where
+-- 02, W7: "with an empty list it gives what Start gave": a record and both areas
+pub record Fresh (l a b w : List ℕ) (m : Monitor) : Type 0 where
   pub measured : Measured a b w
   pub table : Table
   pub is-table : IsTable l table

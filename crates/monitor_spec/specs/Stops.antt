@@ -2,7 +2,7 @@
 --     Stops         refusal 11, 12 or 13 is met at an event, after a list
 --     StoppedAt     so at a place of a call's events, and at none before it
 --     AnswersOne    the answers of a call along a history, exactly
---     JudgesOne     running, failed at n and capacity exceeded, exactly; the peak
+--     JudgesOne     running, failed at n and capacity exceeded, exactly, of an Open; the peak
 -- Assumes nothing.
 use Prim.Native.Nat.{ℕ, _≤_, _<_}
 use mathlib.Core.Path.{_≡_}
@@ -13,10 +13,12 @@ use lib.Dec.{T}
 use Rattle.table.specs.Table.{Table}
 use Rattle.meaning.specs.Figure1.{Term}
 use Rattle.meaning.specs.Figure2.{TraceSet}
-use Rattle.monitor_spec.specs.State.{running, failedAt, State, Monitor, given, refused, stopped, workMeasured}
+use Rattle.monitor_spec.specs.State.{running, failedAt, State, Monitor, given, refused, stopped, areasMeasured}
+use Rattle.monitor_spec.specs.State.{workMeasured, slotCount}
 use Rattle.monitor_spec.specs.Feed.{counterMost, feedOf}
+use Rattle.monitor_spec.specs.Open.{openOf}
 use Rattle.monitor_spec.specs.Joined.{residualCount, extend}
-use Rattle.monitor_spec.specs.History.{slotsLent, start, ShortestOutside, GreatestOver, Leaves}
+use Rattle.monitor_spec.specs.History.{start, ShortestOutside, GreatestOver, Leaves}
 
 -- after the joined events s, with n slots: "per event 11, 12, 13"
 pub data Stops (t : Table) (n : ℕ) (s : List ℕ) (e : ℕ) : ℕ → Type 0 where
@@ -57,16 +59,17 @@ pub record AnswersOne (l : List ℕ) (t : Table) (n : ℕ) (s : List ℕ) (m : M
   -- not refused: every event is joined
   pub gives : ((r : State) × (feedOf l m es w .answer ≡ given r)) ↔ (T (workMeasured w) × (extend t n s es ≡ s ++ es))
 
--- one list fed to a fresh monitor
-pub record JudgesOne (l : List ℕ) (t : Table) (H : Term → TraceSet) (fresh : Monitor) (s work : List ℕ) : Type 0 where
+-- one list, given to Open: 02, W7, "Start and the first Feed become one operation"
+pub record JudgesOne (l : List ℕ) (t : Table) (H : Term → TraceSet) (a b s work : List ℕ) : Type 0 where
   -- "One list fed to a fresh monitor and not refused gives running exactly when the trace set .. holds it"
-  pub runs : (r : State) → feedOf l fresh s work .answer ≡ given r → (r .verdict ≡ running) ↔ H (start t) s
+  pub runs : (r : State) → openOf l a b s work .answer ≡ given r → (r .verdict ≡ running) ↔ H (start t) s
   -- "and failed at n exactly when n is the length of its shortest beginning outside that set"
-  pub fails : (r : State) → feedOf l fresh s work .answer ≡ given r → (p : ℕ)
+  pub fails : (r : State) → openOf l a b s work .answer ≡ given r → (p : ℕ)
       → (r .verdict ≡ failedAt p) ↔ ShortestOutside (H (start t)) s p
   -- 02, W1: "the greatest count over all beginnings"
-  pub peaks : (r : State) → feedOf l fresh s work .answer ≡ given r → GreatestOver (residualCount t) s (r .peak)
+  pub peaks : (r : State) → openOf l a b s work .answer ≡ given r → GreatestOver (residualCount t) s (r .peak)
   -- "Crowded is said exactly when, with nothing earlier in document 01's order to refuse, its residuals, .. after an
-  -- event, outnumber the slots lent"
-  pub exceeds : (place : ℕ) → ((r : State) × (feedOf l fresh s work .answer ≡ stopped 13 place r))
-      ↔ (T (workMeasured work) × StoppedAt t (slotsLent fresh) [] s 13 place)
+  -- event, outnumber the slots lent"; of the start, OpenExceeds
+  pub exceeds : (place : ℕ) → ((r : State) × (openOf l a b s work .answer ≡ stopped 13 place r))
+      ↔ (T (areasMeasured a b) × T (workMeasured work) × (residualCount t [] ≤ slotCount a)
+      × StoppedAt t (slotCount a) [] s 13 place)

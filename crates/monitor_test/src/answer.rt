@@ -1,6 +1,6 @@
 // An answer and what a call leaves in the lent areas, held to what is stored (01, "Operations",
 // "When the monitor declines").
-//     judge            of Start and Feed: NUMBER PLACE HAS TAKEN COUNT PEAK FAILED AT DIGEST KEPT
+//     judge            of Open and Feed: NUMBER PLACE HAS TAKEN COUNT PEAK FAILED AT DIGEST KEPT
 //     judge_trial      of Try: the same with FURTHER, a digest, before KEPT
 //     judge_offered    of Offer: NUMBER PLACE FIRST SECOND DIGEST KEPT
 //     judge_part       of View: AREA LENGTH

@@ -21,37 +21,18 @@ fn work_length(numbers: &[u64]) -> usize {
     numbers[0] as usize
 }
 
-fn start(
+fn open(
     list: &[u16],
     area0: &mut [u64],
     area1: &mut [u64],
+    events: &[u8],
     work: &mut [u64],
     l: Lent,
     stored: &[u64],
 ) -> Done {
     cases::fill_words(work);
-    let answer = monitor::start(list, area0, area1, work);
+    let answer = monitor::open(list, area0, area1, events, work);
     judge(answer, area0, area1, work, l, stored)
-}
-
-// `s WORK`
-fn try_start(
-    numbers: &[u64],
-    list: &[u16],
-    area0: &mut [u64],
-    area1: &mut [u64],
-    l: Lent,
-    stored: &[u64],
-) -> Done {
-    if numbers.len() != 1 {
-        return malformed(l);
-    }
-    let n = work_length(numbers);
-    if 8300 < n {
-        return malformed(l);
-    }
-    let mut work = areas::work();
-    start(list, area0, area1, &mut work[..n], l, stored)
 }
 
 fn feed(
@@ -68,8 +49,26 @@ fn feed(
     judge(answer, area0, area1, work, l, stored)
 }
 
+// Open for the letter `b`, else Feed.
+fn take_events(
+    kind: u8,
+    list: &[u16],
+    area0: &mut [u64],
+    area1: &mut [u64],
+    events: &[u8],
+    work: &mut [u64],
+    l: Lent,
+    stored: &[u64],
+) -> Done {
+    if kind == b'b' {
+        return open(list, area0, area1, events, work, l, stored);
+    }
+    feed(list, area0, area1, events, work, l, stored)
+}
+
 // The events' numbers.
-fn feed_numbers(
+fn take_numbers(
+    kind: u8,
     numbers: &[u64],
     list: &[u16],
     area0: &mut [u64],
@@ -86,11 +85,12 @@ fn feed_numbers(
     if !cases::put_bytes(numbers, &mut events) {
         return malformed(l);
     }
-    feed(list, area0, area1, &events[..count], work, l, stored)
+    take_events(kind, list, area0, area1, &events[..count], work, l, stored)
 }
 
-// `f WORK e e ..`
-fn try_feed(
+// `b WORK e e ..` and `f WORK e e ..`
+fn try_events(
+    kind: u8,
     numbers: &[u64],
     list: &[u16],
     area0: &mut [u64],
@@ -107,7 +107,8 @@ fn try_feed(
     }
     let mut work = areas::work();
     let one = 1;
-    feed_numbers(
+    take_numbers(
+        kind,
         &numbers[one..],
         list,
         area0,
@@ -183,8 +184,8 @@ pub fn call(
     stored: &[u64],
 ) -> Done {
     match kind {
-        b's' => try_start(numbers, list, area0, area1, l, stored),
-        b'f' => try_feed(numbers, list, area0, area1, l, stored),
+        b'b' => try_events(kind, numbers, list, area0, area1, l, stored),
+        b'f' => try_events(kind, numbers, list, area0, area1, l, stored),
         b'd' => try_trial(numbers, list, area0, area1, l, stored),
         b'o' => try_offer(numbers, list, area0, area1, l, stored),
         b'v' => try_view(numbers, area0, area1, l, stored),

@@ -1,4 +1,4 @@
-// Makes the calls of the histories in `histories.txt` with Start, Feed, Try, Offer and View of
+// Makes the calls of the histories in `histories.txt` with Open, Feed, Try, Offer and View of
 // crate `monitor`, and prints a line for each group of histories, then `ok` if all was as stored.
 //     file      the file, piece by piece         groups    its groups
 //     line      a line: a change, or a call

@@ -1,6 +1,6 @@
 -- The code's answers as 01 has them (01, "Which form goes where": "Where an answer is an enum, the promises use a
 -- definition"; "When the monitor declines").
---     answerOf, outcome          an answer of Start or Feed; with what stands in the lent areas
+--     answerOf, outcome          an answer of Open or Feed; with what stands in the lent areas
 --     bitsOf                     two words of bits
 --     offeredOf, offerOutcome    the same of Offer
 -- Assumes nothing.

@@ -2,8 +2,8 @@
 use crate::record::State;
 use table::Refusal;
 
-// A record; a refusal by number and place (1 to 10, and Start's 13); or a refusal with the record
-// after the events already taken (11 to 13).
+// A record; a refusal by number and place (1 to 10, and 13 while settling); or a refusal with the
+// record after the events already taken (11 to 13).
 pub enum Answer {
     Given(State),
     Refused(Refusal),

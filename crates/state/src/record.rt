@@ -11,7 +11,8 @@ pub enum Verdict {
     Failed(u64),
 }
 
-// The events taken, the residuals held, the most that were held since Start, and the verdict.
+// The events taken, the residuals held, the most that were held since it was opened, and the
+// verdict.
 pub struct State {
     pub taken: u64,
     pub count: u64,

@@ -1,6 +1,6 @@
 -- Refusals 2 to 9 in their order (01, "When the monitor declines"): what a list of numbers, or of bytes, is.
 --     Judgement     accepted, with its numbers and its table, or refused with number and place
---     judgeBytes    of bytes (Read);  judgeList: of a number list (Write, Start, Feed, Offer)
+--     judgeBytes    of bytes (Read);  judgeList: of a number list (Write, Open, Feed, Offer)
 -- The laws are in `Judge/Laws.antt`. Assumes nothing.
 use Prim.Native.Nat.{ℕ}
 use mathlib.Core.Bool.{Bool, true, false, cond}

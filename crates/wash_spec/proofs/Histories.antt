@@ -1,8 +1,9 @@
 -- `TimedHistories`: lists begin with the monitor that the empty list calls for, so after the calls it is the one that
 -- the joined list calls for, and one call on a beginning of that list leaves the one that the beginning calls for. On
--- each stretch it is the one that Feed leaves on the table in force. Assumes nothing.
+-- each stretch it is the one that Open leaves on the table in force. Assumes nothing.
 use Prim.Native.Nat.{ℕ, suc, _≤_}
-use mathlib.Core.Path.{_≡_, refl, ap, ap₂, sym, subst, _∙_}
+use native.Mathlib.Omega.{arith}
+use mathlib.Core.Path.{_≡_, refl, ap, sym, subst, _∙_}
 use mathlib.Core.Bool.{Bool, true, false, cond}
 use mathlib.Core.List.{List, [], _∷_, _++_, map}
 use mathlib.Core.Option.{Option, none, some}
@@ -14,22 +15,24 @@ use Rattle.table.specs.Table.{Table}
 use Rattle.table.specs.Judge.{accepted, judgeList}
 use Rattle.meaning.specs.Figure1.{Term}
 use Rattle.meaning.specs.Figure2.{TraceSet, Model}
-use Rattle.monitor_spec.specs.State.{Monitor, Outcome, workMeasured, slotCount, choose}
+use Rattle.monitor_spec.specs.State.{Outcome, workMeasured, slotCount, choose}
 use Rattle.monitor_spec.specs.State.Areas.{both-true}
-use Rattle.monitor_spec.specs.Regular.{Regular}
 use Rattle.monitor_spec.specs.Fold.{Step, through, extendBy, extendAll}
 use Rattle.monitor_spec.specs.Fold.Joined.{Follows, extend-snoc, all-keeps, begins-keeps, one-fold, fold-begins}
-use Rattle.monitor_spec.specs.Feed.{endingOf, feedOf}
-use Rattle.monitor_spec.specs.Expected.{monitorAfter}
-use Rattle.monitor_spec.specs.History.{Fresh, Leaves, AfterEvents}
-use Rattle.monitor_spec.specs.History.Laws.{feed-goes}
-use Rattle.monitor_spec.specs.History.Begun.{Began, fresh-began}
+use Rattle.monitor_spec.specs.Feed.{takeEvent, endingOf}
+use Rattle.monitor_spec.specs.Open.{openOf}
+use Rattle.monitor_spec.specs.Joined.{residualCount}
+use Rattle.monitor_spec.specs.Expected.{recordOf, monitorAfter}
+use Rattle.monitor_spec.specs.Expected.Steps.{Fed}
+use Rattle.monitor_spec.specs.History.{Leaves, AfterEvents}
+use Rattle.monitor_spec.specs.History.Begun.{open-goes}
+use Rattle.monitor_spec.specs.History.Peaks.{record-greatest}
 use Rattle.monitor_spec.specs.History.After.{after-events}
-use Rattle.monitor_spec.specs.Refusals.Laws.{accepts}
+use Rattle.monitor_spec.specs.Refusals.{Measured}
+use Rattle.monitor_spec.specs.Refusals.Laws.{measured-in, accepts}
 use Rattle.timetable.specs.Timetable.{goodTimetable, inForce}
 use Rattle.wash_spec.specs.Timed.{TimedMonitor, stamped, TimedOutcome}
 use Rattle.wash_spec.specs.Taking.{drawingAt, takeTimed}
-use Rattle.wash_spec.specs.Taking.Laws.{drawing-regular}
 use Rattle.wash_spec.specs.Feed.{eventsOf, minutesOf, timedEnding, timedOf}
 use Rattle.wash_spec.specs.Feed.Laws.{pairs-back}
 use Rattle.wash_spec.specs.Joined.{TimedCall, lookedAt, Stretch, grown, stretchFrom, stretch, timedHalts}
@@ -48,7 +51,7 @@ map-snoc : (calls : List TimedCall) (c : TimedCall)
 map-snoc [] c = refl
 map-snoc (d ∷ calls) c = ap (lookedAt d ∷_) (map-snoc calls c)
 
--- ---- Feed on one table
+-- ---- Open on one table
 
 leaves-after : (t : Table) (n k : ℕ) (es : List ℕ) {o : Outcome}
     → o ≡ endingOf k (record { at = monitorAfter t n es; taken = length es; why = none })
@@ -61,14 +64,16 @@ leaves-after t n k es e =
       area1-same = ap (λ (z : Outcome). z .area1) e;
     }
 
-fed-alone : (l ns : List ℕ) (t : Table) → judgeList l ≡ accepted ns t → Regular t → (n : ℕ) (es : List ℕ) → Runs t n es
-    → (a b work : List ℕ) (fresh : Monitor) → slotCount a ≡ n → Fresh l a b work fresh
-    → (w : List ℕ) → T (workMeasured w) → Leaves (feedOf l fresh es w) (monitorAfter t n es)
-fed-alone l ns t says regular n es r a b work fresh i f w h =
-    let g : Began t n fresh = subst (λ (z : ℕ). Began t z fresh) i (fresh-began l ns t says a b work fresh f) in
+opened-alone : (l ns : List ℕ) (t : Table) → judgeList l ≡ accepted ns t → (n : ℕ) (es : List ℕ) → Fed t n es
+    → Runs t n es → (a b w : List ℕ) → Measured a b w → slotCount a ≡ n
+    → Leaves (openOf l a b es w) (monitorAfter t n es)
+opened-alone l ns t says n es f r a b w m i =
+    let g : residualCount t [] ≤ recordOf t es .peak = record-greatest t es .bounds 0 in
+    let p : recordOf t es .peak ≤ n = f .peak in
+    let h : residualCount t [] ≤ n = omega arith in
     leaves-after t n (length w) es
-    (ap (λ (m : Monitor). feedOf l m es w) (g .same)
-    ∙ feed-goes t regular n l ns says (g .low) (g .high) [] es w (g .fed) (T-true (workMeasured w) h)
+    (open-goes l ns t says a b es w (measured-in a b w m) (rw i h)
+    ∙ ap (λ (k : ℕ). endingOf (length w) (through (takeEvent t) (monitorAfter t k []) 0 es)) i
     ∙ ap (endingOf (length w)) r)
 
 module _ (l k windows ns os : List ℕ) (t u : Table) (says : judgeList l ≡ accepted ns t)
@@ -159,10 +164,8 @@ module _ (l k windows ns os : List ℕ) (t u : Table) (says : judgeList l ≡ ac
           state = monitorAfter (D now) n (stretch windows s .events) .state;
           minute = refl;
           judged = judged-at now (stretch windows s .events);
-          as-fed = fed-alone (cond (inForce windows now) k l) (cond (inForce windows now) os ns) (D now)
-              (says-at l k windows ns os t u says tells good n low top now)
-              (drawing-regular t u (accepts l ns t says) (accepts k os u tells) windows now) n
-              (stretch windows s .events) (g .1);
+          as-opened = opened-alone (cond (inForce windows now) k l) (cond (inForce windows now) os ns) (D now)
+              (says-at l k windows ns os t u says tells good n low top now) n (stretch windows s .events) (g .0) (g .1);
         })
 
     -- of a list that one call takes whole

@@ -41,7 +41,7 @@ use Rattle.monitor_spec.specs.Fold.{through}
 use Rattle.monitor_spec.specs.Feed.{presentSlots, nextSlots, taking, eventRefused, takeEvent}
 use Rattle.monitor_spec.specs.Feed.{endingOf}
 use Rattle.monitor_spec.specs.Feed.{feedOf}
-use Rattle.monitor_spec.specs.State.{laid}
+use Rattle.monitor_spec.specs.Open.{freshMonitor}
 use Rattle.monitor_spec.specs.Examples.{drawn}
 use Rattle.timetable.specs.Timetable.{goodWindow, goodFrom, goodTimetable, someWindow, holds, washAt, inForce}
 use Rattle.timetable.specs.Timetable.{distance, beginsBy, begins, gapsFrom, changes}
@@ -66,7 +66,8 @@ unfolding flatMap size sizes bodyOf bodyNumber termIn termOfDefs termAt prefixes
     validSlot
     areasMeasured workMeasured slotCount even choose chunks flatten fill
     every allZero ascendsFrom ascends verdictFits peakFits recordFits areaFits consistent through
-    presentSlots nextSlots nextVerdict freshState stateAfter counted holding taking eventRefused takeEvent laid drawn
+    presentSlots nextSlots nextVerdict freshState stateAfter counted holding taking eventRefused takeEvent drawn
+    freshMonitor
     measuring judging entrance entering
     goodWindow goodFrom goodTimetable someWindow holds washAt inForce distance beginsBy begins gapsFrom changes
     drawingAt clockBack startDue takeFresh takeOn atMinute takeTimed

@@ -18,9 +18,10 @@ use Rattle.table.specs.Table.{Table}
 use Rattle.table.specs.Operations.{zeros}
 use Rattle.meaning.specs.Figure1.{Term}
 use Rattle.meaning.specs.Figure2.{TraceSet}
-use Rattle.monitor_spec.specs.State.{State, Monitor, workMeasured, slotCount}
-use Rattle.monitor_spec.specs.Feed.{feedOf}
-use Rattle.monitor_spec.specs.History.{Fresh, Leaves, AfterEvents}
+use Rattle.monitor_spec.specs.State.{State, workMeasured, slotCount}
+use Rattle.monitor_spec.specs.Open.{openOf}
+use Rattle.monitor_spec.specs.Refusals.{Measured}
+use Rattle.monitor_spec.specs.History.{Leaves, AfterEvents}
 use Rattle.timetable.specs.Timetable.{inForce}
 use Rattle.wash_spec.specs.Timed.{TimedState, notStarted, started, TimedMonitor, plain, TimedAnswer, given}
 use Rattle.wash_spec.specs.Timed.{refused, stopped, TimedOutcome}
@@ -91,11 +92,9 @@ pub record AfterStart (l k windows : List ℕ) (t u : Table) (H K : Term → Tra
   pub minute : m .state ≡ started state now
   pub judged : AfterEvents (drawingAt t u windows now) (cond (inForce windows now) K H) n (sinceStart windows s)
       (plain state (m .area0) (m .area1))
-  -- and what Feed leaves, on that table alone and from a fresh monitor of as many slots
-  pub as-fed : (a b work : List ℕ) (fresh : Monitor) → slotCount a ≡ n
-      → Fresh (cond (inForce windows now) k l) a b work fresh
-      → (w : List ℕ) → T (workMeasured w)
-      → Leaves (feedOf (cond (inForce windows now) k l) fresh (sinceStart windows s) w)
+  -- and what one Open on them leaves, of that table alone, lent areas of as many slots and of any content (02, W7)
+  pub as-opened : (a b work : List ℕ) → Measured a b work → slotCount a ≡ n
+      → Leaves (openOf (cond (inForce windows now) k l) a b (sinceStart windows s) work)
       (plain state (m .area0) (m .area1))
 
 -- of the joined list s and the monitor m

@@ -12,9 +12,10 @@ use lib.Dec.{ltb, leb}
 use Rattle.table.specs.Table.{Table}
 use Rattle.residuals.specs.Residual.{residualsOf}
 use Rattle.residuals.specs.Slots.{slotsOf}
-use Rattle.monitor_spec.specs.State.{freshState, Monitor, slotCount, choose, laid}
+use Rattle.monitor_spec.specs.State.{Monitor, slotCount, choose}
 use Rattle.monitor_spec.specs.Fold.{Step, went, stops}
 use Rattle.monitor_spec.specs.Feed.{takeEvent}
+use Rattle.monitor_spec.specs.Open.{freshMonitor}
 use Rattle.timetable.specs.Timetable.{minuteBound, inForce, changes}
 use Rattle.wash_spec.specs.Timed.{TimedState, notStarted, started, TimedMonitor, plain, stamped}
 pub mod Laws
@@ -38,8 +39,7 @@ startDue windows (started s last) now = changes windows last now
 -- drawing and count so reached"
 unfoldable pub takeFresh : Table → ℕ → ℕ → Step Monitor
 takeFresh t n e =
-    let ss = slotsOf (residualsOf t []) in
-    elim (ltb n (length ss)) [ true ↦ stops 13 | false ↦ takeEvent t (laid n (freshState (length ss)) ss) e ]
+    elim (ltb n (length (slotsOf (residualsOf t [])))) [ true ↦ stops 13 | false ↦ takeEvent t (freshMonitor t n) e ]
 
 -- where a start is due, and where none is: on the table t
 unfoldable pub takeOn : Table → Bool → TimedState → List ℕ → List ℕ → ℕ → Step Monitor

@@ -12,7 +12,7 @@ use Rattle.table.specs.Table.{Table}
 use Rattle.table.specs.Judge.{Judgement, accepted, declined, judgeList}
 use Rattle.residuals.specs.Residual.{residualsOf}
 use Rattle.residuals.specs.Slots.{slotsOf}
-use Rattle.monitor_spec.specs.State.{Monitor, freshState, laid, slotCount}
+use Rattle.monitor_spec.specs.State.{Monitor, slotCount}
 use Rattle.monitor_spec.specs.Fold.{Step, went, stops, Ended}
 use Rattle.monitor_spec.specs.Feed.{takeEvent}
 use Rattle.monitor_spec.specs.Entering.{measuring, judging, entrance, entering}

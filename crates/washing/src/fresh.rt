@@ -4,7 +4,6 @@
 // `specs/Washing.antt`.
 ghost use mathlib.Core.Path.{_≡_};
 ghost use mathlib.Core.Bool.{true};
-ghost use Prim.Native.Nat.{_≤_};
 ghost use lib.ListN.{length};
 ghost use Rattle.table_index.specs.Index.{tableIn, Indexed};
 ghost use Rattle.monitor_spec.specs.State.{areasMeasured, slotCount};
@@ -13,6 +12,7 @@ ghost use Rattle.washing.specs.Washing.{IsTable, FirstBy, AfreshBy, Free
 use entering::enter;
 use feeding::Taken;
 use feeding::take_event;
+use opening::resolve_last;
 use set_step::Held;
 use state::State;
 use state::clear_all;
@@ -26,9 +26,9 @@ pub(crate) fn stand(list: &[u16], work: &mut [u64])
     let _judged = enter(list, true, work);
 }
 
-// Settles the last definition in a room of zeros as long as the other area, which is zero too, and
-// takes event e from there: what is left is held in the other area. Where the event is refused, or
-// the residuals do not fit the slots, the other area is zero again.
+// Settles the last definition in a room as long as the other area, as Open does, and takes event e
+// from there: what is left is held in the other area. Where the event is refused, or the residuals
+// do not fit the slots, the other area is zero.
 fn take_settled(
     list: &[u16],
     work: &[u64],
@@ -38,13 +38,13 @@ fn take_settled(
     store: &mut [u64],
 ) -> Taken
     requires { ⌜ Indexed (now list) (now work) ⌝ }
-    requires { ⌜ (now room ≡ now other) × Empty (now other) × (length (now store) ≡ 4112) ⌝ }
+    requires { ⌜ areasMeasured (now room) (now other) ≡ true ⌝ }
+    requires { ⌜ length (now store) ≡ 4112 ⌝ }
     ensures { λ r.
         ⌜ FirstBy (tableIn (now (list .entry))) (slotCount (now (other .entry))) e
         r (now (other .exit)) ⌝ }
 {
-    let last = index::definition_count(list, work) - 1;
-    match set_step::resolve_set(list, work, last, room) {
+    match resolve_last(list, work, room, other) {
         Held::Count(count) => {
             let fresh = State::fresh(count as u64);
             take_event(list, work, e, fresh, room, other, store)
@@ -56,7 +56,8 @@ fn take_settled(
 // The same, in a room of this function's own.
 fn take_first(list: &[u16], work: &[u64], e: u8, other: &mut [u64], store: &mut [u64]) -> Taken
     requires { ⌜ Indexed (now list) (now work) ⌝ }
-    requires { ⌜ Empty (now other) × (length (now other) ≤ 4096) × (length (now store) ≡ 4112) ⌝ }
+    requires { ⌜ areasMeasured (now other) (now other) ≡ true ⌝ }
+    requires { ⌜ length (now store) ≡ 4112 ⌝ }
     ensures { λ r.
         ⌜ FirstBy (tableIn (now (list .entry))) (slotCount (now (other .entry))) e
         r (now (other .exit)) ⌝ }

@@ -39,7 +39,7 @@ use Rattle.monitor_spec.specs.Fold.{through}
 use Rattle.monitor_spec.specs.Feed.{presentSlots, nextSlots, taking, eventRefused, takeEvent, endingOf}
 use Rattle.monitor_spec.specs.Feed.{feedOf}
 use Rattle.monitor_spec.specs.Try.{furtherMeasured, leftIn, onCopy, tryOf}
-use Rattle.monitor_spec.specs.Start.{startAccepted, startOf}
+use Rattle.monitor_spec.specs.Open.{freshMonitor, openAccepted, openOf}
 use Rattle.monitor_spec.specs.Offer.{bitOf, bitsFrom, wordBits, wordFrom, allBits, offerBits, offering, offerOf}
 use Rattle.monitor_spec.specs.View.{partBy, viewPart}
 use Rattle.table.specs.Operations.{measured, readJudged, readOf, writeJudged, writeOf}
@@ -48,9 +48,10 @@ use Rattle.words.specs.Tables as tables
 use Rattle.words.specs.Tables.{valueOf, tableCall, readCall, writeCall}
 use Rattle.words.specs.Calls as calls
 use Rattle.words.specs.Calls.{numberOf, recordAfter, monitorCall, monitorIn, unmeasured}
-use Rattle.words.specs.Calls.{startCall, feedCall, tryCall, offerNumber, offerValue, offerSecond, offerCall}
+use Rattle.words.specs.Calls.{openedOf, openCall, feedCall, tryCall, offerNumber, offerValue, offerSecond}
+use Rattle.words.specs.Calls.{offerCall}
 use Rattle.words.specs.Calls.{viewing, viewCall}
-use Rattle.words.specs.Examples.{started, fed, tried, offered, viewed, RowsHold}
+use Rattle.words.specs.Examples.{opened, started, fed, tried, offered, viewed, RowsHold}
 
 pub rows-hold : RowsHold
 unfolding flatMap size sizes bodyOf bodyNumber termIn termOfDefs termAt prefixesIn enclosingIn enclosing
@@ -68,17 +69,23 @@ unfolding flatMap size sizes bodyOf bodyNumber termIn termOfDefs termAt prefixes
     validSlot
     areasMeasured workMeasured slotCount even choose chunks flatten fill
     every allZero ascendsFrom ascends verdictFits peakFits recordFits areaFits consistent through
-    presentSlots nextSlots nextVerdict freshState stateAfter counted holding taking eventRefused takeEvent endingOf feedOf
-    measuring judging entrance agreeing entranceOn entering refusing startAccepted startOf
+    presentSlots nextSlots nextVerdict freshState stateAfter counted holding taking eventRefused takeEvent
+    endingOf feedOf measuring judging entrance agreeing entranceOn entering refusing freshMonitor openAccepted openOf
     carry later scanWith readNumber byteToken byteTokensWith byteTokens judgeBytes
     measured readJudged readOf writeJudged writeOf bitOf bitsFrom wordBits wordFrom allBits offerBits
     offering offerOf
     partBy viewPart
     recordMeasured verdictIn stateIn failureWords wordsOf tables.numberOf valueOf tableCall readCall writeCall
-    numberOf calls.placeOf recordAfter monitorCall monitorIn unmeasured startCall feedCall tryCall
+    numberOf calls.placeOf recordAfter monitorCall monitorIn unmeasured openedOf openCall feedCall tryCall
     furtherMeasured leftIn onCopy tryOf tried
-    offerNumber offerValue offerSecond calls.offering offerCall viewing viewCall started fed offered viewed RowsHold
+    offerNumber offerValue offerSecond calls.offering offerCall viewing viewCall opened started fed offered viewed
+    RowsHold
 rows-hold = (
+  refl,
+  refl,
+  refl,
+  refl,
+  refl,
   refl,
   refl,
   refl,

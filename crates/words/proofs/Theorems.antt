@@ -1,9 +1,9 @@
 -- A proof of each claim of `specs/Claims.antt`. Assumes nothing.
 use Rattle.words.specs.Words.Laws.{read-back}
-use Rattle.words.specs.Ways.Laws.{read-way, write-way, start-way, feed-way, try-way, offer-way}
+use Rattle.words.specs.Ways.Laws.{read-way, write-way, open-way, feed-way, try-way, offer-way}
 use Rattle.words.specs.Ways.Laws.{view-way}
 use Rattle.words.specs.Claims.{RecordReadsBack, CallsTell, ZeroExactly, ViewShows, Rows}
-use Rattle.words.proofs.Zero.{read-zero, write-zero, start-zero, feed-zero, try-zero, offer-zero}
+use Rattle.words.proofs.Zero.{read-zero, write-zero, open-zero, feed-zero, try-zero, offer-zero}
 use Rattle.words.proofs.Shows.{shows}
 use Rattle.words.proofs.Rows.{rows-hold}
 
@@ -16,7 +16,7 @@ calls-tell =
     record {
       read = read-way;
       write = write-way;
-      start = start-way;
+      opening = open-way;
       feed = feed-way;
       trial = try-way;
       offer = offer-way;
@@ -28,7 +28,7 @@ zero-exactly =
     record {
       read = read-zero;
       write = write-zero;
-      start = start-zero;
+      opening = open-zero;
       feed = feed-zero;
       trial = try-zero;
       offer = offer-zero;

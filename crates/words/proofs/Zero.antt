@@ -17,8 +17,8 @@ use Rattle.monitor_spec.specs.State.{Monitor, areasMeasured, workMeasured, slot
 use Rattle.residuals.specs.Residual.{residualsOf}
 use Rattle.residuals.specs.Slots.{slotsOf}
 use Rattle.monitor_spec.specs.Fold.{Ended}
-use Rattle.monitor_spec.specs.Start.{startAccepted, startOf}
-use Rattle.monitor_spec.specs.Start.Laws.{start-shut, start-admits}
+use Rattle.monitor_spec.specs.Open.{freshMonitor, openAccepted, openOf}
+use Rattle.monitor_spec.specs.Open.Laws.{open-shut, open-admits}
 use Rattle.monitor_spec.specs.Feed.{takeEvent, endingOf, feedOf}
 use Rattle.monitor_spec.specs.Feed.Laws.{feed-shut, feed-admits}
 use Rattle.monitor_spec.specs.Try.{furtherMeasured, onCopy, tryOf}
@@ -31,7 +31,7 @@ use Rattle.words.specs.Nonzero.{list-some, bytes-some, Why, event-stop, 
 use Rattle.words.specs.Words.{recordMeasured}
 use Rattle.words.specs.Tables as tables
 use Rattle.words.specs.Tables.{isDone, tableCall, readCall, writeCall}
-use Rattle.words.specs.Calls.{numberOf, isGiven, monitorCall, monitorIn, unmeasured, startCall, feedCall}
+use Rattle.words.specs.Calls.{numberOf, isGiven, monitorCall, monitorIn, unmeasured, openCall, feedCall}
 use Rattle.words.specs.Calls.{tryCall}
 use Rattle.words.specs.Calls.{offerNumber, isOffered, offerCall}
 use Rattle.words.specs.Calls as calls
@@ -79,40 +79,10 @@ write-zero l out w = go (measured w 8192)
     go true = write-judged l out (judgeList l) refl
     go false = refl
 
--- ---- Start
-
 abbrev Said : state.Outcome → Type 0
 Said o = eqb (numberOf (o .answer)) 0 ≡ isGiven (o .answer)
 
-start-accepted : (t : Table) (a b w : List ℕ) → Said (startAccepted t a b w)
-unfolding startAccepted numberOf isGiven
-start-accepted t a b w = go (ltb (slotCount a) (length (slotsOf (residualsOf t [])))) refl
-  where
-    go : (x : Bool) → ltb (slotCount a) (length (slotsOf (residualsOf t []))) ≡ x → Said (startAccepted t a b w)
-    go true e = rw (e, startAccepted)
-    go false e = rw (e, startAccepted)
-
-start-said : (l a b w : List ℕ) → Said (startOf l a b w)
-unfolding refusing numberOf isGiven
-start-said l a b w = go (entrance (areasMeasured a b && workMeasured w) l w) refl
-  where
-    go : (x : Entrance) → entrance (areasMeasured a b && workMeasured w) l w ≡ x → Said (startOf l a b w)
-    go (shut n p v) e =
-        rw (start-shut l a b w n p v e)
-        (ne-eqb n 0 (shut-all _ l w (λ n p v. n ≡ 0 → ⊥) (λ h. omega arith) (list-some l) n p v e))
-    go (admits t) e = rw (start-admits l a b w t e) (start-accepted t a b w)
-
-pub start-zero : (l r a b w : List ℕ)
-    → eqb (startCall l r a b w .number) 0 ≡ (recordMeasured r && isGiven (startOf l a b w .answer))
-unfolding startCall monitorCall unmeasured
-start-zero l r a b w = go (recordMeasured r) refl
-  where
-    go : (x : Bool) → recordMeasured r ≡ x
-        → eqb (startCall l r a b w .number) 0 ≡ (recordMeasured r && isGiven (startOf l a b w .answer))
-    go true e = rw (e, startCall) (start-said l a b w)
-    go false e = rw (e, startCall)
-
--- ---- Feed
+-- ---- after a list's events
 
 ending-said : (n : ℕ) (x : Ended Monitor) → Why (x .why) → Said (endingOf n x)
 unfolding endingOf numberOf isGiven
@@ -121,6 +91,40 @@ ending-said n x h = go (x .why) refl
     go : (o : Option ℕ) → x .why ≡ o → Said (endingOf n x)
     go none e = rw (e, endingOf)
     go (some k) e = rw (e, endingOf) (ne-eqb k 0 (subst Why e h))
+
+-- ---- Open
+
+open-accepted : (t : Table) (a es w : List ℕ) → Said (openAccepted t a es w)
+unfolding openAccepted numberOf isGiven
+open-accepted t a es w = go (ltb (slotCount a) (length (slotsOf (residualsOf t [])))) refl
+  where
+    go : (x : Bool) → ltb (slotCount a) (length (slotsOf (residualsOf t []))) ≡ x → Said (openAccepted t a es w)
+    go true e = rw (e, openAccepted)
+    go false e =
+        rw (e, openAccepted)
+        (ending-said (length w) _ (through-why (takeEvent t) (event-stop t) es (freshMonitor t (slotCount a)) 0))
+
+open-said : (l a b es w : List ℕ) → Said (openOf l a b es w)
+unfolding refusing numberOf isGiven
+open-said l a b es w = go (entrance (areasMeasured a b && workMeasured w) l w) refl
+  where
+    go : (x : Entrance) → entrance (areasMeasured a b && workMeasured w) l w ≡ x → Said (openOf l a b es w)
+    go (shut n p v) e =
+        rw (open-shut l a b es w n p v e)
+        (ne-eqb n 0 (shut-all _ l w (λ n p v. n ≡ 0 → ⊥) (λ h. omega arith) (list-some l) n p v e))
+    go (admits t) e = rw (open-admits l a b es w t e) (open-accepted t a es w)
+
+pub open-zero : (l r a b es w : List ℕ)
+    → eqb (openCall l r a b es w .call .number) 0 ≡ (recordMeasured r && isGiven (openOf l a b es w .answer))
+unfolding openCall monitorCall unmeasured
+open-zero l r a b es w = go (recordMeasured r) refl
+  where
+    go : (x : Bool) → recordMeasured r ≡ x
+        → eqb (openCall l r a b es w .call .number) 0 ≡ (recordMeasured r && isGiven (openOf l a b es w .answer))
+    go true e = rw (e, openCall) (open-said l a b es w)
+    go false e = rw (e, openCall)
+
+-- ---- Feed
 
 -- no refusal before the events has the number 0
 on-some : (l : List ℕ) (m : Monitor) (w : List ℕ) (n p : ℕ) (v : List ℕ) → entranceOn l m w ≡ shut n p v

@@ -1,6 +1,7 @@
--- `cspe_start`, `cspe_feed`, `cspe_try`, `cspe_offer` and `cspe_view`: what they return and what stands in the lent
--- words afterwards (01, "Operations"; 02, W4). The record is five lent words (`Words`).
---     MonitorCall, Told, startCall, feedCall    of Start and Feed
+-- `cspe_open`, `cspe_feed`, `cspe_try`, `cspe_offer` and `cspe_view`: what they return and what stands in the lent
+-- words afterwards (01, "Operations"; 02, W4, W7). The record is five lent words (`Words`).
+--     MonitorCall, Told, feedCall               of Feed
+--     OpenCall, openCall                        of Open: also, whether there is a record
 --     tryCall                                   of Try, in the further record and areas
 --     OfferCall, OfferTold, offerCall           of Offer
 --     ViewCall, viewCall                        of View
@@ -12,7 +13,7 @@ use mathlib.Core.List.{List}
 use lib.ListN.{length}
 use lib.Dec.{eqb}
 use Rattle.monitor_spec.specs.State.{State, Monitor, Answer, given, refused, stopped, Outcome}
-use Rattle.monitor_spec.specs.Start.{startOf}
+use Rattle.monitor_spec.specs.Open.{openOf}
 use Rattle.monitor_spec.specs.Feed.{feedOf}
 use Rattle.monitor_spec.specs.Try.{tryOf}
 use Rattle.monitor_spec.specs.Offer.{Offered, offers, OfferOutcome, offerOf}
@@ -21,7 +22,7 @@ use Rattle.monitor_spec.specs.View.{Part, viewPart}
 use Rattle.words.specs.Words.{recordMeasured, stateIn, wordsOf}
 pub mod Laws
 
--- ---- Start and Feed
+-- ---- Open and Feed
 
 pub record MonitorCall : Type 0 where
   pub number : ℕ
@@ -83,12 +84,27 @@ monitorIn r a b = record { state = stateIn r; area0 = a; area1 = b }
 unfoldable pub unmeasured : List ℕ → List ℕ → List ℕ → List ℕ → MonitorCall
 unmeasured r a b w = record { number = 1; place = 0; words = r; area0 = a; area1 = b; work = w }
 
--- number list, record, areas, work words
-unfoldable pub startCall : List ℕ → List ℕ → List ℕ → List ℕ → List ℕ → MonitorCall
-startCall l r a b w =
+-- whether an answer has a record: 1, or 0
+unfoldable pub openedOf : Answer → ℕ
+openedOf (given s) = 1
+openedOf (refused n p) = 0
+openedOf (stopped n p s) = 1
+
+-- ours: a word more tells the two forms of 13 at place 0 apart
+pub record OpenCall : Type 0 where
+  pub call : MonitorCall
+  pub opened : ℕ
+
+abbrev pub openSaid : ℕ → ℕ → ℕ → List ℕ → List ℕ → List ℕ → List ℕ → OpenCall
+openSaid n p k r a b w = record { call = said n p r a b w; opened = k }
+
+-- number list, record, areas, events, work words
+unfoldable pub openCall : List ℕ → List ℕ → List ℕ → List ℕ → List ℕ → List ℕ → OpenCall
+openCall l r a b es w =
     elim (recordMeasured r) [
-      | true ↦ monitorCall r (startOf l a b w)
-      | false ↦ unmeasured r a b w
+      | true ↦
+          record { call = monitorCall r (openOf l a b es w); opened = openedOf (openOf l a b es w .answer) }
+      | false ↦ record { call = unmeasured r a b w; opened = 0 }
     ]
 
 -- number list, record, areas, events, work words

@@ -15,16 +15,16 @@ use lib.Dec.{eqb}
 use Rattle.numbers.specs.Number.{Bytes}
 use Rattle.table.specs.Operations.{readOf, writeOf}
 use Rattle.monitor_spec.specs.State.{State, choose}
-use Rattle.monitor_spec.specs.Start.{startOf}
+use Rattle.monitor_spec.specs.Open.{openOf}
 use Rattle.monitor_spec.specs.Feed.{feedOf}
 use Rattle.monitor_spec.specs.Try.{tryOf}
 use Rattle.monitor_spec.specs.Offer.{offerOf}
 use Rattle.monitor_spec.specs.View.{viewOf}
 use Rattle.words.specs.Words.{recordMeasured, stateIn, wordsOf}
 use Rattle.words.specs.Tables.{isDone, readCall, writeCall}
-use Rattle.words.specs.Calls.{isGiven, isOffered, monitorIn, startCall, feedCall, tryCall, offerCall}
+use Rattle.words.specs.Calls.{isGiven, isOffered, monitorIn, openCall, feedCall, tryCall, offerCall}
 use Rattle.words.specs.Calls.{viewCall}
-use Rattle.words.specs.Ways.{CallWay, TryWay, OfferWay, ViewWay, TableWay}
+use Rattle.words.specs.Ways.{CallWay, OpenWay, TryWay, OfferWay, ViewWay, TableWay}
 use Rattle.words.specs.Examples.{RowsHold}
 
 unfoldable pub RecordReadsBack : Type 0
@@ -34,7 +34,7 @@ RecordReadsBack = (s : State) → stateIn (wordsOf s) ≡ s
 pub record CallsTell : Type 0 where
   pub read : (s out w : List ℕ) → TableWay (readOf s out w) (readCall s out w)
   pub write : (l out w : List ℕ) → TableWay (writeOf l out w) (writeCall l out w)
-  pub start : (l r a b w : List ℕ) → CallWay r a b w (startOf l a b w) (startCall l r a b w)
+  pub opening : (l r a b es w : List ℕ) → OpenWay r a b w (openOf l a b es w) (openCall l r a b es w)
   pub feed : (l r a b es w : List ℕ)
       → CallWay r a b w (feedOf l (monitorIn r a b) es w) (feedCall l r a b es w)
   pub trial : (l r a b r′ c d es w : List ℕ)
@@ -46,8 +46,8 @@ pub record CallsTell : Type 0 where
 pub record ZeroExactly : Type 0 where
   pub read : (s out w : List ℕ) → Bytes s → eqb (readCall s out w .number) 0 ≡ isDone (readOf s out w .answer)
   pub write : (l out w : List ℕ) → eqb (writeCall l out w .number) 0 ≡ isDone (writeOf l out w .answer)
-  pub start : (l r a b w : List ℕ)
-      → eqb (startCall l r a b w .number) 0 ≡ (recordMeasured r && isGiven (startOf l a b w .answer))
+  pub opening : (l r a b es w : List ℕ)
+      → eqb (openCall l r a b es w .call .number) 0 ≡ (recordMeasured r && isGiven (openOf l a b es w .answer))
   pub feed : (l r a b es w : List ℕ)
       → eqb (feedCall l r a b es w .number) 0
       ≡ (recordMeasured r && isGiven (feedOf l (monitorIn r a b) es w .answer))

@@ -1,5 +1,5 @@
 -- Calls on table B of 01 as C makes them, with two slots, as computed rows.
---     started, fed       the words that a Start leaves; a Feed on them;  tried: a Try on them
+--     opened, fed        the words that an Open leaves; a Feed on them;  tried: a Try on them
 --     RowsHold           what is returned and left
 -- Assumes nothing.
 use Prim.Native.Nat.{ℕ}
@@ -10,13 +10,21 @@ use Rattle.table.specs.Operations.{zeros}
 use Rattle.monitor_spec.specs.State.{running, failedAt}
 use Rattle.words.specs.Words.{stateIn}
 use Rattle.words.specs.Tables.{said, readCall, writeCall}
-use Rattle.words.specs.Calls.{MonitorCall, OfferCall, ViewCall, startCall, feedCall, tryCall, offerCall}
+use Rattle.words.specs.Calls.{MonitorCall, OpenCall, OfferCall, ViewCall, openCall, feedCall, tryCall, offerCall}
 use Rattle.words.specs.Calls.{viewCall}
 use Rattle.words.specs.Calls as calls
 
 -- 01, "Table B": its numbers are its bytes
 abbrev pub tableB : List ℕ
 tableB = 3 ∷ 2 ∷ 0 ∷ 1 ∷ 0 ∷ 0 ∷ 1 ∷ 1 ∷ 1 ∷ 0 ∷ 2 ∷ 0 ∷ 2 ∷ 1 ∷ 5 ∷ 0 ∷ []
+
+-- A = 1, the set {0}: (0 to STOP) choice (0 to FAIL), two residuals; 0 to (0 to STOP) choice (0 to FAIL), one and then
+-- two
+abbrev pub two : List ℕ
+two = 1 ∷ 1 ∷ 0 ∷ 1 ∷ 0 ∷ 1 ∷ 0 ∷ 3 ∷ 2 ∷ 0 ∷ 0 ∷ 2 ∷ 0 ∷ 1 ∷ []
+
+abbrev pub forks : List ℕ
+forks = 1 ∷ 1 ∷ 0 ∷ 1 ∷ 0 ∷ 1 ∷ 0 ∷ 2 ∷ 0 ∷ 3 ∷ 2 ∷ 0 ∷ 0 ∷ 2 ∷ 0 ∷ 1 ∷ []
 
 -- a record's words
 abbrev pub five : ℕ → ℕ → ℕ → ℕ → ℕ → List ℕ
@@ -34,8 +42,12 @@ sevens n = replicate n 7
 abbrev pub further : List ℕ
 further = sevens 5
 
+-- whatever stood in the record and the areas
+unfoldable pub opened : List ℕ → OpenCall
+opened es = openCall tableB (sevens 5) (sevens 32) (sevens 32) es (zeros 8192)
+
 unfoldable pub started : MonitorCall
-started = startCall tableB (zeros 5) (zeros 32) (zeros 32) (zeros 8192)
+started = opened [] .call
 
 unfoldable pub fed : List ℕ → MonitorCall
 fed es = feedCall tableB (started .words) (started .area0) (started .area1) es (zeros 8192)
@@ -53,6 +65,9 @@ viewed m = viewCall (m .words) (m .area0) (m .area1)
 abbrev left : ℕ → ℕ → List ℕ → List ℕ → List ℕ → MonitorCall
 left n p r a b = calls.said n p r a b (zeros 8192)
 
+abbrev gave : ℕ → ℕ → ℕ → List ℕ → List ℕ → List ℕ → OpenCall
+gave n p k r a b = calls.openSaid n p k r a b (zeros 8192)
+
 unfoldable pub RowsHold : Type 0
 RowsHold =
     -- Read and Write: the count; "cut short" at the input's length; a short output
@@ -60,14 +75,23 @@ RowsHold =
     × (readCall (3 ∷ 2 ∷ []) (zeros 16384) (zeros 8192) ≡ said 3 2 (zeros 16384) (zeros 8192))
     × (writeCall tableB (zeros 17) (zeros 8192) ≡ said 0 16 (tableB ++ 0 ∷ []) (zeros 8192))
     × (writeCall tableB (zeros 15) (zeros 8192) ≡ said 1 0 (zeros 15) (zeros 8192))
-    -- Start, and Feed on K3, K1, and on an event that is A
-    × (started ≡ left 0 0 (five 0 1 0 0 1) (slot 0) (zeros 32))
+    -- Open, with an empty list and with others; of areas that are not as long as each other
+    × (opened [] ≡ gave 0 0 1 (five 0 1 0 0 1) (slot 0) (zeros 32))
+    × (opened (0 ∷ 0 ∷ []) ≡ gave 0 0 1 (five 2 0 1 2 1) (zeros 32) (zeros 32))
+    × (opened (0 ∷ 3 ∷ 1 ∷ []) ≡ gave 11 1 1 (five 1 1 0 0 1) (zeros 32) (slot 268435456))
+    × (openCall tableB further (sevens 32) (sevens 16) [] (zeros 8192)
+    ≡ gave 1 0 0 further (sevens 32) (sevens 16))
+    -- 13 at place 0: while settling, with no record and the record's words kept; at the first event, with one
+    × (openCall two further (sevens 16) (sevens 16) (0 ∷ []) (zeros 8192) ≡ gave 13 0 0 further (zeros 16) (zeros 16))
+    × (openCall forks further (sevens 16) (sevens 16) (0 ∷ []) (zeros 8192)
+    ≡ gave 13 0 1 (five 0 1 0 0 1) (1 ∷ zeros 15) (zeros 16))
+    -- Feed on K3, K1, and on an event that is A
     × (fed (0 ∷ 1 ∷ 0 ∷ []) ≡ left 0 0 (five 3 1 0 0 1) (zeros 32) (slot 268435456))
     × (fed (0 ∷ 0 ∷ []) ≡ left 0 0 (five 2 0 1 2 1) (zeros 32) (zeros 32))
     × (fed (0 ∷ 3 ∷ 1 ∷ []) ≡ left 11 1 (five 1 1 0 0 1) (zeros 32) (slot 268435456))
     -- a record of four words, of six; one that the areas do not agree with
-    × (startCall tableB (zeros 4) (zeros 32) (zeros 32) (zeros 9)
-    ≡ calls.said 1 0 (zeros 4) (zeros 32) (zeros 32) (zeros 9))
+    × (openCall tableB (zeros 4) (zeros 32) (zeros 32) [] (zeros 9)
+    ≡ calls.openSaid 1 0 0 (zeros 4) (zeros 32) (zeros 32) (zeros 9))
     × (feedCall tableB (zeros 6) (zeros 32) (zeros 32) [] (zeros 8192) ≡ left 1 0 (zeros 6) (zeros 32) (zeros 32))
     × (feedCall tableB (five 0 1 0 0 1) (zeros 32) (zeros 32) [] (zeros 8192)
     ≡ left 10 0 (five 0 1 0 0 1) (zeros 32) (zeros 32))

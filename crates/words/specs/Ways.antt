@@ -1,5 +1,5 @@
 -- What each call returns and leaves, by the record's length and the operation's answer: every word of each way.
---     CallWay     of Start and Feed, whose outcome is o
+--     CallWay     of Open and Feed, whose outcome is o;  OpenWay: of Open, with whether there is a record
 --     TryWay      of Try
 --     OfferWay    of Offer
 --     ViewWay     of View, whose part of an area is given
@@ -8,15 +8,17 @@
 use Prim.Native.Nat.{ℕ, _<_, _%_}
 use mathlib.Core.Path.{_≡_}
 use mathlib.Core.List.{List}
+use mathlib.Core.Option.{none, some}
 use lib.ListN.{length}
 use Rattle.table.specs.Operations.{done, refusal}
 use Rattle.table.specs.Operations as table
 use Rattle.monitor_spec.specs.State.{State, given, refused, stopped, Outcome}
+use Rattle.monitor_spec.specs.History.{recordIn}
 use Rattle.monitor_spec.specs.Offer.{EventBits, offers, OfferOutcome}
 use Rattle.monitor_spec.specs.Offer as operation
 use Rattle.words.specs.Words.{stateIn, wordsOf}
 use Rattle.words.specs.Tables.{TableCall}
-use Rattle.words.specs.Calls.{MonitorCall, OfferCall, ViewCall}
+use Rattle.words.specs.Calls.{MonitorCall, OpenCall, OfferCall, ViewCall}
 pub mod Laws
 
 pub data CallWay (r a b w : List ℕ) (o : Outcome) : MonitorCall → Type 0 where
@@ -53,6 +55,13 @@ pub data CallWay (r a b w : List ℕ) (o : Outcome) : MonitorCall → Type 0 whe
         area1 = o .area1;
         work = o .work;
       })
+
+-- 02, W7: "an Open that gave a record", and one that gave none
+pub record OpenWay (r a b w : List ℕ) (o : Outcome) (k : OpenCall) : Type 0 where
+  pub way : CallWay r a b w o (k .call)
+  pub with-record : (s : State) → length r ≡ 5 → recordIn (o .answer) ≡ some s → k .opened ≡ 1
+  pub without-record : recordIn (o .answer) ≡ none → k .opened ≡ 0
+  pub unfit : (length r ≡ 5 → ⊥) → k .opened ≡ 0
 
 -- of the record r that is read, and the further record and areas
 pub data TryWay (r r′ c d w : List ℕ) (o : Outcome) (k : MonitorCall) : Type 0 where

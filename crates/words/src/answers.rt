@@ -1,13 +1,13 @@
-// Answers of Start, Feed and Offer in words. The definitions are in `specs/Calls.antt`.
+// Answers of Open, Feed and Offer in words. The definitions are in `specs/Calls.antt`.
 ghost use mathlib.Core.Path.{_≡_};
 ghost use lib.ListN.{length};
 ghost use Rattle.state.specs.Answers.{answerOf, offeredOf};
-ghost use Rattle.words.specs.Calls.{Told, OfferTold};
+ghost use Rattle.words.specs.Calls.{openedOf, Told, OfferTold};
 use crate::record::store;
 use state::Answer;
 use state::Offered;
 
-// Of Start and Feed. The number to return; the place goes into place, and the record, if there is
+// Of Open and Feed. The number to return; the place goes into place, and the record, if there is
 // one, into record.
 pub fn tell(answer: Answer, record: &mut [u64], place: &mut u64) -> u32
     requires { ⌜ length (now «record») ≡ 5 ⌝ }
@@ -30,6 +30,17 @@ pub fn tell(answer: Answer, record: &mut [u64], place: &mut u64) -> u32
             *place = why.place as u64;
             why.number as u32
         }
+    }
+}
+
+// Of Open: 1 where the answer has a record, else 0.
+pub fn has_record(answer: Answer) -> u64
+    ensures { λ r. ⌜ r ≡ openedOf (answerOf answer) ⌝ }
+{
+    match answer {
+        Answer::Given(_) => 1,
+        Answer::Refused(_) => 0,
+        Answer::Stopped(_, _) => 1,
     }
 }
 

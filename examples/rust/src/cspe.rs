@@ -1,12 +1,12 @@
 //! The monitor's static library (`include/cspe_monitor.h`) for safe Rust.
 //!
 //!     Table      the numbers of a table: Read and Write
-//!     Monitor    a monitor with its buffers: Start, Feed, Try, Offer, View
+//!     Monitor    a monitor with its buffers: Open, Feed, Try, Offer, View
 //!     Refusal    a refusal's number and place
 //!     sheet      the lot sheet of a lot book
 //!
-//! The library asks of a caller that pointers are valid for the lengths beside them and aligned, and that what it writes
-//! overlaps nothing else; slices that Rust lends are so. It asks nothing else.
+//! The library asks of a caller that pointers are valid for the lengths beside them and aligned, and that what it
+//! writes overlaps nothing else; slices that Rust lends are so. It asks nothing else.
 
 mod library;
 
@@ -106,7 +106,8 @@ pub enum Verdict {
     Failed(u64),
 }
 
-/// The state record: events taken, residuals held, the most that were held at a time since Start, and the verdict.
+/// The state record: events taken, residuals held, the most that were held at a time since it was opened, and the
+/// verdict.
 #[derive(Clone, Copy, Debug, PartialEq, Eq)]
 pub struct State {
     pub taken: u64,
@@ -130,17 +131,23 @@ pub struct Monitor<'t> {
 }
 
 impl<'t> Monitor<'t> {
-    /// Start: a monitor that has room for so many residuals, 1 to 256; any other number is refusal 1.
-    pub fn start(table: &'t Table, slots: usize) -> Result<Monitor<'t>, Refusal> {
+    /// Open: a monitor that has room for so many residuals, 1 to 256 (any other number is refusal 1), after these
+    /// events. Where one of them is refused, 11 to 13, the monitor is given that took those before it, with the
+    /// refusal; on any other refusal there is no monitor, nor on 13 where the table begins with too many residuals.
+    pub fn open(
+        table: &'t Table,
+        slots: usize,
+        events: &[u8],
+    ) -> Result<(Monitor<'t>, Option<Refusal>), Refusal> {
         let area = vec![0; slots * SLOT_WORDS];
         let areas = [area.clone(), area];
         let record = [0; RECORD_WORDS];
         let mut monitor = Monitor::resume(table, Parts { record, areas });
         let [area0, area1] = &mut monitor.parts.areas;
-        let mut place = 0;
+        let (mut place, mut opened) = (0, 0);
         // SAFETY: as in `Table::read`
         let number = unsafe {
-            library::cspe_start(
+            library::cspe_open(
                 table.list.as_ptr(),
                 table.list.len(),
                 monitor.parts.record.as_mut_ptr(),
@@ -149,13 +156,19 @@ impl<'t> Monitor<'t> {
                 area0.len(),
                 area1.as_mut_ptr(),
                 area1.len(),
+                events.as_ptr(),
+                events.len(),
                 monitor.work.as_mut_ptr(),
                 monitor.work.len(),
                 &mut place,
+                &mut opened,
             )
         };
-        result(number, place)?;
-        Ok(monitor)
+        match result(number, place) {
+            Ok(_) => Ok((monitor, None)),
+            Err(refusal) if opened == 1 => Ok((monitor, Some(refusal))),
+            Err(refusal) => Err(refusal),
+        }
     }
 
     /// A monitor whose parts were kept elsewhere. Each call of `feed` and `offer` tries them (refusals 1 and 10).

@@ -1,4 +1,4 @@
-//! The monitor from Rust: table B of document 01 is read, a monitor is started and fed `0 1 0` in pieces, and each
+//! The monitor from Rust: table B of document 01 is read, a monitor is opened and fed `0 1 0` in pieces, and each
 //! answer is checked. Then areas are sized for another table: by the peak of a trial lot. It prints a line for each
 //! call, the same as `../c/main.c`, and ends with status 1 at the first answer that is not the expected one. With the
 //! word `lots` it prints a lot sheet, as `../c/sheet.c` does. In the repository's root:
@@ -19,6 +19,9 @@ const TABLE_B: [u8; 16] = [3, 2, 0, 1, 0, 0, 1, 1, 1, 0, 2, 0, 2, 1, 5, 0];
 
 // drawing K8 of document 01: prefix {0} to STOP, twice, side by side
 const TABLE_K8: [u8; 20] = [3, 3, 0, 1, 0, 0, 1, 1, 0, 0, 1, 0, 4, 2, 2, 0, 0, 2, 0, 0];
+
+// drawing K7: prefix {0} to STOP, or prefix {0} to prefix {1} to STOP
+const TABLE_K7: [u8; 19] = [3, 2, 0, 1, 0, 0, 1, 1, 1, 0, 3, 2, 0, 0, 2, 0, 2, 1, 0];
 
 fn expect(holds: bool, what: &str) {
     if !holds {
@@ -54,6 +57,13 @@ fn show_refusal<T>(call: &str, result: Result<T, Refusal>, number: u32, place: u
     println!("{call}: refused {number} at {place}");
 }
 
+/// A monitor that took all of its events.
+fn opened<'t>(table: &'t Table, slots: usize, events: &[u8], what: &str) -> Monitor<'t> {
+    let (monitor, refusal) = given(Monitor::open(table, slots, events), what);
+    expect(refusal.is_none(), what);
+    monitor
+}
+
 /// Prints the events that may come next, as two words of bits: of an alphabet of 3 the second is 0.
 fn show_offer(monitor: &mut Monitor, due: u64) {
     let [first, second] = given(monitor.offer(), "offer");
@@ -82,9 +92,9 @@ fn read_and_write() -> Table {
 }
 
 fn follow(table: &Table) -> Monitor<'_> {
-    show_refusal("start without slots", Monitor::start(table, 0), 1, 0);
-    let mut monitor = given(Monitor::start(table, SLOTS), "start");
-    show("start", monitor.state(), 0, 1, Verdict::Running, 1);
+    show_refusal("open without slots", Monitor::open(table, 0, &[]), 1, 0);
+    let mut monitor = opened(table, SLOTS, &[], "open");
+    show("open", monitor.state(), 0, 1, Verdict::Running, 1);
     show_offer(&mut monitor, 1);
 
     let events = [0, 1, 0];
@@ -133,19 +143,24 @@ fn refuse_and_fail(table: &Table, mut monitor: Monitor) {
 fn size_areas() {
     let lot = [0, 0];
     let table = given(Table::read(&TABLE_K8), "read of another table");
-    let mut monitor = given(Monitor::start(&table, MOST_SLOTS), "start with 256 slots");
-    let state = given(monitor.feed(&lot), "feed of a trial lot");
+    let state = opened(&table, MOST_SLOTS, &lot, "open with 256 slots and a trial lot").state();
     show("trial lot with 256 slots", state, 2, 1, Verdict::Running, 2);
     let slots = state.peak as usize;
 
-    let mut monitor = given(Monitor::start(&table, slots), "start with the peak's slots");
-    let state = given(monitor.feed(&lot), "feed of the same lot");
+    let state = opened(&table, slots, &lot, "open with the peak's slots").state();
     show("the same with 2 slots", state, 2, 1, Verdict::Running, 2);
 
-    // one slot less: an event is refused, which does not move the peak
-    let mut monitor = given(Monitor::start(&table, slots - 1), "start with a slot less");
-    show_refusal("the same with 1 slot", monitor.feed(&lot), 13, 0);
+    // one slot less: the first event is refused, which does not move the peak, and there is a monitor
+    let (monitor, refusal) =
+        given(Monitor::open(&table, slots - 1, &lot), "open with a slot less");
+    show_refusal("the same with 1 slot", refusal.map_or(Ok(()), Err), 13, 0);
     show("the record", monitor.state(), 0, 1, Verdict::Running, 1);
+
+    // two residuals before any event, and one slot: the same number and place, and no monitor
+    let table = given(Table::read(&TABLE_K7), "read of a third table");
+    let refused = Monitor::open(&table, 1, &lot);
+    show_refusal("a table that begins with 2, and 1 slot", refused, 13, 0);
+    show("the record is kept", monitor.state(), 0, 1, Verdict::Running, 1);
 }
 
 fn main() {

@@ -73,7 +73,7 @@ mod tests {
         let mut work = vec![0; WORK];
         let [area0, area1] = &mut areas;
         let lent = Lent { area0, area1, work: &mut work };
-        let mut answer = monitor.start(&input.list, lent);
+        let mut answer = monitor.open(&input.list, lent, &[]);
         for events in events {
             let Answer::Given(record) = answer else { panic!("{}: {answer:?}", input.name) };
             let lent = Lent { area0, area1, work: &mut work };

@@ -1,6 +1,6 @@
-// Events per second of monitors (document 01, "Operations": Start and Feed), side by side on the
+// Events per second of monitors (Open, document 02, W7, and Feed, document 01), side by side on the
 // same inputs.
-//     monitor     what a monitor is here: Start and Feed on lent areas
+//     monitor     what a monitor is here: Open and Feed on lent areas
 //     plain       one in plain Rust, written for speed
 //     proved      the proved monitor, through the static library
 //     naive       the reference of tools/reference, as one of these

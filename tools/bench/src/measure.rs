@@ -139,21 +139,21 @@ struct Fed<'a> {
 }
 
 impl<'a> Fed<'a> {
-    fn start(monitor: &'a dyn Monitor, input: &'a Input) -> Self {
+    fn open(monitor: &'a dyn Monitor, input: &'a Input) -> Self {
         let mut areas = [vec![0; input.slots * SLOT], vec![0; input.slots * SLOT]];
         let mut work = vec![0; WORK];
         let [area0, area1] = &mut areas;
         let Answer::Given(record) =
-            monitor.start(&input.list, Lent { area0, area1, work: &mut work })
+            monitor.open(&input.list, Lent { area0, area1, work: &mut work }, &[])
         else {
-            panic!("{}: not started", input.name);
+            panic!("{}: not opened", input.name);
         };
         Fed { monitor, list: &input.list, record, areas, work }
     }
 
-    // Started, and led to where the input's cycle begins.
+    // Opened, and led to where the input's cycle begins.
     fn led(monitor: &'a dyn Monitor, input: &'a Input) -> Self {
-        let mut fed = Fed::start(monitor, input);
+        let mut fed = Fed::open(monitor, input);
         if let Way::Cycle { lead, .. } = &input.way {
             fed.feed(lead);
         }
@@ -254,8 +254,8 @@ mod tests {
             "slower"
         }
 
-        fn start(&self, list: &[u16], lent: Lent) -> Answer {
-            Plain.start(list, lent)
+        fn open(&self, list: &[u16], lent: Lent, events: &[u8]) -> Answer {
+            Plain.open(list, lent, events)
         }
 
         fn feed(&self, list: &[u16], record: Record, lent: Lent, events: &[u8]) -> Answer {

@@ -1,13 +1,13 @@
-// What is measured: Start and Feed of document 01, on areas that the caller lends.
+// What is measured: Open (document 02, W7) and Feed (document 01), on areas that the caller lends.
 //     Record      the state record
 //     Answer      a record, a refusal, or a refusal with a record
-//     Monitor     Start and Feed
+//     Monitor     Open and Feed
 
 #[derive(Clone, Copy, Debug, PartialEq, Eq)]
 pub struct Record {
     pub taken: u64,
     pub count: u64,
-    // the largest count since Start, the present one included
+    // the largest count since it was opened, the present one included
     pub peak: u64,
     // the place of failure; none while running
     pub failed: Option<u64>,
@@ -37,7 +37,7 @@ pub struct Lent<'a> {
 pub trait Monitor {
     fn name(&self) -> &str;
 
-    fn start(&self, list: &[u16], lent: Lent) -> Answer;
+    fn open(&self, list: &[u16], lent: Lent, events: &[u8]) -> Answer;
 
     fn feed(&self, list: &[u16], record: Record, lent: Lent, events: &[u8]) -> Answer;
 }

@@ -11,9 +11,9 @@ impl Monitor for Naive {
         "reference"
     }
 
-    fn start(&self, list: &[u16], lent: Lent) -> Answer {
+    fn open(&self, list: &[u16], lent: Lent, events: &[u8]) -> Answer {
         let areas = [lent.area0.to_vec(), lent.area1.to_vec()];
-        given(naive::start(list, &areas, lent.work.len()), lent)
+        given(naive::open(list, &areas, events, lent.work.len()), lent)
     }
 
     fn feed(&self, list: &[u16], record: Record, lent: Lent, events: &[u8]) -> Answer {

@@ -27,8 +27,8 @@ impl Monitor for Plain {
         "plain"
     }
 
-    fn start(&self, list: &[u16], lent: Lent) -> Answer {
-        start(list, lent)
+    fn open(&self, list: &[u16], lent: Lent, events: &[u8]) -> Answer {
+        open(list, lent, events)
     }
 
     fn feed(&self, list: &[u16], record: Record, lent: Lent, events: &[u8]) -> Answer {
@@ -46,20 +46,26 @@ fn measured(a: usize, b: usize, work: &mut [u64]) -> Option<&mut [u64; WORK]> {
     work.try_into().ok().filter(|_| fits)
 }
 
-pub fn start(list: &[u16], Lent { area0, area1, work }: Lent) -> Answer {
+pub fn open(list: &[u16], Lent { area0, area1, work }: Lent, events: &[u8]) -> Answer {
     let Some(work) = measured(area0.len(), area1.len(), work) else {
         return Answer::Refused(refusal(1, 0));
     };
     let answer = match judge::judge(list, work) {
         Err(refusal) => Answer::Refused(refusal),
-        Ok(()) => started(Index::of(work), area0, area1),
+        Ok(()) => {
+            let index = Index::of(work);
+            match settled(index, area0, area1) {
+                Some(record) => fed(index, record, area0, area1, events),
+                None => Answer::Refused(refusal(13, 0)),
+            }
+        }
     };
     work.fill(0);
     answer
 }
 
-// The residuals of the last definition into area 0.
-fn started(index: Index, area0: &mut [u64], area1: &mut [u64]) -> Answer {
+// The residuals of the last definition into area 0; none where they exceed its slots.
+fn settled(index: Index, area0: &mut [u64], area1: &mut [u64]) -> Option<Record> {
     area0.fill(0);
     area1.fill(0);
     let body = index.body(index.definitions() - 1);
@@ -69,11 +75,11 @@ fn started(index: Index, area0: &mut [u64], area1: &mut [u64]) -> Answer {
         slot[0] = resolve(index, body, 0, i, &mut slot, 1) as u64 - 1;
         if !slots.insert(&slot) {
             area0.fill(0);
-            return Answer::Refused(refusal(13, 0));
+            return None;
         }
     }
     let count = slots.count as u64;
-    Answer::Given(Record { taken: 0, count, peak: count, failed: (count == 0).then_some(0) })
+    Some(Record { taken: 0, count, peak: count, failed: (count == 0).then_some(0) })
 }
 
 pub fn feed(list: &[u16], record: Record, lent: Lent, events: &[u8]) -> Answer {

@@ -16,12 +16,12 @@ impl Monitor for Proved {
         "proved"
     }
 
-    fn start(&self, list: &[u16], lent: Lent) -> Answer {
+    fn open(&self, list: &[u16], lent: Lent, events: &[u8]) -> Answer {
         let mut record = [0; WORDS];
-        let mut place = 0;
+        let (mut place, mut opened) = (0, 0);
         // each pointer is that of a slice and goes with its length; no two slices overlap
         let number = unsafe {
-            library::cspe_start(
+            library::cspe_open(
                 list.as_ptr(),
                 list.len(),
                 record.as_mut_ptr(),
@@ -30,12 +30,15 @@ impl Monitor for Proved {
                 lent.area0.len(),
                 lent.area1.as_mut_ptr(),
                 lent.area1.len(),
+                events.as_ptr(),
+                events.len(),
                 lent.work.as_mut_ptr(),
                 lent.work.len(),
                 &mut place,
+                &mut opened,
             )
         };
-        given(number, place, record, false)
+        given(number, place, record, opened == 1)
     }
 
     fn feed(&self, list: &[u16], record: Record, lent: Lent, events: &[u8]) -> Answer {
@@ -60,18 +63,18 @@ impl Monitor for Proved {
                 &mut place,
             )
         };
-        given(number, place, record, true)
+        given(number, place, record, number > 10)
     }
 }
 
-// The answer by the refusal's number: 0 has a record; 11 to 13 of Feed have both.
-fn given(number: u32, place: u64, words: [u64; WORDS], feeding: bool) -> Answer {
+// The answer by the refusal's number and whether there is a record: 0 has one.
+fn given(number: u32, place: u64, words: [u64; WORDS], has: bool) -> Answer {
     let [taken, count, failed, at, peak] = words;
     let record = Record { taken, count, peak, failed: (failed != 0).then_some(at) };
     let refusal = Refusal { number: number as u8, place: place as usize };
     match number {
         0 => Answer::Given(record),
-        11..=13 if feeding => Answer::Stopped(refusal, record),
+        _ if has => Answer::Stopped(refusal, record),
         _ => Answer::Refused(refusal),
     }
 }

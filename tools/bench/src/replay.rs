@@ -1,4 +1,4 @@
-// Whether a monitor answers as the reference does: the calls of Start and Feed in a file of
+// Whether a monitor answers as the reference does: the calls of Open and Feed in a file of
 // histories (tools/reference/README.md), made of it. Try, Offer and View are left out.
 
 use crate::monitor::*;
@@ -67,10 +67,9 @@ impl Replay<'_> {
                 let words = &mut self.buffers[numbers[0] as usize][numbers[1] as usize..];
                 words[..numbers.len() - 2].copy_from_slice(&numbers[2..]);
             }
-            "s" => return Some(self.call(numbers[0] as usize, None)),
-            "f" => {
+            "b" | "f" => {
                 let events: Vec<u8> = numbers[1..].iter().map(|&e| e as u8).collect();
-                return Some(self.call(numbers[0] as usize, Some(&events)));
+                return Some(self.call(kind == "b", numbers[0] as usize, &events));
             }
             _ => {}
         }
@@ -86,17 +85,18 @@ impl Replay<'_> {
         }
     }
 
-    // Start, or Feed of events.
-    fn call(&mut self, work_len: usize, events: Option<&[u8]>) -> String {
+    // Open, or Feed, of events.
+    fn call(&mut self, opens: bool, work_len: usize, events: &[u8]) -> String {
         let filled = vec![7; work_len];
         let mut work = filled.clone();
         let [buffer0, buffer1] = &mut self.buffers;
         let area0 = &mut buffer0[..self.lengths[0]];
         let area1 = &mut buffer1[..self.lengths[1]];
         let lent = Lent { area0, area1, work: &mut work };
-        let answer = match events {
-            None => self.monitor.start(&self.list, lent),
-            Some(events) => self.monitor.feed(&self.list, self.record, lent, events),
+        let answer = if opens {
+            self.monitor.open(&self.list, lent, events)
+        } else {
+            self.monitor.feed(&self.list, self.record, lent, events)
         };
         let (refusal, record) = match answer {
             Answer::Given(record) => (None, Some(record)),

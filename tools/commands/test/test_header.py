@@ -53,8 +53,9 @@ class Header(unittest.TestCase):
 
     def test_headers_of_examples(self):
         """Those of examples/c are what `cspe c` writes."""
-        for name, drawing in (("table_b", "table_b"), ("k8", "worked/k8"), ("packing_line", "packing_line")):
-            self.assertEqual((EXAMPLES / "c" / f"{name}.h").read_text(), cspe("c", drawing)[1], name)
+        for drawing in ("table_b", "worked/k7", "worked/k8", "packing_line"):
+            header = EXAMPLES / "c" / f"{Path(drawing).name}.h"
+            self.assertEqual(header.read_text(), cspe("c", drawing)[1], drawing)
 
 
 if __name__ == "__main__":

@@ -23,7 +23,7 @@ class Try(unittest.TestCase):
         self.assertIn("         00 00 01 00\nline     running 3 1\npeak     1\n", output)
 
     def test_peak(self):
-        """Of the residuals that were held, not of those held last; none where no monitor was started."""
+        """Of the residuals that were held, not of those held last; none where no monitor was opened."""
         status, output, _ = tried("--reference", "worked/k8", "0", "0")
         self.assertEqual(status, 0)
         self.assertIn("line     running 2 1\npeak     2\n", output)

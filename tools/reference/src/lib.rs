@@ -9,7 +9,7 @@
 //     role         what each number of a table is          damage      tables with one known fault
 //     worked       cases worked by hand                    case        a case of test data
 //     cases        the test data file                      summary     what its test prints
-//     monitor      residuals, Start, Feed, Offer, View, and the test data of histories
+//     monitor      residuals, Open, Feed, Offer, View, and the test data of histories
 //     sheet        the lot sheet (02, W2), and its test data
 //     wash         wash hours (02, W5), and their test data
 

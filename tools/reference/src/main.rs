@@ -28,7 +28,7 @@ reference: another implementation of the CSP_E line monitor, for test answers
 
     reference peak FILE
         Prints `peak N` of the same, the most residuals that were held at a time up to the last
-        event taken; or `no monitor` where none was started.
+        event taken; or `no monitor` where none was opened.
 
     reference lines --seed N --count M
         Writes test data of the program's line to standard output: the inputs worked by hand,

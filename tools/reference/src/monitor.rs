@@ -1,7 +1,7 @@
 // The monitor (01, "Residuals" to "The program and its lines"), naive and in the order of 01's
 // words.
 //     terms       the numbered terms: reach, doom, sets     residual    residuals, their words
-//     state       the record; disturbed                     operations  Start, Feed, Offer, View
+//     state       the record; disturbed                     operations  Open, Feed, Offer, View
 //     program     the program's line                        history     lines of test data
 //     histories   the test data file                        examples    cases worked by hand
 //     summary     what its test program prints              replay      the calls of a file again

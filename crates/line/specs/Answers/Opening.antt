@@ -1,5 +1,5 @@
--- What `start_list`, `open_table` and `open` promise, by the ways out of their code.
---     start-given, start-refused, start-stopped     by Start's answer
+-- What `open_list`, `open_table` and `open` promise, by the ways out of their code.
+--     list-given, list-refused, list-stopped        by Open's answer
 --     read-few, read-count, read-refused            by Read's
 --     opens-unfit, opens-wrong, opens-parts         by the lent lengths and the head
 --     started-within                                what `open` gives lies within the list and the input
@@ -18,7 +18,6 @@ use Rattle.table.specs.Operations as read
 use Rattle.table.specs.Operations.Laws.{ReadDone, read-done}
 use Rattle.table.specs.Answers as tableAnswers
 use Rattle.monitor_spec.specs.State.{Outcome}
-use Rattle.monitor_spec.specs.Start.{startOf}
 use Rattle.state.specs.declared.answer.Answer as code
 use Rattle.state.specs.declared.answer.Answer.the-variants as gave
 use Rattle.state.specs.declared.record.State.{State}
@@ -28,7 +27,7 @@ use Rattle.line.specs.declared.answer.Opened.{Opened}
 use Rattle.line.specs.declared.answer.Opened.the-variants.{Started, Refused}
 use Rattle.format.specs.declared.answer.Head as headCode
 use Rattle.format.specs.declared.answer.Head.the-variants.{Parts, Wrong}
-use Rattle.line_spec.specs.Line.{Head, headOf}
+use Rattle.line_spec.specs.Line.{Head, headOf, freshOn}
 use Rattle.format.specs.Head.{HeadIs, HeadSaid}
 use Rattle.line.specs.Answers.{openedSaid, openSaid}
 use Rattle.format.specs.Head.Laws.{head-within}
@@ -36,35 +35,35 @@ use Rattle.line_spec.specs.Opening.{lent, OpenOutcome, openRefused, startAnswer
 use Rattle.line_spec.specs.Opening.{readThen, openTable, openHead, openOf}
 use Rattle.line_spec.specs.Opening.Front.{open-fit, open-unfit, open-began}
 
--- ---- start_list
+-- ---- open_list
 
 module _ (next : ℕ) (l a b w : List ℕ) (r : code.Answer) (a' b' w' : List ℕ)
-    (said : outcome r a' b' w' ≡ startOf l a b w)
+    (said : outcome r a' b' w' ≡ freshOn l a b w)
   where
     answered : (x : code.Answer) → r ≡ x → startedOn (length l) next l (outcome x a' b' w')
-        ≡ startedOn (length l) next l (startOf l a b w)
+        ≡ startedOn (length l) next l (freshOn l a b w)
     answered x k =
         sym (ap (λ (y : code.Answer). startedOn (length l) next l (outcome y a' b' w')) k)
         ∙ ap (startedOn (length l) next l) said
 
-    pub start-given : (st : State) → r ≡ gave.Given st → openSaid (Started st (length l) next) l a' b' w'
-        ≡ startedOn (length l) next l (startOf l a b w)
+    pub list-given : (st : State) → r ≡ gave.Given st → openSaid (Started st (length l) next) l a' b' w'
+        ≡ startedOn (length l) next l (freshOn l a b w)
     unfolding startedOn startAnswer
-    start-given st k = answered (gave.Given st) k
+    list-given st k = answered (gave.Given st) k
 
-    pub start-refused : (q : Refusal) → r ≡ gave.Refused q → openSaid (Refused q) l a' b' w'
-        ≡ startedOn (length l) next l (startOf l a b w)
+    pub list-refused : (q : Refusal) → r ≡ gave.Refused q → openSaid (Refused q) l a' b' w'
+        ≡ startedOn (length l) next l (freshOn l a b w)
     unfolding startedOn startAnswer
-    start-refused q k = answered (gave.Refused q) k
+    list-refused q k = answered (gave.Refused q) k
 
-    pub start-stopped : (q : Refusal) (st : State) → r ≡ gave.Stopped q st → openSaid (Refused q) l a' b' w'
-        ≡ startedOn (length l) next l (startOf l a b w)
+    pub list-stopped : (q : Refusal) (st : State) → r ≡ gave.Stopped q st → openSaid (Refused q) l a' b' w'
+        ≡ startedOn (length l) next l (freshOn l a b w)
     unfolding startedOn startAnswer
-    start-stopped q st k = answered (gave.Stopped q st) k
+    list-stopped q st k = answered (gave.Stopped q st) k
 
 -- ---- open_table
 
--- the same with another list, of which Start took so many numbers
+-- the same with another list, of which Open took so many numbers
 relisted : (count next : ℕ) (l : List ℕ) (x : Opened) (a b w : List ℕ) (o : Outcome)
     → length (take count l) ≡ count
     → openSaid x (take count l) a b w ≡ startedOn (length (take count l)) next (take count l) o
@@ -98,11 +97,11 @@ module _ (bs l w : List ℕ) (r : tableCode.Answer) (l' v : List ℕ)
 
     pub read-count : (n : ℕ) → r ≡ told.Count n → (next : ℕ) (a b : List ℕ) (x : Opened) (a' b' w' : List ℕ)
         → openSaid x (take n l') a' b' w'
-        ≡ startedOn (length (take n l')) next (take n l') (startOf (take n l') a b v)
+        ≡ startedOn (length (take n l')) next (take n l') (freshOn (take n l') a b v)
         → openSaid x l' a' b' w' ≡ openTable bs next l a b w
     unfolding openTable readThen
     read-count n k next a b x a' b' w' h =
-        relisted n next l' x a' b' w' (startOf (take n l') a b v) (read-few n k .1) h
+        relisted n next l' x a' b' w' (freshOn (take n l') a b v) (read-few n k .1) h
         ∙ sym (ap (λ (o : read.Outcome). readThen next (o .answer) (o .output) a b (o .work)) (answer (told.Count n) k))
 
     pub read-refused : (q : Refusal) → r ≡ told.Refused q → (next : ℕ) (a b : List ℕ)

@@ -16,8 +16,8 @@ use Rattle.numbers.specs.Number.{Bytes, Scan, value, truncated, malformed, read
 use Rattle.numbers.specs.Number.Extent.{scan-extent}
 use Rattle.numbers.specs.Number.Laws.{read-is-written}
 use Rattle.numbers.specs.Number.Unread.{truncated-out, malformed-out}
-use Rattle.line_spec.specs.Line.{Head, parts, wrong, cut, headBy, headOf, HeadWay, inputParts, lengthOver, tableCut}
-use Rattle.line_spec.specs.Line.{lengthCut, lengthLoose}
+use Rattle.line_spec.specs.Line.{Head, parts, wrong, cut, headBy, headOf, HeadWay, inputParts, lengthOver}
+use Rattle.line_spec.specs.Line.{tableCut, lengthCut, lengthLoose}
 
 module _ (v : ℕ) (rest : List ℕ) where
   pub cut-over : 16384 < v → cut v rest ≡ wrong 2 0
@@ -74,7 +74,8 @@ module _ (s : List ℕ) (w : Bytes s) where
       → ltb (length rest) v ≡ y → HeadWay s (cut v rest)
   cut-ways v n rest e true y a b =
       let r = read-is-written s v n rest w e in
-      subst (HeadWay s) (sym (cut-over v rest (ltb-true _ _ a))) (lengthOver v rest (r .whole) (ltb-true _ _ a) (r .small))
+      subst (HeadWay s) (sym (cut-over v rest (ltb-true _ _ a)))
+      (lengthOver v rest (r .whole) (ltb-true _ _ a) (r .small))
   cut-ways v n rest e false true a b =
       let r = read-is-written s v n rest w e in
       subst (HeadWay s) (sym (cut-missing v rest (ltb-false _ _ a) (ltb-true _ _ b)))

@@ -18,16 +18,15 @@ use Rattle.table.specs.Operations.{zeros}
 use Rattle.monitor_spec.specs.Valid.Laws.{and-split}
 use Rattle.monitor_spec.specs.State.{State, Answer, given, stopped, Outcome}
 use Rattle.monitor_spec.specs.State as state
-use Rattle.monitor_spec.specs.Start.{startOf}
-use Rattle.monitor_spec.specs.History.Begun.{start-never}
-use Rattle.line_spec.specs.Line.{Head, parts, wrong, headOf, fresh, monitorLeft}
+use Rattle.monitor_spec.specs.Open.Laws.{empty-never}
+use Rattle.line_spec.specs.Line.{Head, parts, wrong, headOf, freshOn, fresh, monitorLeft}
 use Rattle.line_spec.specs.Pieces.{Course, fed, fedBy, frontBy, frontHead, frontOf}
 use Rattle.line_spec.specs.Line.Laws.{head-events}
 use Rattle.line_spec.specs.Opening.{lentFit, lent, started, refuses, OpenOutcome, openRefused, startAnswer}
 use Rattle.line_spec.specs.Opening.{startedOn}
 use Rattle.line_spec.specs.Opening.{openHead, openOf, courseBy, openCourse, OpenWay, lengthsWrong, headWrong}
 use Rattle.line_spec.specs.Opening.{tableDeclined, tableAccepted, Began}
-use Rattle.line_spec.specs.Opening.Laws.{fed-fresh, start-work, zeros-length, table-accepted, table-declined}
+use Rattle.line_spec.specs.Opening.Laws.{fed-fresh, fresh-work, zeros-length, table-accepted, table-declined}
 
 -- ---- lent lengths
 
@@ -105,12 +104,12 @@ true-false e f = absurd (let z : _≡_ {A = ℕ} 0 1 = cc in omega arith)
 
 module _ (s l a b w : List ℕ) (fit : lent l a b w ≡ true) where
   accepted-course : (next : ℕ) (ns : List ℕ)
-      → openCourse (startedOn (length ns) next (ns ++ zeros (16384 - length ns)) (startOf ns a b (zeros 8192)))
+      → openCourse (startedOn (length ns) next (ns ++ zeros (16384 - length ns)) (freshOn ns a b (zeros 8192)))
       ≡ fed ns (fresh ns)
   accepted-course next ns =
       let d = lent-out l a b w fit in
-      let o = startOf ns a b (zeros 8192) in
-      start-course (length ns) next (ns ++ zeros (16384 - length ns)) o (start-never ns a b (zeros 8192))
+      let o = freshOn ns a b (zeros 8192) in
+      start-course (length ns) next (ns ++ zeros (16384 - length ns)) o (empty-never ns a b (zeros 8192))
       ∙ ap (λ (x : List ℕ). fed x o) (take-append-seam ns (zeros (16384 - length ns)))
       ∙ fed-fresh ns a b (zeros 8192) (d .area0) (d .area1) (zeros-length 8192)
 
@@ -129,7 +128,7 @@ module _ (s l a b w : List ℕ) (fit : lent l a b w ≡ true) where
 
 -- ---- where there is a record
 
--- only a record that Start gave is one
+-- only a record that Open gave is one
 started-out : (k m : ℕ) (x : Answer) (st : State) (count next : ℕ) → startAnswer k m x ≡ started st count next
     → (count ≡ k) × (next ≡ m)
 unfolding startAnswer
@@ -149,7 +148,7 @@ module _ (s l a b w : List ℕ) (st : State) (count next : ℕ) where
   begins o (tableDeclined bs es n p e h j) f = not-started f
   begins o (tableAccepted bs es ns t e h j) f =
       let d = lent-out l a b w e in
-      let (c, n) = started-out (length ns) (length s - length es) (startOf ns a b (zeros 8192) .answer) st count next
+      let (c, n) = started-out (length ns) (length s - length es) (freshOn ns a b (zeros 8192) .answer) st count next
       f in
       record {
         fit = e;
@@ -158,7 +157,7 @@ module _ (s l a b w : List ℕ) (st : State) (count next : ℕ) where
             ∙ head-events s bs es h ∙ ap (λ (x : ℕ). drop x s) (sym n);
         within = omega arith;
         few = let m = length-append ns (zeros (16384 - length ns)) in omega arith;
-        work = start-work ns a b (zeros 8192) (d .area0) (d .area1) (zeros-length 8192);
+        work = fresh-work ns a b (zeros 8192) (d .area0) (d .area1) (zeros-length 8192);
       }
 
   pub open-began : openOf s l a b w .answer ≡ started st count next → Began s l a b w (openOf s l a b w) count next

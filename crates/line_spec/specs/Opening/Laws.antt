@@ -1,6 +1,6 @@
--- What Read and Start leave of lent buffers of the right lengths, whatever stood in them.
---     fed-fresh                          Start's course is that of a fresh monitor
---     start-work                         it clears the work area
+-- What Read and Open with an empty list leave of lent buffers of the right lengths, whatever stood in them.
+--     fed-fresh                          Open's course is that of a fresh monitor
+--     fresh-work                         it clears the work area
 --     table-accepted, table-declined     a table's bytes read and started, by the judgement on them
 -- Assumes nothing.
 use Prim.Native.Nat.{ℕ, _-_, _/_}
@@ -18,40 +18,34 @@ use Rattle.table.specs.Operations.{zeros, measured, readJudged, readOf}
 use Rattle.table.specs.Operations as read
 use Rattle.residuals.specs.Residual.{residualsOf}
 use Rattle.residuals.specs.Slots.{slotsOf}
-use Rattle.monitor_spec.specs.State.{freshState, given, Outcome, areasMeasured, workMeasured, slotCount, fill}
+use Rattle.monitor_spec.specs.State.{Outcome, areasMeasured, workMeasured, slotCount, fill}
 use Rattle.monitor_spec.specs.State as state
 use Rattle.monitor_spec.specs.Entering.{refusing}
-use Rattle.monitor_spec.specs.Entering.Laws.{entrance-declined}
-use Rattle.monitor_spec.specs.Start.{startAccepted, startOf}
-use Rattle.monitor_spec.specs.Start.Laws.{start-shut}
-use Rattle.monitor_spec.specs.History.Begun.{start-measured}
-use Rattle.line_spec.specs.Line.{fresh}
+use Rattle.monitor_spec.specs.Entering.Laws.{entrance-accepted}
+use Rattle.monitor_spec.specs.Fold.{through}
+use Rattle.monitor_spec.specs.Feed.{takeEvent, endingOf}
+use Rattle.monitor_spec.specs.Open.{freshMonitor, openAccepted}
+use Rattle.monitor_spec.specs.Open.Laws.{open-admits, open-declined}
+use Rattle.line_spec.specs.Line.{freshOn, fresh}
 use Rattle.line_spec.specs.Pieces.{fed, fedBy}
 use Rattle.line_spec.specs.Opening.{openRefused, startedOn, readThen, openTable}
 
--- ---- Start
+-- ---- Open with an empty list
 
--- Start of an accepted table, by the number of slots and of work words
+-- of an accepted table, by the number of slots and of work words
 begunWith : Table → ℕ → ℕ → Outcome
 begunWith t n k =
-    let ss = slotsOf (residualsOf t []) in
-    elim (ltb n (length ss)) [
+    elim (ltb n (length (slotsOf (residualsOf t [])))) [
       | true ↦ record { answer = state.refused 13 0; area0 = fill n []; area1 = fill n []; work = zeros k }
-      | false ↦
-          record {
-            answer = given (freshState (length ss));
-            area0 = fill n ss;
-            area1 = fill n [];
-            work = zeros k;
-          }
+      | false ↦ endingOf k (through (takeEvent t) (freshMonitor t n) 0 [])
     ]
 
-begun-with : (t : Table) (a b w : List ℕ) → startAccepted t a b w ≡ begunWith t (slotCount a) (length w)
-unfolding startAccepted begunWith
-begun-with t a b w = refl
+begun-with : (t : Table) (a w : List ℕ) → openAccepted t a [] w ≡ begunWith t (slotCount a) (length w)
+unfolding openAccepted begunWith
+begun-with t a w = refl
 
 begun-work : (t : Table) (n k : ℕ) → begunWith t n k .work ≡ zeros k
-unfolding begunWith
+unfolding begunWith endingOf
 begun-work t n k = by (ltb n (length (slotsOf (residualsOf t [])))) refl
   where
     by : (x : Bool) → ltb n (length (slotsOf (residualsOf t []))) ≡ x → begunWith t n k .work ≡ zeros k
@@ -74,45 +68,45 @@ pub all-measured : (a b w : List ℕ) → length a ≡ 4096 → length b ≡ 409
 all-measured a b w e f g = both-true _ _ (areas-measured a b e f) (work-measured w g)
 
 module _ (l a b w : List ℕ) (e : length a ≡ 4096) (f : length b ≡ 4096) (g : length w ≡ 8192) where
-  start-accepted : (ns : List ℕ) (t : Table) → judgeList l ≡ accepted ns t → startOf l a b w ≡ begunWith t 256 8192
+  fresh-accepted : (ns : List ℕ) (t : Table) → judgeList l ≡ accepted ns t → freshOn l a b w ≡ begunWith t 256 8192
   unfolding slotCount
-  start-accepted ns t j =
+  fresh-accepted ns t j =
       let n : slotCount a ≡ 256 = omega arith in
-      start-measured l ns t j a b w (all-measured a b w e f g) ∙ begun-with t a b w ∙ ap₂ (begunWith t) n g
+      open-admits l a b [] w t (entrance-accepted _ l w ns t (all-measured a b w e f g) j)
+      ∙ begun-with t a w ∙ ap₂ (begunWith t) n g
 
-  start-declined : (n p : ℕ) → judgeList l ≡ declined n p → startOf l a b w
+  fresh-declined : (n p : ℕ) → judgeList l ≡ declined n p → freshOn l a b w
       ≡ record { answer = state.refused n p; area0 = a; area1 = b; work = zeros (length w) }
   unfolding refusing
-  start-declined n p j =
-      start-shut l a b w n p (zeros (length w)) (entrance-declined _ l w n p (all-measured a b w e f g) j)
+  fresh-declined n p j = open-declined l a b [] w (all-measured a b w e f g) n p j
 
   -- "all zero after each call"
-  pub start-work : startOf l a b w .work ≡ zeros 8192
-  start-work = by (judgeList l) refl
+  pub fresh-work : freshOn l a b w .work ≡ zeros 8192
+  fresh-work = by (judgeList l) refl
     where
-      by : (j : Judgement) → judgeList l ≡ j → startOf l a b w .work ≡ zeros 8192
-      by (accepted ns t) j = ap (λ (o : Outcome). o .work) (start-accepted ns t j) ∙ begun-work t 256 8192
-      by (declined n p) j = ap (λ (o : Outcome). o .work) (start-declined n p j) ∙ ap zeros g
+      by : (j : Judgement) → judgeList l ≡ j → freshOn l a b w .work ≡ zeros 8192
+      by (accepted ns t) j = ap (λ (o : Outcome). o .work) (fresh-accepted ns t j) ∙ begun-work t 256 8192
+      by (declined n p) j = ap (λ (o : Outcome). o .work) (fresh-declined n p j) ∙ ap zeros g
 
 pub zeros-length : (n : ℕ) → length (zeros n) ≡ n
 zeros-length n = length-replicate {A = ℕ} n 0
 
 -- nothing of what stood in the areas is left
 pub fed-fresh : (l a b w : List ℕ) → length a ≡ 4096 → length b ≡ 4096 → length w ≡ 8192
-    → fed l (startOf l a b w) ≡ fed l (fresh l)
+    → fed l (freshOn l a b w) ≡ fed l (fresh l)
 unfolding fresh fed fedBy
 fed-fresh l a b w e f g = by (judgeList l) refl
   where
     z : length (zeros 4096) ≡ 4096
     z = zeros-length 4096
 
-    by : (j : Judgement) → judgeList l ≡ j → fed l (startOf l a b w) ≡ fed l (fresh l)
+    by : (j : Judgement) → judgeList l ≡ j → fed l (freshOn l a b w) ≡ fed l (fresh l)
     by (accepted ns t) j =
-        ap (fed l) (start-accepted l a b w e f g ns t j
-        ∙ sym (start-accepted l (zeros 4096) (zeros 4096) (zeros 8192) z z (zeros-length 8192) ns t j))
+        ap (fed l) (fresh-accepted l a b w e f g ns t j
+        ∙ sym (fresh-accepted l (zeros 4096) (zeros 4096) (zeros 8192) z z (zeros-length 8192) ns t j))
     by (declined n p) j =
-        ap (fed l) (start-declined l a b w e f g n p j)
-        ∙ sym (ap (fed l) (start-declined l (zeros 4096) (zeros 4096) (zeros 8192) z z (zeros-length 8192) n p j))
+        ap (fed l) (fresh-declined l a b w e f g n p j)
+        ∙ sym (ap (fed l) (fresh-declined l (zeros 4096) (zeros 4096) (zeros 8192) z z (zeros-length 8192) n p j))
 
 -- ---- Read
 
@@ -120,7 +114,7 @@ pub read-right : (bs l w : List ℕ) → length l ≡ 16384 → length w ≡ 819
 unfolding readOf measured
 read-right bs l w e f = rw (e, f)
 
--- ---- Read, and then Start
+-- ---- Read, and then Open
 
 module _ (bs : List ℕ) (next : ℕ) (l a b w : List ℕ) (e : length l ≡ 16384) (g : length w ≡ 8192) where
   judged-table : (j : Judgement) → judgeBytes bs ≡ j → openTable bs next l a b w
@@ -131,15 +125,15 @@ module _ (bs : List ℕ) (next : ℕ) (l a b w : List ℕ) (e : length l ≡ 163
       (read-right bs l w e g ∙ ap readJudged k)
 
   pub table-accepted : (ns : List ℕ) (t : Table) → judgeBytes bs ≡ accepted ns t → openTable bs next l a b w
-      ≡ startedOn (length ns) next (ns ++ zeros (16384 - length ns)) (startOf ns a b (zeros 8192))
+      ≡ startedOn (length ns) next (ns ++ zeros (16384 - length ns)) (freshOn ns a b (zeros 8192))
   unfolding readThen readJudged
   table-accepted ns t k =
       let after = zeros (16384 - length ns) in
       judged-table (accepted ns t) k
-      ∙ ap (λ (x : List ℕ). startedOn (length ns) next (ns ++ after) (startOf x a b (zeros 8192)))
+      ∙ ap (λ (x : List ℕ). startedOn (length ns) next (ns ++ after) (freshOn x a b (zeros 8192)))
       (take-append-seam ns after)
 
-  -- "Read's output is zeroed on 2 to 9"; Start is not called
+  -- "Read's output is zeroed on 2 to 9"; no monitor is opened
   pub table-declined : (n p : ℕ) → judgeBytes bs ≡ declined n p → openTable bs next l a b w
       ≡ openRefused n p (zeros 16384) a b (zeros 8192)
   unfolding readThen readJudged

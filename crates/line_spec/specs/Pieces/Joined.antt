@@ -24,15 +24,17 @@ use Rattle.monitor_spec.specs.State.{State, Monitor, Answer, given, stopped, Ou
 use Rattle.monitor_spec.specs.State.{areasMeasured, workMeasured}
 use Rattle.monitor_spec.specs.State as state
 use Rattle.monitor_spec.specs.Feed.{takeEvent, endingOf, feedOf}
-use Rattle.monitor_spec.specs.Start.{startOf}
-use Rattle.monitor_spec.specs.Joined.{extend}
+use Rattle.monitor_spec.specs.Open.Laws.{open-unmeasured, open-declined, empty-never}
+use Rattle.monitor_spec.specs.Joined.{Call, extend}
 use Rattle.monitor_spec.specs.Expected.{monitorAfter}
 use Rattle.monitor_spec.specs.Expected.Records.{record-taken}
-use Rattle.monitor_spec.specs.History.{Fresh}
+use Rattle.monitor_spec.specs.Expected.Steps.{Fed}
+use Rattle.monitor_spec.specs.Entering.{refusing}
+use Rattle.monitor_spec.specs.History.{recordIn, Opened}
 use Rattle.monitor_spec.specs.History.Laws.{extends}
-use Rattle.monitor_spec.specs.History.Begun.{Began, fresh-began, start-declined, start-unmeasured, start-never}
-use Rattle.line_spec.specs.Line.{Head, parts, wrong, headOf, Line, refused, stateLine, answerLine, fresh}
-use Rattle.line_spec.specs.Line.{monitorLeft}
+use Rattle.monitor_spec.specs.History.Begun.{Began, opened-began, empty-joins}
+use Rattle.line_spec.specs.Line.{Head, parts, wrong, headOf, Line, refused, stateLine, answerLine}
+use Rattle.line_spec.specs.Line.{freshOn, fresh, monitorLeft}
 use Rattle.line_spec.specs.Line.{startedBy, startedLine, readLine, headLine, lineOf}
 use Rattle.line_spec.specs.Pieces.{Course, going, over, fed, fedBy, pieceOf, frontBy, frontHead, frontOf}
 use Rattle.line_spec.specs.Pieces.{feedFront}
@@ -40,7 +42,7 @@ use Rattle.line_spec.specs.Pieces.{concludeOf, throughPieces, piecesOf}
 use Rattle.line_spec.specs.Pieces.Laws.{Good, courseBy, course, good-feed, piece-course, piece-more}
 use Rattle.line_spec.specs.Pieces.Whole.{widenHead, head-more}
 
--- a monitor that Start gave is good, or a line stands
+-- a monitor that Open gave with an empty list is good, or a line stands
 pub data Sound : Course → Type 0 where
   runs-on : (l : List ℕ) (m : Monitor) → Good l m → m .state .taken ≡ 0 → Sound (going l m)
   stands : (x : Line) → Sound (over x)
@@ -109,15 +111,16 @@ first-line l m g z es = by ((through S m 0 es) .why) refl
 -- ---- a fresh monitor
 
 declined-gives : (l a b w : List ℕ) (n p : ℕ) (s : State) → judgeList l ≡ declined n p
-    → startOf l a b w .answer ≡ given s → ⊥
+    → freshOn l a b w .answer ≡ given s → ⊥
+unfolding refusing
 declined-gives l a b w n p s j e = by (areasMeasured a b && workMeasured w) refl
   where
     never : (i k : ℕ) → state.refused i k ≡ given s → ⊥
     never i k q = let z : _≡_ {A = ℕ} 0 1 = cc in omega arith
 
     by : (x : Bool) → (areasMeasured a b && workMeasured w) ≡ x → ⊥
-    by true h = never n p (sym (start-declined l a b w n p j h) ∙ e)
-    by false h = never 1 0 (sym (start-unmeasured l a b w h) ∙ e)
+    by true h = never n p (sym (ap (λ (o : Outcome). o .answer) (open-declined l a b [] w h n p j)) ∙ e)
+    by false h = never 1 0 (sym (ap (λ (o : Outcome). o .answer) (open-unmeasured l a b [] w h)) ∙ e)
 
 slots-256 : slotCount (zeros 4096) ≡ 256
 unfolding slotCount
@@ -125,7 +128,7 @@ slots-256 = let e : length (zeros 4096) ≡ 4096 = length-replicate {A = ℕ} 40
 
 good-fresh : (l : List ℕ) (s : State) → fresh l .answer ≡ given s
     → Good l (monitorLeft (fresh l) s) × (s .taken ≡ 0)
-unfolding fresh monitorLeft monitorAfter laid
+unfolding fresh monitorLeft monitorAfter laid recordIn
 good-fresh l s e = by (judgeList l) refl
   where
     m : Monitor
@@ -134,22 +137,27 @@ good-fresh l s e = by (judgeList l) refl
     by : (j : Judgement) → judgeList l ≡ j → Good l m × (s .taken ≡ 0)
     by (declined n p) h = absurd (declined-gives l (zeros 4096) (zeros 4096) (zeros 8192) n p s h e)
     by (accepted ns t) h =
-        let f : Fresh l (zeros 4096) (zeros 4096) (zeros 8192) m = record { gave = e; gave0 = refl; gave1 = refl } in
-        let b = subst (λ (n : ℕ). Began t n m) slots-256
-        (fresh-began l ns t h (zeros 4096) (zeros 4096) (zeros 8192) m f) in (
+        let z : List ℕ = zeros 4096 in
+        let c : Call = record { events = []; work = zeros 8192 } in
+        let f : Opened l z z c m = record { gave = ap recordIn e; gave0 = refl; gave1 = refl } in
+        let r = regular t (list-out l ns t h .rules) in
+        let b = opened-began l ns t h r z z c m f in
+        let q : m ≡ monitorAfter t 256 [] =
+        b .same ∙ ap (monitorAfter t (slotCount z)) (empty-joins t (slotCount z) (zeros 8192))
+        ∙ ap (λ (n : ℕ). monitorAfter t n []) slots-256 in (
           record {
             table = t;
             numbers = ns;
             says = h;
-            regular = regular t (list-out l ns t h .rules);
+            regular = r;
             events = [];
-            fed = b .fed;
-            same = b .same;
+            fed = subst (λ (n : ℕ). Fed t n []) slots-256 (b .fed);
+            same = q;
           },
-          ap (λ (x : Monitor). x .state .taken) (b .same) ∙ record-taken t [],
+          ap (λ (x : Monitor). x .state .taken) q ∙ record-taken t [],
         )
 
--- what Start leaves, and the line of its first piece
+-- what Open leaves, and the line of its first piece
 pub record Opens (l : List ℕ) : Type 0 where
   pub sound : Sound (fed l (fresh l))
   pub line : (es : List ℕ) → concludeOf (pieceOf (fed l (fresh l)) es) ≡ startedLine l es
@@ -174,7 +182,7 @@ opens l = by (fresh l .answer) refl
           sound = subst Sound (sym c) (stands (refused n p));
           line = λ es. ap (λ (x : Course). concludeOf (pieceOf x es)) c ∙ sym (ap (startedBy l es (fresh l)) e);
         }
-    by (stopped n p s) e = absurd (start-never l (zeros 4096) (zeros 4096) (zeros 8192) n p s e)
+    by (stopped n p s) e = absurd (empty-never l (zeros 4096) (zeros 4096) (zeros 8192) n p s e)
 
 -- ---- all of it
 

@@ -65,7 +65,7 @@ module _ (t : Table) (s : State) (rs : List Residual) (agrees : Agrees (s .taken
       (recordOnward t s rs (e ∷ es)) (omega arith) refl refl
       (onward-next t (s .verdict) rs (s .taken) e es agrees)
 
--- ---- from Start
+-- ---- from the settled monitor
 
 module _ (t : Table) where
   pub record-taken : (s : List ℕ) → recordOf t s .taken ≡ length s

@@ -1,115 +1,71 @@
--- A fresh monitor is the one that the empty list calls for: what Start gives, case by case. Assumes nothing.
---     start-measured, start-unmeasured, start-declined, start-room, start-exceeded   Start's outcome, by its tests
---     start-never                                                    Start gives no number with a record
---     fresh-began                                                    the record and areas that a Start gave
+-- What Open gives is the monitor that its joined events call for.
+--     fresh-after, fresh-laid     the settled monitor is the one that the empty list calls for, laid out of its
+--                                 residuals
+--     open-goes                   Open is Feed's run from there
+--     Began, opened-began         the record and areas that an Open gave;  empty-joins: of an empty list
+-- Assumes nothing.
 use Prim.Native.Nat.{ℕ, _%_, _≤_}
 use native.Mathlib.Omega.{arith}
-use mathlib.Core.Path.{_≡_, refl, ap, sym, _∙_}
+use mathlib.Core.Path.{_≡_, refl, ap, sym, subst, _∙_}
 use mathlib.Core.Bool.{Bool, true, false, _&&_}
 use mathlib.Core.List.{List, []}
+use mathlib.Core.Option.{Option, none, some}
 use lib.ListN.{length}
-use lib.Dec.{eqb, ltb, leb}
-use borrow.Author.Tests.{leb-true, ltb-false}
+use lib.Dec.{eqb, leb}
+use borrow.Author.Tests.{leb-true}
 use Rattle.table.specs.Table.{Table}
-use Rattle.table.specs.Judge.{Judgement, accepted, declined, judgeList}
-use Rattle.table.specs.Operations.{zeros}
+use Rattle.table.specs.Judge.{accepted, judgeList}
 use Rattle.residuals.specs.Residual.{residualsOf}
 use Rattle.residuals.specs.Slots.{slotsOf}
+use Rattle.monitor_spec.specs.Regular.{Regular}
 use Rattle.monitor_spec.specs.Valid.Laws.{and-split}
-use Rattle.monitor_spec.specs.State.{State, freshState, Monitor, Answer, given, refused, stopped, Outcome}
-use Rattle.monitor_spec.specs.State.{holding}
-use Rattle.monitor_spec.specs.State.{areasMeasured, workMeasured, slotCount, even, choose, fill, laid}
+use Rattle.monitor_spec.specs.State.{State, freshState, holding, Monitor, Answer, given, refused, stopped}
+use Rattle.monitor_spec.specs.State.{Outcome, areasMeasured, workMeasured, slotCount, even, choose, laid}
 use Rattle.monitor_spec.specs.Entering.{refusing}
-use Rattle.monitor_spec.specs.Entering.Laws.{entrance-unmeasured, entrance-declined, entrance-accepted}
-use Rattle.monitor_spec.specs.Start.{startAccepted, startOf}
-use Rattle.monitor_spec.specs.Start.Laws.{start-shut, start-admits}
+use Rattle.monitor_spec.specs.Fold.{Ended, through}
+use Rattle.monitor_spec.specs.Feed.{takeEvent, endingOf}
+use Rattle.monitor_spec.specs.Open.{freshMonitor, openOf}
+use Rattle.monitor_spec.specs.Refusals.Laws.{lent}
+use Rattle.monitor_spec.specs.Open.Laws.{OpenWay, unmeasured, declines, exceeds, runs, open-way}
+use Rattle.monitor_spec.specs.Open.Laws.{open-unmeasured, open-declined, exceededOf, open-exceeded, open-runs}
+use Rattle.monitor_spec.specs.Open.Laws.{accepted-same}
+use Rattle.monitor_spec.specs.Joined.{Call, residualCount, extend, joinCall}
 use Rattle.monitor_spec.specs.Expected.{monitorAfter}
 use Rattle.monitor_spec.specs.Expected.Records.{record-first, first-peak}
-use Rattle.monitor_spec.specs.Expected.Steps.{Fed}
-use Rattle.monitor_spec.specs.History.{Fresh}
+use Rattle.monitor_spec.specs.Expected.Steps.{Fed, fed-sensible}
+use Rattle.monitor_spec.specs.Sensible.{Laid}
+use Rattle.monitor_spec.specs.History.{recordIn, Opened}
+use Rattle.monitor_spec.specs.History.Laws.{extends}
 
-pub start-measured : (l ns : List ℕ) (t : Table) → judgeList l ≡ accepted ns t → (a b work : List ℕ)
-    → (areasMeasured a b && workMeasured work) ≡ true → startOf l a b work ≡ startAccepted t a b work
-start-measured l ns t says a b work e = start-admits l a b work t (entrance-accepted _ l work ns t e says)
+-- before any event area 0 is present
+pub fresh-after : (t : Table) (n : ℕ) → freshMonitor t n ≡ monitorAfter t n []
+unfolding freshMonitor monitorAfter laid freshState holding even choose
+fresh-after t n = ap (λ (s : State). laid n s (slotsOf (residualsOf t []))) (sym (record-first t))
 
-pub start-unmeasured : (l a b work : List ℕ) → (areasMeasured a b && workMeasured work) ≡ false
-    → startOf l a b work .answer ≡ refused 1 0
-unfolding refusing
-start-unmeasured l a b work e =
-    ap (λ (o : Outcome). o .answer) (start-shut l a b work 1 0 work (entrance-unmeasured _ l work e))
+pub fresh-fed : (t : Table) (n : ℕ) → residualCount t [] ≤ n → Fed t n []
+unfolding residualCount
+fresh-fed t n h = record { known = tt; room = h; peak = first-peak t n h }
 
-pub start-declined : (l a b work : List ℕ) (n p : ℕ) → judgeList l ≡ declined n p
-    → (areasMeasured a b && workMeasured work) ≡ true → startOf l a b work .answer ≡ refused n p
-unfolding refusing
-start-declined l a b work n p says e =
-    ap (λ (o : Outcome). o .answer)
-    (start-shut l a b work n p (zeros (length work)) (entrance-declined _ l work n p e says))
+-- so it is laid out of its residuals
+pub fresh-laid : (t : Table) → Regular t → (n : ℕ) → residualCount t [] ≤ n → Laid t n (freshMonitor t n)
+unfolding monitorAfter laid
+fresh-laid t regular n h =
+    subst (Laid t n) (sym (fresh-after t n)) (record {
+      residuals = residualsOf t [];
+      sensible = fed-sensible t regular n [] (fresh-fed t n h);
+      same = refl;
+    })
 
--- what Start gives where the slots suffice
-unfoldable pub begun : Table → ℕ → ℕ → Outcome
-begun t n k =
-    record {
-      answer = given (freshState (length (slotsOf (residualsOf t []))));
-      area0 = fill n (slotsOf (residualsOf t []));
-      area1 = fill n [];
-      work = zeros k;
-    }
+pub open-goes : (l ns : List ℕ) (t : Table) → judgeList l ≡ accepted ns t → (a b es w : List ℕ)
+    → lent a b w ≡ true → residualCount t [] ≤ slotCount a
+    → openOf l a b es w ≡ endingOf (length w) (through (takeEvent t) (monitorAfter t (slotCount a) []) 0 es)
+open-goes l ns t says a b es w e h =
+    open-runs l a b es w e ns t says h
+    ∙ ap (λ (m : Monitor). endingOf (length w) (through (takeEvent t) m 0 es)) (fresh-after t (slotCount a))
 
-pub start-room : (t : Table) (a b work : List ℕ) → ltb (slotCount a) (length (slotsOf (residualsOf t []))) ≡ false
-    → startAccepted t a b work ≡ begun t (slotCount a) (length work)
-unfolding startAccepted begun
-start-room t a b work e = rw (e, startAccepted)
+-- ---- what an Open gave
 
-pub start-exceeded : (t : Table) (a b work : List ℕ) → ltb (slotCount a) (length (slotsOf (residualsOf t []))) ≡ true
-    → startAccepted t a b work .answer ≡ refused 13 0
-unfolding startAccepted
-start-exceeded t a b work e = rw (e, startAccepted)
-
-pub not-given : {X : Type 0} {x : Answer} {s : State} (n p : ℕ) → x ≡ refused n p → x ≡ given s → X
-not-given n p e f = absurd (let z : _≡_ {A = ℕ} 0 1 = cc in omega arith)
-
-pub start-never : (l a b work : List ℕ) (n p : ℕ) (s : State) → startOf l a b work .answer ≡ stopped n p s → ⊥
-unfolding begun
-start-never l a b work n p s h = by (areasMeasured a b && workMeasured work) refl (judgeList l) refl
-  where
-    no : {x : Answer} (i k : ℕ) → x ≡ refused i k → x ≡ stopped n p s → ⊥
-    no i k e f = let z : _≡_ {A = ℕ} 0 1 = cc in omega arith
-
-    not-both : {x : Answer} (r : State) → x ≡ given r → x ≡ stopped n p s → ⊥
-    not-both r e f = let z : _≡_ {A = ℕ} 0 1 = cc in omega arith
-
-    room : (ns : List ℕ) (t : Table) → judgeList l ≡ accepted ns t → (areasMeasured a b && workMeasured work) ≡ true
-        → (y : Bool) → ltb (slotCount a) (length (slotsOf (residualsOf t []))) ≡ y → ⊥
-    room ns t d e true g = no 13 0 (ap (λ (o : Outcome). o .answer) (start-measured l ns t d a b work e)
-        ∙ start-exceeded t a b work g) h
-    room ns t d e false g = not-both _ (ap (λ (o : Outcome). o .answer) (start-measured l ns t d a b work e
-        ∙ start-room t a b work g)) h
-
-    by : (x : Bool) → (areasMeasured a b && workMeasured work) ≡ x → (j : Judgement) → judgeList l ≡ j → ⊥
-    by false e j d = no 1 0 (start-unmeasured l a b work e) h
-    by true e (declined i k) d = no i k (start-declined l a b work i k d e) h
-    by true e (accepted ns t) d = room ns t d e (ltb (slotCount a) (length (slotsOf (residualsOf t [])))) refl
-
-given-same : (x y : State) → given x ≡ given y → x ≡ y
-given-same x y e = cc
-
--- at Start area 0 is present
-begun-after : (t : Table) (n : ℕ)
-    → record {
-      state = freshState (length (slotsOf (residualsOf t [])));
-      area0 = fill n (slotsOf (residualsOf t []));
-      area1 = fill n [];
-    } ≡ monitorAfter t n []
-unfolding monitorAfter laid freshState holding even choose
-begun-after t n = ap (λ (s : State). laid n s (slotsOf (residualsOf t []))) (sym (record-first t))
-
-pub record Began (t : Table) (n : ℕ) (fresh : Monitor) : Type 0 where
-  pub low : 1 ≤ n
-  pub high : n ≤ 256
-  pub fed : Fed t n []
-  pub same : fresh ≡ monitorAfter t n []
-
-slots-range : (a b : List ℕ) → areasMeasured a b ≡ true → (1 ≤ slotCount a) × (slotCount a ≤ 256)
+pub slots-range : (a b : List ℕ) → areasMeasured a b ≡ true → (1 ≤ slotCount a) × (slotCount a ≤ 256)
 unfolding areasMeasured slotCount
 slots-range a b e =
     let (x, y) = and-split (eqb (length a) (length b)) _ e in
@@ -119,38 +75,86 @@ slots-range a b e =
     let h = leb-true (length a) 4096 v in
     (omega arith, omega arith)
 
-began-same : (l : List ℕ) (t : Table) (a b work : List ℕ) (fresh : Monitor) → Fresh l a b work fresh
-    → startOf l a b work ≡ begun t (slotCount a) (length work) → fresh ≡ monitorAfter t (slotCount a) []
-unfolding begun
-began-same l t a b work fresh f o =
-    let s0 : State = freshState (length (slotsOf (residualsOf t []))) in
-    let s : fresh .state ≡ s0 = given-same (fresh .state) s0 (sym (f .gave) ∙ ap (λ (z : Outcome). z .answer) o) in
-    let x : fresh .area0 ≡ fill (slotCount a) (slotsOf (residualsOf t [])) =
-    sym (f .gave0) ∙ ap (λ (z : Outcome). z .area0) o in
-    let y : fresh .area1 ≡ fill (slotCount a) [] = sym (f .gave1) ∙ ap (λ (z : Outcome). z .area1) o in
-    (λ i. record { state = s i; area0 = x i; area1 = y i }) ∙ begun-after t (slotCount a)
+pub record Began (a b : List ℕ) (t : Table) (c : Call) (m : Monitor) : Type 0 where
+  pub measured : lent a b (c .work) ≡ true
+  pub low : 1 ≤ slotCount a
+  pub high : slotCount a ≤ 256
+  pub room : residualCount t [] ≤ slotCount a
+  pub fed : Fed t (slotCount a) []
+  pub same : m ≡ monitorAfter t (slotCount a) (joinCall t (slotCount a) [] c)
 
-pub fresh-began : (l ns : List ℕ) (t : Table) → judgeList l ≡ accepted ns t → (a b work : List ℕ) (fresh : Monitor)
-    → Fresh l a b work fresh
-    → Began t (slotCount a) fresh
-fresh-began l ns t says a b work fresh f =
-    by (areasMeasured a b && workMeasured work) refl (ltb (slotCount a) (length (slotsOf (residualsOf t [])))) refl
+-- an empty list joins no event
+pub empty-joins : (t : Table) (n : ℕ) (w : List ℕ) → joinCall t n [] (record { events = []; work = w }) ≡ []
+unfolding joinCall extend
+empty-joins t n w = by (workMeasured w)
   where
-    by : (x : Bool) → (areasMeasured a b && workMeasured work) ≡ x → (y : Bool)
-        → ltb (slotCount a) (length (slotsOf (residualsOf t []))) ≡ y → Began t (slotCount a) fresh
-    by false e y g = not-given 1 0 (start-unmeasured l a b work e) (f .gave)
-    by true e true g = not-given 13 0 (ap (λ (o : Outcome). o .answer) (start-measured l ns t says a b work e)
-        ∙ start-exceeded t a b work g) (f .gave)
-    by true e false g =
-        let (m, w) = and-split (areasMeasured a b) (workMeasured work) e in
-        let (i, j) = slots-range a b m in
-        record {
-          low = i;
-          high = j;
-          fed = record {
-            known = tt;
-            room = ltb-false (slotCount a) _ g;
-            peak = first-peak t (slotCount a) (ltb-false (slotCount a) _ g);
-          };
-          same = began-same l t a b work fresh f (start-measured l ns t says a b work e ∙ start-room t a b work g);
-        }
+    by : (x : Bool) → _≡_ {A = List ℕ} (elim x [ true ↦ [] | false ↦ [] ]) []
+    by true = refl
+    by false = refl
+
+pub none-some : {X : Type 0} {A : Type 0} {x : Option A} (r : A) → x ≡ none → x ≡ some r → X
+none-some r e f = absurd (let z : _≡_ {A = ℕ} 0 1 = cc in omega arith)
+
+pub some-same : (r s : State) → some r ≡ some s → r ≡ s
+some-same r s e = cc
+
+pub ending-record : (k : ℕ) (x : Ended Monitor) → recordIn (endingOf k x .answer) ≡ some (x .at .state)
+unfolding endingOf recordIn
+ending-record k x = by (x .why)
+  where
+    by : (o : Option ℕ) → recordIn (elim o as (λ z. Answer)
+        [ none ↦ given (x .at .state) | some j ↦ stopped j (x .taken) (x .at .state) ]) ≡ some (x .at .state)
+    by none = refl
+    by (some j) = refl
+
+module _ (l ns : List ℕ) (t : Table) (says : judgeList l ≡ accepted ns t) (regular : Regular t) (a b : List ℕ)
+    (c : Call) (m : Monitor) (o : Opened l a b c m) where
+  abbrev es : List ℕ
+  es = c .events
+
+  abbrev w : List ℕ
+  w = c .work
+
+  -- an outcome without a record
+  never : {X : Type 0} (n p : ℕ) → openOf l a b es w .answer ≡ refused n p → X
+  unfolding recordIn
+  never n p e = none-some (m .state) (ap recordIn e) (o .gave)
+
+  joins-list : workMeasured w ≡ true → joinCall t (slotCount a) [] c ≡ extend t (slotCount a) [] es
+  unfolding joinCall
+  joins-list e = rw (e, joinCall) refl
+
+  ended-same : (x : Ended Monitor) → openOf l a b es w ≡ endingOf (length w) x → m ≡ x .at
+  unfolding endingOf
+  ended-same x e =
+      let s : m .state ≡ x .at .state = some-same (m .state) (x .at .state)
+      (sym (o .gave) ∙ ap (λ (z : Outcome). recordIn (z .answer)) e ∙ ending-record (length w) x) in
+      let p : m .area0 ≡ x .at .area0 = sym (o .gave0) ∙ ap (λ (z : Outcome). z .area0) e in
+      let q : m .area1 ≡ x .at .area1 = sym (o .gave1) ∙ ap (λ (z : Outcome). z .area1) e in
+      (λ i. record { state = s i; area0 = p i; area1 = q i })
+
+  ran : lent a b w ≡ true → residualCount t [] ≤ slotCount a → Began a b t c m
+  ran e h =
+      let n : ℕ = slotCount a in
+      let f = fresh-fed t n h in
+      let (x, y) = and-split (areasMeasured a b) (workMeasured w) e in
+      let (i, j) = slots-range a b x in
+      record {
+        measured = e;
+        low = i;
+        high = j;
+        room = h;
+        fed = f;
+        same = ended-same _ (open-goes l ns t says a b es w e h) ∙ extends t regular n es [] f .ends 0
+            ∙ ap (monitorAfter t n) (sym (joins-list y));
+      }
+
+  pub opened-began : Began a b t c m
+  unfolding refusing exceededOf
+  opened-began = by (open-way l a b es w)
+    where
+      by : OpenWay l a b es w → Began a b t c m
+      by (unmeasured e) = never 1 0 (ap (λ (z : Outcome). z .answer) (open-unmeasured l a b es w e))
+      by (declines e n p d) = never n p (ap (λ (z : Outcome). z .answer) (open-declined l a b es w e n p d))
+      by (exceeds e ks s d h) = never 13 0 (ap (λ (z : Outcome). z .answer) (open-exceeded l a b es w e ks s d h))
+      by (runs e ks s d h) = ran e (rw (← accepted-same l ks ns s t d says) h)

@@ -149,6 +149,20 @@ module _ (t : Table) (regular : Regular t) (n : ℕ) where
   fed-joined [] s f = f
   fed-joined (c ∷ cs) s f = fed-joined cs (joinCall t n s c) (fed-join s c f)
 
+  -- the joined events of an Open and of calls, in one go from the settled monitor
+  pub joined-ends : (c : Call) (cs : List Call) → Fed t n []
+      → through (takeEvent t) (monitorAfter t n []) 0 (joined t n c cs)
+      ≡ record { at = monitorAfter t n (joined t n c cs); taken = length (joined t n c cs); why = none }
+  unfolding joined joinFrom
+  joined-ends c cs f =
+      let M : Monitor = monitorAfter t n [] in
+      let e : joinFrom t n [] (c ∷ cs) ≡ joins (takeEvent t) M (map eventsOf (c ∷ cs)) = joins-joined (c ∷ cs) [] f in
+      let r : restarts (takeEvent t) M (map eventsOf (c ∷ cs)) ≡ monitorAfter t n (joinFrom t n [] (c ∷ cs)) =
+      restarts-joined (c ∷ cs) [] f in
+      ap (through (takeEvent t) M 0) e
+      ∙ restarts-join (takeEvent t) M (map eventsOf (c ∷ cs))
+      ∙ ap₂ (λ (x : Monitor) (z : List ℕ). record { at = x; taken = length z; why = none }) r (sym e)
+
   -- ---- the call as Feed's definition has it
   module _ (l ns : List ℕ) (says : judgeList l ≡ accepted ns t) (low : 1 ≤ n) (high : n ≤ 256) where
     length-areas : (s : List ℕ) → Fed t n s
@@ -209,19 +223,3 @@ module _ (t : Table) (regular : Regular t) (n : ℕ) where
     history-joined [] s f = refl
     history-joined (c ∷ cs) s f =
         ap (λ (x : Monitor). history l x cs) (call-join s c f) ∙ history-joined cs (joinCall t n s c) (fed-join s c f)
-
-    -- one call on the joined events
-    pub one-goes : (cs : List Call) → Fed t n [] → (work : List ℕ) → workMeasured work ≡ true
-        → feedOf l (monitorAfter t n []) (joined t n cs) work ≡ endingOf (length work)
-        (record { at = monitorAfter t n (joined t n cs); taken = length (joined t n cs); why = none })
-    unfolding joined
-    one-goes cs f work w =
-        let M : Monitor = monitorAfter t n [] in
-        let e : joinFrom t n [] cs ≡ joins (takeEvent t) M (map eventsOf cs) = joins-joined cs [] f in
-        let r : restarts (takeEvent t) M (map eventsOf cs) ≡ monitorAfter t n (joinFrom t n [] cs) =
-        restarts-joined cs [] f in
-        feed-goes [] (joinFrom t n [] cs) work f w
-        ∙ ap (λ (z : List ℕ). endingOf (length work) (through (takeEvent t) M 0 z)) e
-        ∙ ap (endingOf (length work)) (restarts-join (takeEvent t) M (map eventsOf cs))
-        ∙ ap₂ (λ (x : Monitor) (z : List ℕ). endingOf (length work) (record { at = x; taken = length z; why = none }))
-        r (sym e)

@@ -1,7 +1,7 @@
 -- Resolving lists as many residuals as the term has branches (01, "Openings"), where 7 is not met.
 --     length-pairs         of pairs
 --     resolveDef-length    of a definition's body;  resolve-length: of the term of a number, with whatever memory
---     residuals-few        at Start there are 256 at most, of a table that meets the rules
+--     residuals-few        before any event there are 256 at most, of a table that meets the rules
 -- That there are none exactly for a doomed term is in `Doom/Branches.antt` of crate meaning. Assumes nothing.
 use Prim.Native.Nat.{ℕ, zero, suc, _+_, _*_, _≤_, _<_}
 use native.Mathlib.Omega.{arith}

@@ -1,8 +1,8 @@
--- A fresh start is the monitor of the empty list; one fold over a list's events, on one table.
---     fresh-laid, fresh-fed, take-exceeded, take-first    a fresh start, and an event on it
---     Runs, runs-first, runs-next                        the fold
+-- An event on a fresh start; one fold over a list's events, on one table.
+--     take-exceeded, take-first      an event on a fresh start
+--     Runs, runs-first, runs-next    the fold
 -- Assumes nothing.
-use Prim.Native.Nat.{ℕ, _≤_}
+use Prim.Native.Nat.{ℕ}
 use mathlib.Core.Path.{_≡_, refl, ap, sym, _∙_}
 use mathlib.Core.Bool.{true, false}
 use mathlib.Core.List.{List, [], _∷_, _++_}
@@ -10,38 +10,27 @@ use mathlib.Core.Option.{none}
 use lib.ListN.{length}
 use lib.Dec.{ltb}
 use Rattle.table.specs.Table.{Table}
-use Rattle.residuals.specs.Residual.{residualsOf}
-use Rattle.residuals.specs.Slots.{slotsOf}
-use Rattle.monitor_spec.specs.State.{State, freshState, Monitor, laid}
+use Rattle.monitor_spec.specs.State.{Monitor}
 use Rattle.monitor_spec.specs.Fold.{went, stops, through}
 use Rattle.monitor_spec.specs.Fold.Laws.{fold-snoc}
 use Rattle.monitor_spec.specs.Feed.{takeEvent}
 use Rattle.monitor_spec.specs.Joined.{residualCount}
 use Rattle.monitor_spec.specs.Expected.{monitorAfter}
-use Rattle.monitor_spec.specs.Expected.Records.{length-snoc, record-first, first-peak}
-use Rattle.monitor_spec.specs.Expected.Steps.{Fed}
+use Rattle.monitor_spec.specs.Expected.Records.{length-snoc}
+use Rattle.monitor_spec.specs.History.Begun.{fresh-after}
 use Rattle.wash_spec.specs.Taking.{takeFresh}
 use Rattle.wash_spec.specs.Taking.Laws.{fresh-crowded, fresh-room}
 
--- ---- a fresh start is the monitor of the empty list
+-- ---- on a fresh start
 
 module _ (t : Table) (n : ℕ) where
-  pub fresh-laid : laid n (freshState (length (slotsOf (residualsOf t [])))) (slotsOf (residualsOf t []))
-      ≡ monitorAfter t n []
-  unfolding monitorAfter
-  fresh-laid = ap (λ (s : State). laid n s (slotsOf (residualsOf t []))) (sym (record-first t))
-
-  pub fresh-fed : residualCount t [] ≤ n → Fed t n []
-  unfolding residualCount
-  fresh-fed h = record { known = tt; room = h; peak = first-peak t n h }
-
   pub take-exceeded : (e : ℕ) → ltb n (residualCount t []) ≡ true → takeFresh t n e ≡ stops 13
   unfolding residualCount
   take-exceeded e h = fresh-crowded t n e h
 
   pub take-first : (e : ℕ) → ltb n (residualCount t []) ≡ false → takeFresh t n e ≡ takeEvent t (monitorAfter t n []) e
   unfolding residualCount
-  take-first e h = fresh-room t n e h ∙ ap (λ (m : Monitor). takeEvent t m e) fresh-laid
+  take-first e h = fresh-room t n e h ∙ ap (λ (m : Monitor). takeEvent t m e) (fresh-after t n)
 
 -- ---- one fold on one table
 

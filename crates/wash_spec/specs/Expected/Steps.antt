@@ -34,7 +34,8 @@ use Rattle.wash_spec.specs.Joined.Laws.{stretch-snoc, held-due, held-on,
 use Rattle.wash_spec.specs.Joined.Laws.{halts-room, halts-on}
 use Rattle.wash_spec.specs.History.{unstarted}
 use Rattle.wash_spec.specs.Expected.{afterMinute, afterStretch, timedAfter}
-use Rattle.wash_spec.specs.Expected.Fresh.{fresh-fed, take-exceeded, take-first, Runs, runs-first, runs-next}
+use Rattle.monitor_spec.specs.History.Begun.{fresh-fed}
+use Rattle.wash_spec.specs.Expected.Fresh.{take-exceeded, take-first, Runs, runs-first, runs-next}
 
 module _ (t u : Table) (regular-t : Regular t) (regular-u : Regular u) (windows : List ℕ)
     (good : T (goodTimetable windows)) (n : ℕ) where

@@ -16,11 +16,12 @@ use Rattle.table.specs.Table.{Table}
 use Rattle.residuals.specs.Residual.{Residual, afterAll, run, residualsOf}
 use Rattle.residuals.specs.Slots.{slotsOf}
 use Rattle.monitor_spec.specs.Regular.{Regular}
-use Rattle.monitor_spec.specs.State.{State, freshState, stateAfter, Monitor, slotCount, laid}
+use Rattle.monitor_spec.specs.State.{State, holding, freshState, stateAfter, Monitor, slotCount, even, choose, laid}
 use Rattle.monitor_spec.specs.Fold.{Step, went, stops, Ended, through}
 use Rattle.monitor_spec.specs.Fold.Laws.{through-went, through-stops}
 use Rattle.monitor_spec.specs.Feed.{takeEvent, eventRefused}
 use Rattle.monitor_spec.specs.Feed.Laws.{EventCase, meets, passes, event-case}
+use Rattle.monitor_spec.specs.Open.{freshMonitor}
 use Rattle.monitor_spec.specs.Joined.{residualCount}
 use Rattle.monitor_spec.specs.Sensible.{Sensible, Laid}
 use Rattle.monitor_spec.specs.Consistent.Laws.{next-sensible}
@@ -36,7 +37,7 @@ use Rattle.wash_spec.specs.Timed.{TimedState, notStarted, started, Timed
 use Rattle.wash_spec.specs.Taking.{drawingAt, clockBack, atMinute, takeTimed}
 use Rattle.wash_spec.specs.Taking.Laws.{drawing-regular, drawing-same, fresh-crowded, fresh-room, take-back}
 use Rattle.wash_spec.specs.Taking.Laws.{take-afresh, take-onward}
-use Rattle.wash_spec.specs.Expected.Fresh.{fresh-fed}
+use Rattle.monitor_spec.specs.History.Begun.{fresh-fed}
 use Rattle.wash_spec.specs.Refusals.{LaidBy, TimedLaid}
 use Rattle.wash_spec.specs.Progress.{ClockBack, Due, Reaches, afresh, onward, TimedMeets, clock-back}
 use Rattle.wash_spec.specs.Progress.{start-exceeded, met, TimedTakes}
@@ -73,7 +74,7 @@ module _ (t u : Table) (regular-t : Regular t) (regular-u : Regular u) (windows 
 
     stands-afresh : (ClockBack (m .state) now → ⊥) → Due windows (m .state) now → residualCount (D now) [] ≤ n
         → Stands (freshState (residualCount (D now) [])) (residualsOf (D now) [])
-    unfolding residualCount
+    unfolding residualCount freshMonitor laid freshState holding even choose
     stands-afresh c d h =
         record {
           sensible = fresh-sensible h;

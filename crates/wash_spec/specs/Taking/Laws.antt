@@ -17,11 +17,12 @@ use Rattle.table.specs.Table.{Table}
 use Rattle.residuals.specs.Residual.{residualsOf}
 use Rattle.residuals.specs.Slots.{slotsOf}
 use Rattle.monitor_spec.specs.Regular.{Regular}
-use Rattle.monitor_spec.specs.State.{State, freshState, Monitor, slotCount, choose, laid}
+use Rattle.monitor_spec.specs.State.{State, Monitor, slotCount, choose}
 use Rattle.monitor_spec.specs.Fold.{Step, went, stops}
 use Rattle.monitor_spec.specs.Valid.{held}
 use Rattle.monitor_spec.specs.Feed.{presentSlots, nextSlots, taking, takeEvent}
 use Rattle.monitor_spec.specs.Feed.Laws.{EventCase, meets, passes, event-case, metBy, take-refused, take-passes}
+use Rattle.monitor_spec.specs.Open.{freshMonitor}
 use Rattle.monitor_spec.specs.Progress.{Meets, unknown, full, exceeded}
 use Rattle.timetable.specs.Timetable.{goodTimetable, inForce, changes}
 use Rattle.timetable.specs.Timetable.Exact.{unchanged-same}
@@ -55,8 +56,7 @@ module _ (t : Table) (n e : ℕ) where
   unfolding takeFresh
   fresh-crowded h = rw (h, takeFresh)
 
-  pub fresh-room : ltb n (length first) ≡ false
-      → takeFresh t n e ≡ takeEvent t (laid n (freshState (length first)) first) e
+  pub fresh-room : ltb n (length first) ≡ false → takeFresh t n e ≡ takeEvent t (freshMonitor t n) e
   unfolding takeFresh
   fresh-room h = rw (h, takeFresh)
 
@@ -135,9 +135,7 @@ fresh-range t n e k h = by (ltb n (length (slotsOf (residualsOf t [])))) refl
   where
     by : (b : Bool) → ltb n (length (slotsOf (residualsOf t []))) ≡ b → Numbered k
     by true c = numbered-13 k (sym (stops-same 13 k (sym (fresh-crowded t n e c) ∙ h)))
-    by false c =
-        event-range t (laid n (freshState (length (slotsOf (residualsOf t [])))) (slotsOf (residualsOf t []))) e k
-        (sym (fresh-room t n e c) ∙ h)
+    by false c = event-range t (freshMonitor t n) e k (sym (fresh-room t n e c) ∙ h)
 
 pub timed-range : (everyday wash : Table) (windows : List ℕ) (m : TimedMonitor) (p : ℕ × ℕ) (k : ℕ)
     → takeTimed everyday wash windows m p ≡ stops k → Numbered k

@@ -24,7 +24,7 @@ use Rattle.monitor_spec.specs.Consistent.{consistent}
 use Rattle.monitor_spec.specs.Consistent.Reading.{zero-split, consistent-laid}
 use Rattle.state.specs.declared.record.State as code
 use Rattle.state.specs.Record.{stateOf, monitorOf}
-use Rattle.starting.specs.Starting.Laws.{areas-cleared}
+use Rattle.opening.specs.Opening.Laws.{areas-cleared}
 use Rattle.feeding.specs.Feeding.{Empty, Standing}
 use Rattle.timetable.specs.Timetable.{inForce}
 use Rattle.wash_spec.specs.Entering.{agreesBy}

@@ -16,11 +16,14 @@ use Rattle.table_index.specs.Index.{tableIn}
 use Rattle.residuals.specs.Residual.{residualsOf}
 use Rattle.residuals.specs.Slots.{slotsOf}
 use Rattle.monitor_spec.specs.Regular.{Regular}
-use Rattle.monitor_spec.specs.State.{freshState, Monitor, slotCount, even, choose, fill, laid}
+use Rattle.monitor_spec.specs.State.{Monitor, slotCount, even, choose, fill, laid}
 use Rattle.monitor_spec.specs.State.Areas.{choose-twice, choose-ap, slotCount-fill}
 use Rattle.monitor_spec.specs.Fold.{went, stops}
 use Rattle.monitor_spec.specs.Consistent.Laws.{take-laid}
 use Rattle.monitor_spec.specs.Sensible.{Laid}
+use Rattle.monitor_spec.specs.Open.{freshMonitor}
+use Rattle.monitor_spec.specs.Joined.{residualCount}
+use Rattle.monitor_spec.specs.History.Begun.{fresh-laid}
 use Rattle.state.specs.declared.record.State.{State}
 use Rattle.state.specs.Record.{stateOf, monitorOf}
 use Rattle.feeding.specs.Feeding.{Empty, Standing}
@@ -31,7 +34,6 @@ use Rattle.wash_state.specs.declared.answer.TimedState.{TimedState}
 use Rattle.wash_state.specs.declared.answer.TimedState.the-variants.{NotStarted, Started}
 use Rattle.wash_state.specs.Answers.{timedStateOf}
 use Rattle.washing.specs.Washing.{listAt, Free}
-use Rattle.washing.proofs.fresh.Settled.{fresh-laid}
 
 -- ---- the number list in force
 module _ (everyday wash windows : List ℕ) (minute : ℕ) where
@@ -72,6 +74,7 @@ module _ (t : Table) (s : State) (a b : List ℕ) (h : Standing t (monitorOf s a
 -- ---- after an event
 module _ (t : Table) (regular : Regular t) (e : ℕ) where
   fresh-standing : (n : ℕ) (m' : Monitor) → takeFresh t n e ≡ went m' → Standing t m'
+  unfolding residualCount
   fresh-standing n m' h = by (ltb n (length (slotsOf (residualsOf t [])))) refl
     where
       by : (x : Bool) → ltb n (length (slotsOf (residualsOf t []))) ≡ x → Standing t m'
@@ -81,9 +84,8 @@ module _ (t : Table) (regular : Regular t) (e : ℕ) where
       by false q =
           record {
             slots = n;
-            laid = take-laid t regular n (laid n (freshState (length (slotsOf (residualsOf t []))))
-                (slotsOf (residualsOf t []))) m' e
-                (fresh-laid t n regular (ltb-false n _ q)) (sym (fresh-room t n e q) ∙ h);
+            laid = take-laid t regular n (freshMonitor t n) m' e (fresh-laid t regular n (ltb-false n _ q))
+                (sym (fresh-room t n e q) ∙ h);
           }
 
   pub on-standing : (due : Bool) (x : TimedState) (a b : List ℕ) (m' : Monitor)

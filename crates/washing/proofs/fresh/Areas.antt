@@ -1,11 +1,11 @@
 -- Which area the first event of a fresh start is taken into, by which one is zero.
---     measured-same, measured-room         areas of the right lengths
+--     measured-same                        areas of the right lengths have as many slots
+--     measured-first, measured-other       so of each beside itself;  measured-most: it has at most 4,096 words
 --     other-went, other-stopped            `start_in_other`: area 1 is zero
 --     first-went, first-stopped            `start_in_first`: area 0 is
 --     free-other, free-first               which is said by a test
 -- Assumes nothing.
 use Prim.Native.Nat.{ℕ, _%_, _≤_}
-use native.Mathlib.Omega.{arith}
 use mathlib.Core.Path.{_≡_, ap, ap₂, sym, subst, _∙_}
 use mathlib.Core.Bool.{Bool, true, false}
 use mathlib.Core.List.{List, []}
@@ -20,26 +20,32 @@ use Rattle.monitor_spec.specs.Fold.{went, stops}
 use Rattle.state.specs.declared.record.State.{State}
 use Rattle.state.specs.Record.{monitorOf}
 use Rattle.entering.specs.Entered.Laws.{areas-same}
-use Rattle.starting.specs.Starting.Laws.{areas-cleared}
+use Rattle.opening.specs.Opening.Laws.{areas-cleared}
 use Rattle.feeding.specs.declared.event.Taken.{Taken}
 use Rattle.feeding.specs.declared.event.Taken.the-variants.{Went, Stopped}
 use Rattle.feeding.specs.Feeding.{Empty}
 use Rattle.wash_spec.specs.Taking.{takeFresh}
 use Rattle.washing.specs.Washing.{FirstBy, AfreshBy, Free}
 
+pub measured-most : (o : List ℕ) → areasMeasured o o ≡ true → length o ≤ 4096
+unfolding areasMeasured
+measured-most o m =
+    let x = and-split (eqb (length o) (length o)) _ m .1 in
+    let y = and-split (eqb (length o % 16) 0) _ x .1 in
+    leb-true (length o) 4096 (and-split (leb 16 (length o)) _ y .1)
+
 module _ (a b : List ℕ) (m : areasMeasured a b ≡ true) where
   pub measured-same : slotCount b ≡ slotCount a
   unfolding slotCount
   measured-same = let e = areas-same a b m in rw e
 
-  pub measured-room : (length a ≤ 4096) × (length b ≤ 4096)
+  pub measured-first : areasMeasured a a ≡ true
   unfolding areasMeasured
-  measured-room =
-      let e = areas-same a b m in
-      let x = and-split (eqb (length a) (length b)) _ m .1 in
-      let y = and-split (eqb (length a % 16) 0) _ x .1 in
-      let z = leb-true (length a) 4096 (and-split (leb 16 (length a)) _ y .1) in
-      (z, omega arith)
+  measured-first = let e = areas-same a b m in rw (← e) at m
+
+  pub measured-other : areasMeasured b b ≡ true
+  unfolding areasMeasured
+  measured-other = let e = areas-same a b m in rw e at m
 
   module _ (t : Table) (e : ℕ) (r : Taken) where
     -- ---- area 1 is zero

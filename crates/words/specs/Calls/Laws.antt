@@ -12,7 +12,7 @@ use Rattle.state.specs.declared.answer.EventBits.{EventBits}
 use Rattle.state.specs.declared.answer.Offered as offer
 use Rattle.state.specs.declared.answer.Offered.the-variants as variant
 use Rattle.monitor_spec.specs.State.{State, Outcome}
-use Rattle.monitor_spec.specs.Start.{startOf}
+use Rattle.monitor_spec.specs.Open.{openOf}
 use Rattle.monitor_spec.specs.Feed.{feedOf}
 use Rattle.monitor_spec.specs.Try.{tryOf}
 use Rattle.monitor_spec.specs.Offer.{offerOf}
@@ -22,15 +22,15 @@ use Rattle.state.specs.Record.{stateOf, monitorOf}
 use Rattle.state.specs.Answers.{answerOf, outcome, offeredOf, offerOutcome}
 use Rattle.words.specs.Words.{recordMeasured, stateIn, wordsOf}
 use Rattle.words.specs.Calls.{numberOf, placeOf, recordAfter, Told, said, monitorCall, monitorIn, unmeasured}
-use Rattle.words.specs.Calls.{startCall, feedCall, tryCall}
+use Rattle.words.specs.Calls.{openedOf, openSaid, openCall, feedCall, tryCall}
 use Rattle.words.specs.Calls.{offerNumber, offerValue, offerSecond, OfferTold, offerSaid, offering, offerCall}
 use Rattle.words.specs.Calls.{viewSaid, viewing, viewCall}
 
 -- ---- a record that is not of five words
 
-pub start-unmeasured : (l r a b w : List ℕ) → (length r ≡ 5 → ⊥) → said 1 0 r a b w ≡ startCall l r a b w
-unfolding startCall recordMeasured unmeasured
-start-unmeasured l r a b w h = rw (ne-eqb (length r) 5 h, startCall) refl
+pub open-unmeasured : (l r a b es w : List ℕ) → (length r ≡ 5 → ⊥) → openSaid 1 0 0 r a b w ≡ openCall l r a b es w
+unfolding openCall recordMeasured unmeasured
+open-unmeasured l r a b es w h = rw (ne-eqb (length r) 5 h, openCall) refl
 
 pub feed-unmeasured : (l r a b es w : List ℕ) → (length r ≡ 5 → ⊥) → said 1 0 r a b w ≡ feedCall l r a b es w
 unfolding feedCall recordMeasured unmeasured
@@ -54,7 +54,7 @@ pub view-unmeasured : (r a b : List ℕ) → (length r ≡ 5 → ⊥) → viewSa
 unfolding viewCall recordMeasured
 view-unmeasured r a b h = rw (ne-eqb (length r) 5 h, viewCall) refl
 
--- ---- Start and Feed
+-- ---- Open and Feed
 
 -- what `tell` promises of each answer
 pub tell-given : (x : code.Answer) (s : StateCode) (r r' : List ℕ) → x ≡ Given s → r' ≡ wordsOf (stateOf s)
@@ -72,6 +72,19 @@ pub tell-stopped : (x : code.Answer) (q : Refusal) (s : StateCode) (r r' : List 
 unfolding numberOf placeOf recordAfter
 tell-stopped x q s r r' e h = rw e (record { number = refl; place = refl; words = h })
 
+-- what `has_record` promises of each answer
+pub has-given : (x : code.Answer) (s : StateCode) → x ≡ Given s → 1 ≡ openedOf (answerOf x)
+unfolding openedOf
+has-given x s e = rw e refl
+
+pub has-refused : (x : code.Answer) (q : Refusal) → x ≡ Refused q → 0 ≡ openedOf (answerOf x)
+unfolding openedOf
+has-refused x q e = rw e refl
+
+pub has-stopped : (x : code.Answer) (q : Refusal) (s : StateCode) → x ≡ Stopped q s → 1 ≡ openedOf (answerOf x)
+unfolding openedOf
+has-stopped x q s e = rw e refl
+
 module _ (x : code.Answer) (n p : ℕ) (r r' a b w : List ℕ) (t : Told (answerOf x) r n p r') where
   told : (o : Outcome) → outcome x a b w ≡ o → said n p r' a b w ≡ monitorCall r o
   unfolding monitorCall
@@ -79,10 +92,13 @@ module _ (x : code.Answer) (n p : ℕ) (r r' a b w : List ℕ) (t : Told (answer
       (λ i. record { number = t .number i; place = t .place i; words = t .words i; area0 = a; area1 = b; work = w })
       ∙ ap (monitorCall r) e
 
-  pub start-told : (l a₀ b₀ w₀ : List ℕ) → length r ≡ 5 → outcome x a b w ≡ startOf l a₀ b₀ w₀
-      → said n p r' a b w ≡ startCall l r a₀ b₀ w₀
-  unfolding startCall recordMeasured
-  start-told l a₀ b₀ w₀ h e = rw (eq-eqb (length r) 5 h, startCall) (told _ e)
+  pub open-told : (k : ℕ) → k ≡ openedOf (answerOf x) → (l a₀ b₀ es w₀ : List ℕ) → length r ≡ 5
+      → outcome x a b w ≡ openOf l a₀ b₀ es w₀ → openSaid n p k r' a b w ≡ openCall l r a₀ b₀ es w₀
+  unfolding openCall recordMeasured
+  open-told k g l a₀ b₀ es w₀ h e =
+      let f = told _ e in
+      let c = g ∙ ap (λ (o : Outcome). openedOf (o .answer)) e in
+      rw (eq-eqb (length r) 5 h, openCall) (λ i. record { call = f i; opened = c i })
 
   pub feed-told : (l a₀ b₀ es w₀ : List ℕ) (s : StateCode) → length r ≡ 5 → stateOf s ≡ stateIn r
       → outcome x a b w ≡ feedOf l (monitorOf s a₀ b₀) es w₀ → said n p r' a b w ≡ feedCall l r a₀ b₀ es w₀

@@ -1,16 +1,18 @@
--- Each call goes one of its ways: start-way, feed-way, offer-way, view-way, read-way, write-way. Assumes nothing.
+-- Each call goes one of its ways: open-way, feed-way, offer-way, view-way, read-way, write-way. Assumes nothing.
 use Prim.Native.Nat.{ℕ, zero, suc, _%_, _<_}
 use native.Mathlib.Omega.{arith}
 use mathlib.Core.Path.{_≡_, refl, sym, ap, subst, _∙_}
 use mathlib.Core.Bool.{Bool, true, false, _&&_}
 use mathlib.Core.List.{List}
+use mathlib.Core.Option.{none, some}
 use lib.ListN.{length}
 use lib.Dec.{eqb}
 use borrow.Author.Tests.{eqb-true, eqb-false}
 use Rattle.table.specs.Operations.{done, refusal, readOf, writeOf}
 use Rattle.table.specs.Operations as table
 use Rattle.monitor_spec.specs.State.{State, Answer, given, refused, stopped, Outcome}
-use Rattle.monitor_spec.specs.Start.{startOf}
+use Rattle.monitor_spec.specs.Open.{openOf}
+use Rattle.monitor_spec.specs.History.{recordIn}
 use Rattle.monitor_spec.specs.Feed.{feedOf}
 use Rattle.monitor_spec.specs.Try.{tryOf}
 use Rattle.monitor_spec.specs.Offer.{Offered, offers, OfferOutcome, offerOf}
@@ -21,16 +23,16 @@ use Rattle.words.specs.Words.{recordMeasured, stateIn, wordsOf}
 use Rattle.words.specs.Tables.{TableCall, tableCall, readCall, writeCall}
 use Rattle.words.specs.Tables as tables
 use Rattle.words.specs.Calls.{MonitorCall, numberOf, placeOf, recordAfter, monitorCall, unmeasured, monitorIn}
-use Rattle.words.specs.Calls.{startCall, feedCall, tryCall, OfferCall, offerNumber, offerValue, offering}
-use Rattle.words.specs.Calls.{offerSecond, offerCall}
+use Rattle.words.specs.Calls.{openedOf, OpenCall, openCall, feedCall, tryCall, OfferCall, offerNumber, offerValue}
+use Rattle.words.specs.Calls.{offering, offerSecond, offerCall}
 use Rattle.words.specs.Calls.{ViewCall, viewing, viewCall}
 use Rattle.words.specs.Calls.Laws.{view-empty, view-words}
 use Rattle.words.specs.Ways.{CallWay, recordUnfit, callGiven, callRefused, callStopped, OfferWay, offerUnfit}
-use Rattle.words.specs.Ways.{TryWay, readUnfit, furtherWay}
+use Rattle.words.specs.Ways.{OpenWay, TryWay, readUnfit, furtherWay}
 use Rattle.words.specs.Ways.{offerGiven, offerRefused, ViewWay, viewUnfit, viewNone, viewSome, TableWay}
 use Rattle.words.specs.Ways.{tableDone, tableRefused}
 
--- ---- Start and Feed
+-- ---- Open and Feed
 
 module _ (r a b w : List ℕ) (o : Outcome) where
   told : (x : Answer) → o .answer ≡ x → length r ≡ 5 → CallWay r a b w o (monitorCall r o)
@@ -70,9 +72,40 @@ module _ (r a b w : List ℕ) (o : Outcome) where
   measured c true e k = subst (CallWay r a b w o) (sym k) (told (o .answer) refl (eqb-true _ _ e))
   measured c false e k = subst (CallWay r a b w o) (sym k) (recordUnfit (eqb-false _ _ e))
 
-pub start-way : (l r a b w : List ℕ) → CallWay r a b w (startOf l a b w) (startCall l r a b w)
-unfolding startCall recordMeasured
-start-way l r a b w = measured r a b w (startOf l a b w) (startCall l r a b w) (eqb (length r) 5) refl refl
+opened-some : (x : Answer) (s : State) → recordIn x ≡ some s → openedOf x ≡ 1
+unfolding recordIn openedOf
+opened-some (given r) s e = refl
+opened-some (refused n p) s e = absurd (let z : _≡_ {A = ℕ} 0 1 = cc in omega arith)
+opened-some (stopped n p r) s e = refl
+
+opened-none : (x : Answer) → recordIn x ≡ none → openedOf x ≡ 0
+unfolding recordIn openedOf
+opened-none (given r) e = absurd (let z : _≡_ {A = ℕ} 0 1 = cc in omega arith)
+opened-none (refused n p) e = refl
+opened-none (stopped n p r) e = absurd (let z : _≡_ {A = ℕ} 0 1 = cc in omega arith)
+
+pub open-way : (l r a b es w : List ℕ) → OpenWay r a b w (openOf l a b es w) (openCall l r a b es w)
+unfolding openCall recordMeasured unmeasured
+open-way l r a b es w = by (eqb (length r) 5) refl
+  where
+    o : Outcome
+    o = openOf l a b es w
+
+    by : (x : Bool) → eqb (length r) 5 ≡ x → OpenWay r a b w o (openCall l r a b es w)
+    by true e =
+        rw (e, openCall) (record {
+          way = told r a b w o (o .answer) refl (eqb-true _ _ e);
+          with-record = λ s h g. opened-some (o .answer) s g;
+          without-record = opened-none (o .answer);
+          unfit = λ h. absurd (h (eqb-true _ _ e));
+        })
+    by false e =
+        rw (e, openCall) (record {
+          way = recordUnfit (eqb-false _ _ e);
+          with-record = λ s h g. absurd (eqb-false _ _ e h);
+          without-record = λ g. refl;
+          unfit = λ h. refl;
+        })
 
 pub feed-way : (l r a b es w : List ℕ)
     → CallWay r a b w (feedOf l (monitorIn r a b) es w) (feedCall l r a b es w)

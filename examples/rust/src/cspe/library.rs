@@ -19,7 +19,7 @@ extern "C" {
         work_length: usize,
         value: *mut u64,
     ) -> u32;
-    pub fn cspe_start(
+    pub fn cspe_open(
         list: *const u16,
         list_length: usize,
         record: *mut u64,
@@ -28,9 +28,12 @@ extern "C" {
         area0_length: usize,
         area1: *mut u64,
         area1_length: usize,
+        events: *const u8,
+        events_length: usize,
         work: *mut u64,
         work_length: usize,
         place: *mut u64,
+        opened: *mut u64,
     ) -> u32;
     pub fn cspe_feed(
         list: *const u16,

@@ -230,12 +230,12 @@ mod tests {
             // in one call, and event by event
             let mut history = History::new();
             history.begin(&list, slots);
-            if history.start().refusal.is_none() {
+            if history.open(&[]).refusal.is_none() {
                 history.feed(&events);
             }
             history.known_line(line);
             history.begin(&list, slots);
-            let mut refused = history.start().refusal.is_some();
+            let mut refused = history.open(&[]).refusal.is_some();
             for event in &events {
                 refused = refused || history.feed(&[*event]).refusal.is_some();
             }

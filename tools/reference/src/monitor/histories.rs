@@ -6,6 +6,7 @@
 mod damaged;
 mod lengths;
 mod limits;
+mod opens;
 mod peaks;
 mod states;
 mod tries;
@@ -19,6 +20,7 @@ use crate::summary::head;
 use damaged::*;
 use lengths::*;
 use limits::*;
+use opens::*;
 use peaks::*;
 use states::*;
 use tries::*;
@@ -28,8 +30,8 @@ use wrong::{wrong_in, Field};
 
 // Where the file comes from, but for the seed and the count.
 const SOURCE: &str = "\
-# Histories of the monitor: answers of Start, Feed, Try, Offer and View.
-# Written by tools/reference, another implementation of 01 and of 02, W1, W4 and W6; in groups
+# Histories of the monitor: answers of Open, Feed, Try, Offer and View.
+# Written by tools/reference, another implementation of 01 and of 02, W1, W4, W6 and W7; in groups
 # named worked_* the verdicts and refusals are worked by hand from these, and so are bits and words
 # in worked_events and worked_rows; other bits, and digests, are not. The command, in tools/reference:
 #     cargo run --release --offline -- histories --seed ";
@@ -44,10 +46,10 @@ pub struct Group {
 type Make = fn(&mut Random, &mut History);
 
 // The groups that are drawn: a hundred parts, each group so many.
-const DRAWN: [(&str, usize, Make); 52] = [
-    ("wrong_lengths_start", 2, wrong_lengths_start),
+const DRAWN: [(&str, usize, Make); 56] = [
+    ("wrong_lengths_open", 2, wrong_lengths_open),
     ("wrong_lengths_midway", 3, wrong_lengths_midway),
-    ("garbage_before_start", 2, garbage_before_start),
+    ("garbage_before_open", 2, garbage_before_open),
     ("refused_tables", 8, refused_tables),
     ("disturbed_place_above_taken", 2, place_above_taken),
     ("disturbed_held_after_failure", 2, held_after_failure),
@@ -77,7 +79,7 @@ const DRAWN: [(&str, usize, Make); 52] = [
     ("random_words", 4, random_words),
     ("other_table", 3, other_table),
     ("counter", 4, counter),
-    ("crowded_start", 3, crowded_start),
+    ("crowded_settling", 3, crowded_settling),
     ("crowded_midway", 4, crowded_midway),
     ("strange_events", 3, strange_events),
     ("peaks", 6, peaks),
@@ -97,6 +99,10 @@ const DRAWN: [(&str, usize, Make); 52] = [
     ("tried_crowded", 4, tried_crowded),
     ("tried_counter", 2, tried_counter),
     ("tried_after_failure", 2, tried_after_failure),
+    ("opened_and_fed", 5, opened_and_fed),
+    ("opened_midway", 5, opened_midway),
+    ("opened_crowded_settling", 3, opened_crowded_settling),
+    ("opened_crowded_first", 3, opened_crowded_first),
 ];
 
 // The groups of answers that are wrong on purpose.
@@ -136,6 +142,7 @@ pub fn groups(seed: u64, count: usize) -> Vec<Group> {
     add("worked_try", &|_, history| worked_try(history));
     add("worked_events", &|_, history| worked_events(history));
     add("worked_rows", &|_, history| worked_rows(history));
+    add("worked_open", &|_, history| worked_open(history));
     add("long_tables", &long_tables);
     add("long_calls", &|_, history| long_calls(history));
     for (name, parts, make) in DRAWN {
@@ -190,12 +197,12 @@ mod tests {
                     histories += 1;
                 }
                 "u" => assert!(numbers.len() <= 16_500),
-                "f" => assert!(numbers.len() - 1 <= MOST_EVENTS && numbers[0] <= 8_300),
+                "b" | "f" => assert!(numbers.len() - 1 <= MOST_EVENTS && numbers[0] <= 8_300),
                 "d" => {
                     assert!(numbers.len() - 3 <= MOST_EVENTS && numbers[0] <= 8_300);
                     assert!(numbers[1..3].iter().all(|&length| length <= BUFFER as u64));
                 }
-                "s" | "o" => assert!(numbers[0] <= 8_300),
+                "o" => assert!(numbers[0] <= 8_300),
                 "a" => assert!(numbers[..2].iter().all(|&length| length <= BUFFER as u64)),
                 _ => {}
             }
@@ -215,10 +222,11 @@ mod tests {
     fn every_refusal() {
         let text = stored::text("monitor_test/data/histories.txt");
         let (text, _) = text.split_once("# wrong ").expect("answers that are wrong on purpose");
-        for call in ["s", "f", "d", "o"] {
+        for call in ["b", "f", "d", "o"] {
             for number in (1..=13).filter(|&n| n != 4) {
                 let has = match call {
-                    "s" => number <= 9 || number == 13,
+                    // its record is new, so that 10 and 12 are not met
+                    "b" => number != 10 && number != 12,
                     "f" | "d" => true,
                     _ => number <= 10,
                 };

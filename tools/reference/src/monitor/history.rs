@@ -21,7 +21,7 @@ pub const FORMAT: &str = "\
 #     r TAKEN COUNT PEAK FAILED AT
 #                                 the record: FAILED 0 is running (AT is then 0), 1 failed at AT
 #     x AREA INDEX w w ..         the words of buffer AREA from INDEX on become these
-#     s WORK = NUMBER PLACE HAS TAKEN COUNT PEAK FAILED AT DIGEST KEPT        Start
+#     b WORK e e .. = NUMBER PLACE HAS TAKEN COUNT PEAK FAILED AT DIGEST KEPT Open of these events
 #     f WORK e e .. = NUMBER PLACE HAS TAKEN COUNT PEAK FAILED AT DIGEST KEPT Feed of these events
 #     d WORK LENGTH0 LENGTH1 e e ..
 #             = NUMBER PLACE HAS TAKEN COUNT PEAK FAILED AT DIGEST FURTHER KEPT
@@ -32,9 +32,9 @@ pub const FORMAT: &str = "\
 # A list may have no number. WORK is the length of the lent work area; fill it with what is not 0.
 # NUMBER and PLACE are 0 0 for a result, else the refusal's. HAS is 1 if a record is handed back,
 # which is the record of the next call; else it is 0, so are the five numbers after it, and the
-# record that went in stands. PEAK is the largest COUNT since Start, the present one included. FIRST
-# and SECOND, a bit for each event, are 0 on a refusal. DIGEST is of the lent words of area 0 and
-# then of area 1 after the call: from 1, for each word w
+# record that went in stands. PEAK is the largest COUNT since it was opened, the present one
+# included. FIRST and SECOND, a bit for each event, are 0 on a refusal. DIGEST is of the lent words
+# of area 0 and then of area 1 after the call: from 1, for each word w
 #     d := (d * 16777619 + w mod 2^32) mod 4294967291
 #     d := (d * 16777619 + w div 2^32) mod 4294967291
 # After Try the record that went in is that of the next call, and FURTHER is the digest of the
@@ -177,13 +177,13 @@ impl History {
 
     // ---- calls
 
-    pub fn start(&mut self) -> Answer {
-        self.start_work(WORK)
+    pub fn open(&mut self, events: &[u8]) -> Answer {
+        self.open_work(events, WORK)
     }
 
-    pub fn start_work(&mut self, work_len: usize) -> Answer {
-        let outcome = start(&self.list, &self.areas(), work_len);
-        self.answered(format!("s {work_len}"), outcome)
+    pub fn open_work(&mut self, events: &[u8], work_len: usize) -> Answer {
+        let outcome = open(&self.list, &self.areas(), events, work_len);
+        self.answered(format!("b {work_len}{}", joined(events)), outcome)
     }
 
     pub fn feed(&mut self, events: &[u8]) -> Answer {

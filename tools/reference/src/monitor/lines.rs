@@ -31,7 +31,7 @@ const FORMAT: &str = "\
 # A case is a few lines, fields separated by one space, numbers in decimal:
 #     i b b ..                    bytes of the input, after those of the `i` lines before
 #     l LIST AREA0 AREA1 WORK     the lengths of what is lent, if not 16384 4096 4096 8192
-#     s SLOTS                     Read, Start and Feed with so many slots, instead of the line
+#     s SLOTS                     Read and Open with so many slots, instead of the line
 #     c PIECE = KIND A B KIND A B LIST AREA0 AREA1 WORK
 #                                 the case: its line at once, and with its events in pieces of
 #                                 PIECE bytes; what its front keeps
@@ -101,7 +101,7 @@ impl Case {
     }
 
     // What opening the front keeps of the list, both areas and the work area: all of them before
-    // Read; the areas where Read refuses the table; nothing where Start was called.
+    // Read; the areas where Read refuses the table; nothing where a monitor was opened.
     fn kept(&self) -> [u64; 4] {
         if self.lengths != RIGHT {
             return [1; 4];

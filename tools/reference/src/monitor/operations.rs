@@ -1,6 +1,6 @@
-// Start, Feed, Offer and View (01, "Operations", "When the monitor declines"; the record's peak:
-// 02, W1) and Try (02, W4): for every input the whole outcome: the answer, both areas, and whether
-// the work area is kept.
+// Open (02, W7), Feed, Offer and View (01, "Operations", "When the monitor declines"; the record's
+// peak: 02, W1) and Try (02, W4): for every input the whole outcome: the answer, both areas, and
+// whether the work area is kept.
 //     Answer      a record; a refusal; a refusal with a record
 //     Outcome     an answer and what stands in the lent areas afterwards
 
@@ -67,30 +67,28 @@ fn refused_only(refusal: Refusal) -> Answer {
     Answer { refusal: Some(refusal), record: None }
 }
 
-// "Start settles the last definition into area 0, zeroes area 1, taken 0."
-pub fn start(list: &[u16], areas: &Areas, work_len: usize) -> Outcome<Answer> {
+// Open: "Start and the first Feed become one operation, Open, with a list of events"; "Start settles
+// the last definition into area 0, zeroes area 1, taken 0."
+pub fn open(list: &[u16], areas: &Areas, events: &[u8], work_len: usize) -> Outcome<Answer> {
     let terms = match judged(list, areas, work_len) {
         Ok(terms) => terms,
         Err(refusal) => return refused(refused_only(refusal), refusal, areas),
     };
     let length = areas[0].len();
-    let zero = vec![0; length];
     match Results::of(resolve_last(&terms), length / SLOT) {
-        // "Start crowded (place 0) zeroes both areas and returns no record."
+        // "crowded while settling answers as Start's did": "Start crowded (place 0) zeroes both
+        // areas and returns no record."
         Results::Many => Outcome {
             answer: refused_only(Refusal { number: CAPACITY_EXCEEDED, place: 0 }),
-            areas: [zero.clone(), zero],
+            areas: [vec![0; length], vec![0; length]],
             work_kept: false,
         },
+        // "Refusals 11 to 13 during the list answer as Feed's"
         Results::Few(residuals) => {
             let failed = residuals.is_empty().then_some(0);
             let count = residuals.len() as u64;
             let record = Record { taken: 0, count, peak: count, failed };
-            Outcome {
-                answer: Answer { refusal: None, record: Some(record) },
-                areas: [area(&residuals, length), zero],
-                work_kept: false,
-            }
+            through(&terms, record, residuals, events, length)
         }
     }
 }
@@ -103,15 +101,23 @@ pub fn feed(
     events: &[u8],
     work_len: usize,
 ) -> Outcome<Answer> {
-    let (terms, mut residuals) = match judged_state(list, record, areas, work_len) {
-        Ok(judged) => judged,
-        Err(refusal) => return refused(refused_only(refusal), refusal, areas),
-    };
-    let length = areas[0].len();
-    let mut record = record;
+    match judged_state(list, record, areas, work_len) {
+        Ok((terms, residuals)) => through(&terms, record, residuals, events, areas[0].len()),
+        Err(refusal) => refused(refused_only(refusal), refusal, areas),
+    }
+}
+
+// The events from the first, until one is refused, on areas of that length.
+fn through(
+    terms: &Terms,
+    mut record: Record,
+    mut residuals: Residuals,
+    events: &[u8],
+    length: usize,
+) -> Outcome<Answer> {
     let mut refusal = None;
     for (place, &event) in events.iter().enumerate() {
-        match take(&terms, record, &residuals, event as u16, length / SLOT) {
+        match take(terms, record, &residuals, event as u16, length / SLOT) {
             Ok(next) => (record, residuals) = next,
             Err(number) => {
                 refusal = Some(Refusal { number, place });

@@ -52,7 +52,7 @@ fn greatest_over_all_beginnings() {
         let table = any_table(&mut random);
         let (list, terms) = (table.list(), Terms::of(&table));
         let slots = *random.pick(&[1, 2, 3, 5, 8, 256]);
-        let started = start(&list, &zero_areas(slots), WORK);
+        let started = open(&list, &zero_areas(slots), &[], WORK);
         let Some(mut record) = started.answer.record else { continue };
         assert_eq!(record.peak, record.count);
         let (mut areas, mut joined) = (started.areas, Vec::new());
@@ -92,7 +92,7 @@ fn disturbed_by_its_peak() {
         let table = any_table(&mut random);
         let list = table.list();
         let slots = *random.pick(&[1, 2, 3, 8]);
-        let started = start(&list, &zero_areas(slots), WORK);
+        let started = open(&list, &zero_areas(slots), &[], WORK);
         let Some(fresh) = started.answer.record else { continue };
         let events = guided_events(&mut random, &table, 5);
         let fed = feed(&list, fresh, &started.areas, &events, WORK);
@@ -129,7 +129,7 @@ fn kept_from_any_state() {
         let table = any_table(&mut random);
         let list = table.list();
         let slots = *random.pick(&[2, 3, 8, 256]);
-        let started = start(&list, &zero_areas(slots), WORK);
+        let started = open(&list, &zero_areas(slots), &[], WORK);
         let Some(mut record) = started.answer.record else { continue };
         let mut areas = started.areas;
         if random.once_in(2) {

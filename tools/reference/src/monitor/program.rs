@@ -3,7 +3,7 @@
 //     line        what the program prints
 //     peak        the record's peak after the events taken, which the line does not have
 
-use super::operations::{feed, start, Answer, MOST_AREA};
+use super::operations::{open, Answer, MOST_AREA};
 use crate::numbers::{number_at, Reading};
 use crate::operations::{read, READ_OUTPUT, WORK};
 use crate::refusal::*;
@@ -40,23 +40,19 @@ pub fn parts(input: &[u8]) -> Result<(&[u8], &[u8]), Refusal> {
     Ok(rest.split_at(length))
 }
 
-// None where no monitor was started.
+// None where no monitor was opened.
 pub fn peak(input: &[u8]) -> Option<u64> {
     let answer = fed(input, MOST_AREA).ok()?;
     answer.record.map(|record| record.peak)
 }
 
-// What Feed answers, or a refusal before it.
+// What Open answers with the input's events, or a refusal before it.
 fn fed(input: &[u8], area_len: usize) -> Result<Answer, Refusal> {
     let (bytes, events) = parts(input)?;
     let table = read(bytes, READ_OUTPUT, WORK);
     let list = &table.output[..table.answer?];
-    let started = start(list, &[vec![0; area_len], vec![0; area_len]], WORK);
-    if let Some(refusal) = started.answer.refusal {
-        return Err(refusal);
-    }
-    let record = started.answer.record.expect("a record without a refusal");
-    Ok(feed(list, record, &started.areas, events, WORK).answer)
+    let areas = [vec![0; area_len], vec![0; area_len]];
+    Ok(open(list, &areas, events, WORK).answer)
 }
 
 fn judged(input: &[u8], area_len: usize) -> Result<String, Refusal> {

@@ -56,25 +56,34 @@ pub(super) fn guided_events(random: &mut Random, table: &Table, most: usize) -> 
     events
 }
 
-// Pieces, refused ones included, leave what one call on the joined events leaves; no call of a
-// history is refused with 2 to 10.
+// An Open and pieces, refused ones included, leave what one Open on the joined events leaves; no
+// call of a history is refused with 2 to 10.
 #[test]
 fn pieces_and_at_once() {
     let mut random = Random::new(21);
-    let mut refused = 0;
+    let (mut refused, mut begun_refused) = (0, 0);
     for _ in 0..6_000 {
         let table = any_table(&mut random);
         let list = table.list();
         let slots = *random.pick(&[1, 2, 3, 8, 256]);
         let areas = [vec![7; 16 * slots], vec![u64::MAX; 16 * slots]];
-        let started = start(&list, &areas, WORK);
-        let Some(fresh) = started.answer.record else {
-            assert_eq!(started.answer.refusal.unwrap().number, CAPACITY_EXCEEDED);
-            assert_eq!(started.areas, zero_areas(slots));
+        let mut first = guided_events(&mut random, &table, 4);
+        if random.once_in(4) {
+            first.push(random.between(table.alphabet as usize, 255) as u8);
+            first.extend(any_events(&mut random, table.alphabet, 3));
+        }
+        let opened = open(&list, &areas, &first, WORK);
+        let Some(mut record) = opened.answer.record else {
+            assert_eq!(opened.answer.refusal.unwrap().number, CAPACITY_EXCEEDED);
+            assert_eq!(opened.areas, zero_areas(slots));
             continue;
         };
-        let (mut record, mut areas) = (fresh, started.areas.clone());
-        let mut joined = Vec::new();
+        let mut areas = opened.areas;
+        let mut joined = first;
+        if let Some(refusal) = opened.answer.refusal {
+            joined.truncate(refusal.place);
+            begun_refused += 1;
+        }
         for _ in 0..random.between(0, 5) {
             let mut events = guided_events(&mut random, &table, 5);
             if random.once_in(4) {
@@ -97,12 +106,13 @@ fn pieces_and_at_once() {
             record = fed.answer.record.unwrap_or(record);
             areas = fed.areas;
         }
-        let once = feed(&list, fresh, &started.areas, &joined, WORK);
+        let lent = [vec![9; 16 * slots], vec![3; 16 * slots]];
+        let once = open(&list, &lent, &joined, WORK);
         assert_eq!(once.answer, Answer { refusal: None, record: Some(record) });
         assert_eq!(once.areas, areas);
         assert_eq!(record.taken, joined.len() as u64);
     }
-    assert!(refused > 1_000);
+    assert!(refused > 1_000 && begun_refused > 300, "{refused} {begun_refused}");
 }
 
 // Offer's bit e is set exactly when e keeps the monitor running or is too much for its slots.
@@ -114,7 +124,7 @@ fn offered_events() {
         let table = any_table(&mut random);
         let list = table.list();
         let slots = *random.pick(&[1, 2, 8, 256]);
-        let started = start(&list, &zero_areas(slots), WORK);
+        let started = open(&list, &zero_areas(slots), &[], WORK);
         let Some(fresh) = started.answer.record else { continue };
         let events = guided_events(&mut random, &table, 6);
         let fed = feed(&list, fresh, &started.areas, &events, WORK);
@@ -160,7 +170,7 @@ fn verdicts_are_those_of_traces() {
     for i in 0..12_000 {
         let table = any_table(&mut random);
         let list = table.list();
-        let started = start(&list, &zero_areas(256), WORK);
+        let started = open(&list, &zero_areas(256), &[], WORK);
         let Some(fresh) = started.answer.record else { continue };
         let events = match i % 3 {
             0 => any_events(&mut random, table.alphabet, 5),

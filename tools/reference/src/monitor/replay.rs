@@ -46,8 +46,9 @@ fn again(history: &mut History, line: &str) -> Option<()> {
             history.set_record(Record { taken, count, peak, failed });
         }
         "x" => history.set_words(length(0)?, length(1)?, &numbers[2..]),
-        "s" => {
-            history.start_work(length(0)?);
+        "b" => {
+            let events: Vec<u8> = numbers[1..].iter().map(|&e| e as u8).collect();
+            history.open_work(&events, length(0)?);
         }
         "f" => {
             let events: Vec<u8> = numbers[1..].iter().map(|&e| e as u8).collect();

@@ -14,11 +14,9 @@ fn kind_of(line: &str) -> Option<bool> {
     let lengths: Vec<usize> = parts.iter().map(|part| part.len()).collect();
     match (letter, lengths.as_slice()) {
         ("t" | "u", [_]) | ("a", [3]) | ("r", [5]) | ("x", [(2..)]) => Some(false),
-        ("s", [1, 10])
-        | ("f", [(1..), 10])
-        | ("d", [(3..), 11])
-        | ("o", [1, 6])
-        | ("v", [0, 2]) => Some(true),
+        ("b" | "f", [(1..), 10]) | ("d", [(3..), 11]) | ("o", [1, 6]) | ("v", [0, 2]) => {
+            Some(true)
+        }
         _ => None,
     }
 }
@@ -30,7 +28,7 @@ mod tests {
     #[test]
     fn calls_are_counted() {
         let text =
-            "# head\n# group a\nt 3 0\na 16 16 1\ns 8192 = 0 0 1 0 1 1 0 0 5 0\nv = 0 16\n\
+            "# head\n# group a\nt 3 0\na 16 16 1\nb 8192 = 0 0 1 0 1 1 0 0 5 0\nv = 0 16\n\
                     # group b\nt\n# wrong c\nv = 0 32\n";
         assert_eq!(summary(text), Ok("a 2\nb 0\nc 1 of 1 wrong, first 1\nok\n".to_string()));
     }
@@ -40,7 +38,8 @@ mod tests {
         for line in [
             "",
             "y 1",
-            "s 1 = 0",
+            "s 1 = 0 0 1 0 1 1 0 0 5 0",
+            "b 1 = 0",
             "v = 0",
             "x 1",
             "f = 0 0 1 0 1 1 0 0 5 0",

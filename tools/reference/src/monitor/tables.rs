@@ -1,20 +1,20 @@
 // Seeded tables for histories: accepted, and mostly with something to follow.
-//     lively          a drawn table whose monitor starts and goes on
+//     lively          a drawn table whose monitor opens and goes on
 //     remembering     nested prefixes whose sets depend on the events taken
 //     wide_loops      loops beside each other, with many residuals
 //     full_alphabet   A = 64 or 128, with sets that tell the upper events apart
 //     repeating       one event of a few, over and over
 
-use super::operations::{offer, start, MOST_AREA};
+use super::operations::{offer, open, MOST_AREA};
 use crate::generate::*;
 use crate::operations::{check, WORK};
 use crate::random::Random;
 use crate::table::*;
 
-// Whether the monitor starts on it, and some event is permitted.
+// Whether the monitor opens on it, and some event is permitted.
 pub fn goes_on(table: &Table) -> bool {
     let list = table.list();
-    let started = start(&list, &[vec![0; MOST_AREA], vec![0; MOST_AREA]], WORK);
+    let started = open(&list, &[vec![0; MOST_AREA], vec![0; MOST_AREA]], &[], WORK);
     match started.answer.record {
         Some(record) => {
             offer(&list, record, &started.areas, WORK).answer.unwrap_or([0; 2]) != [0; 2]

@@ -8,7 +8,7 @@ use super::operations::*;
 use super::timetable::*;
 use super::walks::Joined;
 use super::wrong;
-use crate::monitor::operations::{feed, start};
+use crate::monitor::operations::open;
 use crate::operations::WORK;
 use crate::random::Random;
 use crate::refusal::*;
@@ -70,9 +70,7 @@ fn joined_by_words(lent: &Lent, slots: usize, calls: &[Vec<(u8, u64)>]) -> Joine
                 since.insert(0, event);
                 at = minute;
             }
-            let started = start(list, &zero, WORK);
-            let Some(record) = started.answer.record else { break };
-            if feed(list, record, &started.areas, &since, WORK).answer.refusal.is_some() {
+            if open(list, &zero, &since, WORK).answer.refusal.is_some() {
                 break;
             }
             joined.push((event, minute));

@@ -1,5 +1,5 @@
 // Histories over several weeks. After each call the state is known: that of the drawing in force on
-// the events joined since the last start, found by Start and Feed of the monitor; nothing joined
+// the events joined since the last start, found by Open of the monitor; nothing joined
 // leaves the not-started record and zero areas.
 //     Joined       the events that the calls so far joined, with their minutes
 
@@ -7,7 +7,7 @@ use super::drawn::*;
 use super::history::*;
 use super::operations::{Answer, Lent, Timed};
 use super::timetable::*;
-use crate::monitor::operations::{feed, start};
+use crate::monitor::operations::open;
 use crate::monitor::state::Areas;
 use crate::operations::WORK;
 use crate::random::Random;
@@ -43,12 +43,10 @@ impl Joined {
         };
         let since = &self.0[self.last_start(&lent.windows)..];
         let events: Vec<u8> = since.iter().map(|&(event, _)| event).collect();
-        let started = start(list, &zero, WORK);
-        let record = started.answer.record.expect("a start that is not crowded");
-        let fed = feed(list, record, &started.areas, &events, WORK);
-        assert_eq!(fed.answer.refusal, None, "joined events are taken");
-        let record = fed.answer.record.expect("a record");
-        (Timed::Started { record, minute }, fed.areas)
+        let opened = open(list, &zero, &events, WORK);
+        assert_eq!(opened.answer.refusal, None, "joined events are taken");
+        let record = opened.answer.record.expect("a record");
+        (Timed::Started { record, minute }, opened.areas)
     }
 }
 

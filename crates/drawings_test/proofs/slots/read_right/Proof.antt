@@ -30,11 +30,11 @@ returns c = search needs
 array-share-prefix-list : tie.Need-array-share-prefix-list
 array-share-prefix-list c = search needs
 
-slice-aggregate-start-right : tie.Need-slice-aggregate-start-right
-slice-aggregate-start-right c = sym (length-take-le _ _ (omega arith))
+slice-aggregate-answer-right : tie.Need-slice-aggregate-answer-right
+slice-aggregate-answer-right c = sym (length-take-le _ _ (omega arith))
 
-start-right-requires : tie.Need-start-right-requires
-start-right-requires c κs = search needs
+answer-right-requires : tie.Need-answer-right-requires
+answer-right-requires c κs = search needs
 
 enum-known-r : tie.Need-enum-known-r
 enum-known-r c = search needs
@@ -72,8 +72,8 @@ read-right-spec =
     same-length
     returns
     array-share-prefix-list
-    slice-aggregate-start-right
-    start-right-requires
+    slice-aggregate-answer-right
+    answer-right-requires
     enum-known-r
     same-refusal-requires
     same-length-2

@@ -12,8 +12,8 @@ read-requires c κs = search needs
 enum-known-count : tie.Need-enum-known-count
 enum-known-count c = search needs
 
-slice-reshare-prefix-start-list : tie.Need-slice-reshare-prefix-start-list
-slice-reshare-prefix-start-list c =
+slice-reshare-prefix-open-list : tie.Need-slice-reshare-prefix-open-list
+slice-reshare-prefix-open-list c =
     let at-count = c .before in
     let at-read = at-count .before .before .before .before .before .before in
     let entry = at-read .before .before .before .before .before .before .before .before in
@@ -24,8 +24,8 @@ slice-reshare-prefix-start-list c =
           (at-read .read .ensures) _ (at-count .count .given .1),
     )
 
-slice-aggregate-start-list : tie.Need-slice-aggregate-start-list
-slice-aggregate-start-list c =
+slice-aggregate-open-list : tie.Need-slice-aggregate-open-list
+slice-aggregate-open-list c =
     let at-count = c .before .before in
     let at-read = at-count .before .before .before .before .before .before in
     let entry = at-read .before .before .before .before .before .before .before .before in
@@ -33,8 +33,8 @@ slice-aggregate-start-list c =
     sym (read-few (args .bytes .now) (args .list .now) (args .work .now) _ _ _
     (at-read .read .ensures) _ (at-count .count .given .1) .1)
 
-start-list-requires : tie.Need-start-list-requires
-start-list-requires c κs = search needs
+open-list-requires : tie.Need-open-list-requires
+open-list-requires c κs = search needs
 
 enum-known-refusal : tie.Need-enum-known-refusal
 enum-known-refusal c = search needs
@@ -53,14 +53,14 @@ same-length-4 c = search needs
 
 returns : tie.Need-returns
 returns c =
-    let at-start-list = c .before .before .before .before .before .before in
-    let at-count = at-start-list .before .before .before .before .before .before in
+    let at-open-list = c .before .before .before .before .before .before in
+    let at-count = at-open-list .before .before .before .before .before .before in
     let at-read = at-count .before .before .before .before .before .before in
     let entry = at-read .before .before .before .before .before .before .before .before in
     let args = entry .args in
     read-count (args .bytes .now) (args .list .now) (args .work .now) _ _ _ (at-read .read .ensures) _
-    (at-count .count .given .1) (args .next) (args .area0 .now) (args .area1 .now) (at-start-list .start-list .result)
-    _ _ _ (at-start-list .start-list .ensures)
+    (at-count .count .given .1) (args .next) (args .area0 .now) (args .area1 .now) (at-open-list .open-list .result)
+    _ _ _ (at-open-list .open-list .ensures)
 
 same-length-5 : tie.Need-same-length-5
 same-length-5 c = search needs
@@ -83,9 +83,9 @@ open-table-spec =
     (tie.spec
     read-requires
     enum-known-count
-    slice-reshare-prefix-start-list
-    slice-aggregate-start-list
-    start-list-requires
+    slice-reshare-prefix-open-list
+    slice-aggregate-open-list
+    open-list-requires
     enum-known-refusal
     same-length
     same-length-2

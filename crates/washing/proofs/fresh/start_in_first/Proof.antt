@@ -3,14 +3,14 @@ use native.Mathlib.Omega.{arith}
 use mathlib.Core.Path.{refl}
 use borrow.Author.Needs.{needs}
 use Rattle.entering.specs.Entered.Laws.{areas-same}
-use Rattle.washing.proofs.fresh.Areas.{measured-room, first-went, first-stopped}
+use Rattle.washing.proofs.fresh.Areas.{measured-first, first-went, first-stopped}
 use Rattle.washing.proofs.fresh.start_in_first.Statement.{statement}
 use Rattle.washing.proofs.fresh.start_in_first.Tie as tie
 
 take-first-requires : tie.Need-take-first-requires
 take-first-requires c κs =
     let at-start = c .before .before .before .before .before .before .before in
-    (at-start .pre .0, (at-start .pre .1 .0 .1, measured-room _ _ (at-start .pre .1 .0 .0) .0, at-start .pre .1 .1))
+    (at-start .pre .0, (measured-first _ _ (at-start .pre .1 .0 .0), at-start .pre .1 .1))
 
 enum-known-state : tie.Need-enum-known-state
 enum-known-state c = search needs

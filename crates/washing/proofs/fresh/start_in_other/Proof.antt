@@ -1,14 +1,14 @@
 -- `washing::fresh::start_in_other` meets its contract. Assumes nothing.
 use mathlib.Core.Path.{refl}
 use borrow.Author.Needs.{needs}
-use Rattle.washing.proofs.fresh.Areas.{measured-room, other-went, other-stopped}
+use Rattle.washing.proofs.fresh.Areas.{measured-other, other-went, other-stopped}
 use Rattle.washing.proofs.fresh.start_in_other.Statement.{statement}
 use Rattle.washing.proofs.fresh.start_in_other.Tie as tie
 
 take-first-requires : tie.Need-take-first-requires
 take-first-requires c κs =
     let at-start = c .before .before .before .before .before .before .before in
-    (at-start .pre .0, (at-start .pre .1 .0 .1, measured-room _ _ (at-start .pre .1 .0 .0) .1, at-start .pre .1 .1))
+    (at-start .pre .0, (measured-other _ _ (at-start .pre .1 .0 .0), at-start .pre .1 .1))
 
 enum-known-state : tie.Need-enum-known-state
 enum-known-state c = search needs

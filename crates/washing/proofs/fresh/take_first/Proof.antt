@@ -1,10 +1,10 @@
--- `washing::fresh::take_first` meets its contract: the room is a part of zeros, as long as the other area. Assumes
--- nothing.
+-- `washing::fresh::take_first` meets its contract: the room is as long as the other area. Assumes nothing.
 use Prim.Native.Nat.{_-_}
 use native.Mathlib.Omega.{arith}
 use lib.ListN.{length}
 use borrow.Author.Needs.{needs}
-use Rattle.washing.proofs.fresh.Settled.{room-zeros}
+use Rattle.washing.proofs.fresh.Areas.{measured-most}
+use Rattle.washing.proofs.fresh.Settled.{room-measured}
 use Rattle.washing.proofs.fresh.take_first.Statement.{statement}
 use Rattle.washing.proofs.fresh.take_first.Tie as tie
 
@@ -15,17 +15,18 @@ part-room-start : tie.Need-part-room-start
 part-room-start c = search needs
 
 part-room-end : tie.Need-part-room-end
-part-room-end c = search needs
+part-room-end c =
+    let at-start = c .before .before .before .before in omega (arith, measured-most _ (at-start .pre .1 .0))
 
 take-settled-requires : tie.Need-take-settled-requires
 take-settled-requires c κs =
     let at-start = c .before .before .before .before .before .before .before in
     let o = at-start .args .other .now in
-    let part = room-zeros o 4096 (length o - 0) (at-start .pre .1 .0) (omega arith) (omega (
+    let part = room-measured o 4096 (length o - 0) (at-start .pre .1 .0) (omega arith) (omega (
       arith,
-      at-start .pre .1 .1,
+      measured-most o (at-start .pre .1 .0),
     )) in
-    (at-start .pre .0, (part, at-start .pre .1 .0, at-start .pre .1 .2))
+    (at-start .pre .0, (part, at-start .pre .1 .1))
 
 same-length : tie.Need-same-length
 same-length c = search needs

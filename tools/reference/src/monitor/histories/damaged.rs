@@ -91,7 +91,7 @@ pub fn place_above_taken(random: &mut Random, history: &mut History) {
     let failed = Some(above(random, state.record.taken));
     history.set_record(Record { failed, ..state.record });
     disturbed(random, history, &state);
-    // and at 0, where a Start that fails has it
+    // and at 0, where an Open that fails has it
     if random.once_in(4) {
         history.set_record(Record { taken: 0, failed: Some(1), ..state.record });
         disturbed(random, history, &state);

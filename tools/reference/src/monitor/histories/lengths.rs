@@ -1,4 +1,4 @@
-// Wrong lengths of what is lent, garbage before Start, and refused tables.
+// Wrong lengths of what is lent, garbage before Open, and refused tables.
 
 use super::walks::*;
 use crate::damage::CLAUSES;
@@ -35,13 +35,13 @@ fn wrong_lengths(random: &mut Random, length: usize) -> ([usize; 2], usize) {
     (lengths, wrong_work)
 }
 
-pub fn wrong_lengths_start(random: &mut Random, history: &mut History) {
+pub fn wrong_lengths_open(random: &mut Random, history: &mut History) {
     let list = tables::any(random).list();
     let length = 16 * random.between(1, 20);
     history.table(&list);
     let ([one, two], work_len) = wrong_lengths(random, length);
     history.lend(one, two, if random.once_in(2) { Fill::Junk } else { Fill::Zeros });
-    history.start_work(work_len);
+    history.open_work(&[], work_len);
     history.known(WRONG_LENGTH, 0);
     history.feed_work(&[0], work_len);
     history.known(WRONG_LENGTH, 0);
@@ -73,7 +73,7 @@ pub fn wrong_lengths_midway(random: &mut Random, history: &mut History) {
     history.offer();
 }
 
-pub fn garbage_before_start(random: &mut Random, history: &mut History) {
+pub fn garbage_before_open(random: &mut Random, history: &mut History) {
     let made = prepared(random, |_, _| true);
     enter(history, &made);
     let (record, areas) = (history.record, history.areas());
@@ -86,7 +86,7 @@ pub fn garbage_before_start(random: &mut Random, history: &mut History) {
         history.set_words(area, index, words);
     }
     history.offer();
-    history.start();
+    history.open(&[]);
     history.known(0, 0);
     history.feed(&made.events);
     let same = history.record == record && history.areas() == areas;
@@ -94,7 +94,7 @@ pub fn garbage_before_start(random: &mut Random, history: &mut History) {
     history.view();
 }
 
-// A table with one known fault, at Start and in the midst of a history.
+// A table with one known fault, at Open and in the midst of a history.
 pub fn refused_tables(random: &mut Random, history: &mut History) {
     let fault = loop {
         let fault = random.pick(&CLAUSES).1(random);
@@ -103,7 +103,7 @@ pub fn refused_tables(random: &mut Random, history: &mut History) {
         }
     };
     history.begin(&fault.list, random.between(1, 4));
-    history.start();
+    history.open(&[]);
     history.known(fault.number, fault.place);
     history.feed(&[200]);
     history.known(fault.number, fault.place);
@@ -121,7 +121,7 @@ pub fn refused_tables(random: &mut Random, history: &mut History) {
     history.offer();
     history.known(fault.number, fault.place);
     if random.once_in(4) {
-        history.start();
+        history.open(&[]);
         history.known(fault.number, fault.place);
     }
     history.other_table(&made.list);

@@ -20,7 +20,7 @@ pub fn long_tables(random: &mut Random, history: &mut History) {
     let (stands, too_long, reference) =
         (long(MOST_BYTES, 0), long(MOST_BYTES + 1, 0), long(MOST_BYTES + 1, 1));
     history.begin(&stands, 2);
-    history.start();
+    history.open(&[]);
     history.known_record(0, 1, 1, None);
     history.offer();
     history.feed(&[0, 63]);
@@ -32,7 +32,7 @@ pub fn long_tables(random: &mut Random, history: &mut History) {
     history.known(TOO_LONG, 0);
     history.offer();
     history.known(TOO_LONG, 0);
-    history.start();
+    history.open(&[]);
     history.known(TOO_LONG, 0);
     history.other_table(&reference);
     history.feed(&[64]);
@@ -42,7 +42,7 @@ pub fn long_tables(random: &mut Random, history: &mut History) {
 // The place of a strange event after 5,000 others.
 pub fn long_calls(history: &mut History) {
     history.begin(&list_of(&[TABLE_B]), 1);
-    history.start();
+    history.open(&[]);
     let mut events: Vec<u8> = [0, 1].repeat(2_500);
     events.push(3);
     history.feed(&events);

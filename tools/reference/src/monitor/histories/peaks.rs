@@ -35,7 +35,7 @@ fn calls(history: &mut History, calls: &[Call]) {
 
 fn fresh(history: &mut History, parts: &[&str], slots: usize, count: u64, failed: Option<u64>) {
     history.begin(&list_of(parts), slots);
-    history.start();
+    history.open(&[]);
     history.known_record(0, count, count, failed);
 }
 
@@ -60,7 +60,7 @@ fn worked_histories(history: &mut History) {
             (&[1, 1, 1], (0, 0), (7, 0, 1, Some(4))),
         ],
     );
-    // STOP beside FAIL: failed at Start, so that the peak is 0 and stays
+    // STOP beside FAIL: failed before any event, so that the peak is 0 and stays
     fresh(history, &[THREE_SETS, "01 00 04 02 00 01"], 1, 0, Some(0));
     calls(history, &[(&[0, 1], (0, 0), (2, 0, 0, Some(0))), (&[3], (11, 0), (2, 0, 0, Some(0)))]);
     // K7: two prefixes at the start count, though one residual is held later, or none
@@ -77,14 +77,14 @@ fn worked_histories(history: &mut History) {
             (&[1, 3], (11, 1), (6, 0, 2, Some(3))),
         ],
     );
-    // K8: two after 0, one after 0,0; "since Start": a Start begins again
+    // K8: two after 0, one after 0,0; "since Start": an Open begins again
     fresh(history, &K8, 2, 1, None);
     calls(history, &[(&[0], (0, 0), (1, 2, 2, None)), (&[0], (0, 0), (2, 1, 2, None))]);
-    history.start();
+    history.open(&[]);
     history.known_record(0, 1, 1, None);
     // within one call the counts between its events count too
     calls(history, &[(&[0, 0], (0, 0), (2, 1, 2, None)), (&[0], (0, 0), (3, 0, 2, Some(3)))]);
-    history.start();
+    history.open(&[]);
     calls(history, &[(&[0, 0, 0, 0], (0, 0), (4, 0, 2, Some(3)))]);
     // fewer slots than the peak are lent from then on, though the count fits
     fresh(history, &K8, 2, 1, None);
@@ -296,8 +296,8 @@ fn worked_order(history: &mut History) {
         history.other_table(&b);
         history.feed(&[0]);
         history.known(INCONSISTENT, 0);
-        // Start takes no record
-        history.start();
+        // Open takes no record
+        history.open(&[]);
         history.known_record(0, 1, 1, None);
         // beside a word in the other area, and beside a count that is wrong as well
         history.set_record(Record { peak, ..history.record });
@@ -372,7 +372,7 @@ pub fn peaks(random: &mut Random, history: &mut History) {
     let (list, terms, events) = falling(random);
     let slots = greatest(&terms, &events) as usize + random.below(3);
     history.begin(&list, slots);
-    history.start();
+    history.open(&[]);
     let mut taken: Vec<u8> = Vec::new();
     while taken.len() < events.len() {
         let rest = &events[taken.len()..];
@@ -409,7 +409,7 @@ pub fn peaks_at_slots(random: &mut Random, history: &mut History) {
     let (list, terms, events) = falling(random);
     let slots = greatest(&terms, &events);
     history.begin(&list, slots as usize);
-    history.start();
+    history.open(&[]);
     let at = random.between(0, events.len());
     history.feed(&events[..at]);
     history.known(0, 0);
@@ -428,7 +428,7 @@ pub fn peaks_at_slots(random: &mut Random, history: &mut History) {
     if slots > 1 {
         let few = slots as usize - 1;
         history.lend(16 * few, 16 * few, Fill::Junk);
-        if history.start().record.is_none() {
+        if history.open(&[]).record.is_none() {
             history.known(CAPACITY_EXCEEDED, 0);
             return;
         }

@@ -40,7 +40,7 @@ fn some_events(random: &mut Random, made: &Prepared, history: &History) -> Vec<u
 pub fn worked_try(history: &mut History) {
     let table = list_of(&[TABLE_B]);
     history.begin(&table, 1);
-    history.start();
+    history.open(&[]);
     for (events, number, place) in
         [(&[0, 1, 0][..], 0, 0), (&[0, 0], 0, 0), (&[], 0, 0), (&[0, 3, 1], UNKNOWN_EVENT, 1)]
     {
@@ -69,7 +69,7 @@ pub fn worked_try(history: &mut History) {
     history.try_feed(&[3]);
     history.known(INCONSISTENT, 0);
     history.begin(&list_of(&K8), 1);
-    history.start();
+    history.open(&[]);
     history.try_feed(&[0]);
     history.known(CAPACITY_EXCEEDED, 0);
     history.known_record(0, 1, 1, None);
@@ -78,7 +78,7 @@ pub fn worked_try(history: &mut History) {
     history.offer();
     // with two slots: the record that Try gives has the copy's peak, the monitor's its own
     history.begin(&list_of(&K8), 2);
-    history.start();
+    history.open(&[]);
     let tried = history.try_feed(&[0, 0]);
     let given = Record { taken: 2, count: 1, peak: 2, failed: None };
     history.known_true(tried.answer.record == Some(given), "the record of the copy");
@@ -162,7 +162,7 @@ pub fn tried_disturbed(random: &mut Random, history: &mut History) {
 pub fn tried_crowded(random: &mut Random, history: &mut History) {
     let made = prepared_of(random, tables::wide_loops, |_, _| true);
     history.begin(&made.list, made.slots.max(2) - 1);
-    if history.start().record.is_none() {
+    if history.open(&[]).record.is_none() {
         history.known(CAPACITY_EXCEEDED, 0);
         return;
     }

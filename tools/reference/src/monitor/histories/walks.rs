@@ -104,19 +104,20 @@ pub fn prepared(random: &mut Random, want: impl Fn(&Terms, &Residuals) -> bool) 
     prepared_of(random, tables::any, want)
 }
 
-// Start and the events that lead to the state.
+// Open, in one go with the events that lead to the state or before these are fed.
 pub fn enter(history: &mut History, prepared: &Prepared) {
     history.begin(&prepared.list, prepared.slots);
-    history.start();
+    let at_once = prepared.events.len() % 2 == 1;
+    history.open(if at_once { &prepared.events } else { &[] });
     history.known(0, 0);
-    if !prepared.events.is_empty() {
+    if !at_once && !prepared.events.is_empty() {
         history.feed(&prepared.events);
     }
     let (taken, count) = (prepared.events.len() as u64, prepared.residuals.len() as u64);
     history.known_record(taken, count, prepared.peak, None);
 }
 
-fn slots_for(random: &mut Random, table: &Table) -> usize {
+pub fn slots_for(random: &mut Random, table: &Table) -> usize {
     let most = resolve_last(&Terms::of(table)).len();
     match random.below(8) {
         0 => 256,
@@ -130,7 +131,7 @@ fn walk(random: &mut Random, history: &mut History, table: &Table, calls: usize)
     let terms = Terms::of(table);
     let slots = slots_for(random, table);
     history.begin(&table.list(), slots);
-    if history.start().record.is_none() {
+    if history.open(&[]).record.is_none() {
         history.known(CAPACITY_EXCEEDED, 0);
         return;
     }
@@ -227,41 +228,54 @@ pub fn offers(random: &mut Random, history: &mut History) {
     history.view();
 }
 
-// Pieces, some refused; then the joined events at once on a fresh monitor.
+// An Open with a piece, and further pieces, some refused; then an Open on the joined events, lent
+// areas of the same length.
 pub fn pieces_and_at_once(random: &mut Random, history: &mut History) {
     let table = tables::any(random);
     let terms = Terms::of(&table);
     let slots = slots_for(random, &table);
     history.begin(&table.list(), slots);
-    if history.start().record.is_none() {
+    let first = piece(random, &terms, &resolve_last(&terms), slots);
+    let opened = history.open(&first);
+    if opened.record.is_none() {
         return;
     }
-    let mut joined = Vec::new();
-    for _ in 0..random.between(2, 6) {
+    let mut joined = taken_of(&first, opened.refusal);
+    for _ in 0..random.between(1, 5) {
         let residuals = residuals_of(&terms, history);
-        let count = random.between(0, 5);
-        let mut events = guided(random, &terms, &residuals, slots, count);
-        if random.once_in(6) {
-            let at = random.between(0, events.len());
-            events.insert(at, random.between(terms.alphabet as usize, 255) as u8);
-        }
+        let events = piece(random, &terms, &residuals, slots);
         let work_len = if random.once_in(10) { random.below(8_300) } else { WORK };
         let fed = history.feed_work(&events, work_len);
-        match fed.refusal {
-            None => joined.extend(events),
-            Some(Refusal { number: WRONG_LENGTH, .. }) => {}
-            Some(Refusal { place, .. }) => joined.extend(&events[..place]),
-        }
+        joined.extend(taken_of(&events, fed.refusal));
     }
     let (record, areas) = (history.record, history.areas());
     history.lend(16 * slots, 16 * slots, Fill::Junk);
-    history.start();
-    history.feed(&joined);
+    history.open(&joined);
     history.known(0, 0);
     let same = history.record == record && history.areas() == areas;
     history.known_true(same, "pieces and at once agree");
     history.offer();
     history.view();
+}
+
+// Up to five events from the state on, at times with one among them that is no event of the table.
+pub fn piece(random: &mut Random, terms: &Terms, residuals: &Residuals, slots: usize) -> Vec<u8> {
+    let count = random.between(0, 5);
+    let mut events = guided(random, terms, residuals, slots, count);
+    if random.once_in(6) {
+        let at = random.between(0, events.len());
+        events.insert(at, random.between(terms.alphabet as usize, 255) as u8);
+    }
+    events
+}
+
+// The events of a call that join: before its refusal; none of a call with a wrong length.
+pub fn taken_of(events: &[u8], refusal: Option<Refusal>) -> Vec<u8> {
+    match refusal {
+        None => events.to_vec(),
+        Some(Refusal { number: WRONG_LENGTH, .. }) => Vec::new(),
+        Some(Refusal { place, .. }) => events[..place].to_vec(),
+    }
 }
 
 // Events that the alphabet does not have, and what comes after them.
@@ -296,7 +310,7 @@ pub fn strange_events(random: &mut Random, history: &mut History) {
 
 // ---- more residuals than slots
 
-pub fn crowded_start(random: &mut Random, history: &mut History) {
+pub fn crowded_settling(random: &mut Random, history: &mut History) {
     let table = loop {
         let table = match random.below(2) {
             0 => tables::wide_loops(random),
@@ -315,14 +329,14 @@ pub fn crowded_start(random: &mut Random, history: &mut History) {
         history.set_record(Record { taken, count: 3, peak, failed: Some(1) });
     }
     let record = history.record;
-    history.start();
+    history.open(&[]);
     history.known(CAPACITY_EXCEEDED, 0);
     let zero = history.areas().iter().flatten().all(|&word| word == 0);
     history.known_true(zero && history.record == record, "both areas zero, no record");
     history.feed(&[0]);
     history.view();
     history.lend(16 * count, 16 * count, Fill::Kept);
-    history.start();
+    history.open(&[]);
     history.known_record(0, count as u64, count as u64, None);
     history.view();
     history.feed(&[random.below(table.alphabet as usize) as u8]);
@@ -354,7 +368,7 @@ pub fn crowded_midway(random: &mut Random, history: &mut History) {
             continue;
         }
         history.begin(&made.list, slots);
-        history.start();
+        history.open(&[]);
         let mut events = made.events.clone();
         events.push(*random.pick(&crowding));
         events.push(random.below(256) as u8);

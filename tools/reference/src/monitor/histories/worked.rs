@@ -16,7 +16,7 @@ use crate::worked::*;
 fn example(history: &mut History, example: Example) {
     let Example { list, slots, events, line } = example;
     history.begin(&list, slots);
-    if history.start().refusal.is_some() {
+    if history.open(&[]).refusal.is_some() {
         history.known_line(line);
         history.offer();
         history.view();
@@ -30,7 +30,7 @@ fn example(history: &mut History, example: Example) {
         return;
     }
     history.lend(16 * slots, 16 * slots, Fill::Junk);
-    history.start();
+    history.open(&[]);
     for event in &events {
         history.feed(&[*event]);
     }
@@ -51,7 +51,7 @@ pub fn worked_readings(history: &mut History) {
     }
     // a second call, after five events: the place counts the events of its call
     history.begin(&list_of(&[TABLE_B]), 1);
-    history.start();
+    history.open(&[]);
     history.feed(&[0, 1, 0, 1, 0]);
     history.known_record(5, 1, 1, None);
     history.feed(&[0, 9]);
@@ -59,7 +59,7 @@ pub fn worked_readings(history: &mut History) {
     history.known_record(6, 0, 1, Some(6));
     // K8 with one slot: crowded by 0, failed by 1, and 0 is offered all the same
     history.begin(&list_of(&K8), 1);
-    history.start();
+    history.open(&[]);
     let bits = history.offer();
     history.known_true(bits == [1, 0], "event 0 alone is offered");
     history.feed(&[0]);
@@ -83,7 +83,7 @@ pub fn worked_counter(history: &mut History) {
     let mut at =
         |taken: u64, events: &[u8], known: (u8, usize), after: (u64, u64, Option<u64>)| {
             history.begin(&table, 2);
-            history.start();
+            history.open(&[]);
             if taken % 2 == 1 {
                 history.feed(&[0]);
             }
@@ -109,12 +109,12 @@ pub fn worked_counter(history: &mut History) {
     at(LAST - 2, &[0, 0], (0, 0), (LAST, 0, Some(LAST - 1)));
     // 12 comes before 13: K8 with one slot
     history.begin(&list_of(&K8), 1);
-    history.start();
+    history.open(&[]);
     history.set_record(Record { taken: LAST - 1, ..history.record });
     history.feed(&[0]);
     history.known(13, 0);
     history.begin(&list_of(&K8), 1);
-    history.start();
+    history.open(&[]);
     let slot = history.lent(0).to_vec();
     history.set_words(0, 0, &[0; 16]);
     history.set_words(1, 0, &slot);
@@ -134,7 +134,7 @@ fn of(term: usize) -> u64 {
 pub fn worked_slots(history: &mut History) {
     let mut with = |slots: &[&[u64]], count: u64, known: u8| {
         history.begin(&list_of(&K8), 8);
-        history.start();
+        history.open(&[]);
         for (i, slot) in slots.iter().enumerate() {
             history.set_words(0, 16 * i, slot);
         }
@@ -207,7 +207,7 @@ pub fn worked_slots(history: &mut History) {
         ([3, of(0), of(7), of(8)], 0),
     ] {
         history.begin(&reach, 1);
-        history.start();
+        history.open(&[]);
         history.known_record(0, 1, 1, None);
         history.set_words(0, 0, &slot);
         history.feed(&[]);
@@ -221,7 +221,7 @@ pub fn worked_slots(history: &mut History) {
         [(&[TWO_SETS, "01 00 03 01 02 00 00"][..], 0), (&[TWO_SETS, "01 00 03 01 02 00 00"], 1)]
     {
         history.begin(&list_of(parts), 1);
-        history.start();
+        history.open(&[]);
         history.set_words(0, 1, &[of(term)]);
         history.feed(&[]);
         history.known(10, 0);
@@ -230,7 +230,7 @@ pub fn worked_slots(history: &mut History) {
         history.known_record(1, 1, 1, None);
     }
     history.begin(&list_of(&[TABLE_B]), 1);
-    history.start();
+    history.open(&[]);
     history.set_words(0, 1, &[of(2)]);
     history.feed(&[]);
     history.known(10, 0);
@@ -321,7 +321,7 @@ pub fn worked_lengths(history: &mut History) {
         for list in [&b[..], &[]] {
             history.table(list);
             history.lend(lengths[0], lengths[1], Fill::Junk);
-            history.start();
+            history.open(&[]);
             history.known(1, 0);
             history.feed(&[9]);
             history.known(1, 0);
@@ -332,9 +332,9 @@ pub fn worked_lengths(history: &mut History) {
     }
     for work_len in [0, 1, 16, 8_191, 8_193, 8_300] {
         history.begin(&b, 1);
-        history.start_work(work_len);
+        history.open_work(&[], work_len);
         history.known(1, 0);
-        history.start();
+        history.open(&[]);
         history.known_record(0, 1, 1, None);
         history.feed_work(&[0], work_len);
         history.known(1, 0);
@@ -345,7 +345,7 @@ pub fn worked_lengths(history: &mut History) {
     }
     for slots in [1, 2, 255, 256] {
         history.begin(&b, slots);
-        history.start();
+        history.open(&[]);
         history.known_record(0, 1, 1, None);
         history.feed(&[0, 1, 0]);
         history.known_record(3, 1, 1, None);
@@ -366,7 +366,7 @@ pub fn worked_events(history: &mut History) {
     ];
     for (alphabet, events, bits) in cases {
         history.begin(&repeating(alphabet, events).list(), 1);
-        history.start();
+        history.open(&[]);
         history.known_record(0, 1, 1, None);
         let offered = history.offer();
         history.known_true(offered == bits, "these events are offered");
@@ -387,7 +387,7 @@ pub fn worked_events(history: &mut History) {
     let sets = vec![Set::Plain(vec![63, 127])];
     let five = Table { alphabet: 128, sets, definitions: vec![definition(0, body)] };
     history.begin(&five.list(), 1);
-    history.start();
+    history.open(&[]);
     for (event, word) in [
         (127, (1 << 28) + (127 << 21)),
         (63, (2 << 28) + (63 << 21) + (127 << 14)),
@@ -418,7 +418,7 @@ pub fn worked_rows(history: &mut History) {
         let recalled = prefix(SetReference { set: 63, parameter: Some(0) }, Term::Call(0));
         let definitions = vec![definition(0, prefix(plain(0), recalled))];
         history.begin(&Table { alphabet, sets, definitions }.list(), 1);
-        history.start();
+        history.open(&[]);
         history.feed(&[last as u8]);
         let offered = history.offer();
         history.known_true(offered == bits, "the last row's events are offered");

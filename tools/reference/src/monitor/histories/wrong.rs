@@ -75,7 +75,7 @@ fn others(field: Field, given: u64) -> Vec<u64> {
 fn enter_lent(history: &mut History, slots: usize, list: &[u16], events: &[u8]) {
     let mut made = History::new();
     made.begin(list, slots);
-    made.start();
+    made.open(&[]);
     made.feed(events);
     history.table(list);
     history.lend(16 * slots, 16 * slots, Fill::Zeros);
@@ -102,27 +102,44 @@ fn disturb_peak(history: &mut History) {
 
 type Call = fn(&mut History);
 
-const CALLS: [Call; 35] = [
-    // Start: running, failed, a wrong length, a refused table, crowded
+const CALLS: [Call; 39] = [
+    // Open: running, failed, a wrong length, a refused table, crowded
     |history| {
         history.begin(&table_b(), 1);
-        history.start();
+        history.open(&[]);
     },
     |history| {
         history.begin(&list_of(&[TWO_SETS, "01 00 01"]), 1);
-        history.start();
+        history.open(&[]);
     },
     |history| {
         history.begin(&table_b(), 1);
-        history.start_work(WORK - 1);
+        history.open_work(&[], WORK - 1);
     },
     |history| {
         history.begin(&table_b()[..15], 1);
-        history.start();
+        history.open(&[]);
     },
     |history| {
         history.begin(&list_of(&K7), 1);
-        history.start();
+        history.open(&[]);
+    },
+    // with a list: running with a peak above the last count, failed, stopped: strange, crowded
+    |history| {
+        history.begin(&list_of(&K8), 2);
+        history.open(&[0, 0]);
+    },
+    |history| {
+        history.begin(&table_b(), 1);
+        history.open(&[0, 0, 1]);
+    },
+    |history| {
+        history.begin(&table_b(), 1);
+        history.open(&[0, 3]);
+    },
+    |history| {
+        history.begin(&list_of(&K8), 1);
+        history.open(&[0]);
     },
     // Feed: running, failed, each with a peak above the last count; a wrong length, a refused table,
     // disturbed, by the peak too, and stopped: strange, strange after failure, crowded

@@ -1,2 +1,0 @@
--- What Start's parts promise in terms of its definition. Assumes nothing.
-pub mod Starting
