@@ -26,7 +26,8 @@ use Rattle.residuals.specs.Residual.{run}
 use Rattle.residuals.specs.Residual.{fromDefinition, residualsOf}
 use Rattle.node_word.specs.Word.{digitBits, digitBound, pack, termOfWord, memoryOf}
 use Rattle.residuals.specs.Keep.{keep}
-use Rattle.residuals.specs.Slots.{nodes, slotOf, compareWords, insertSorted, canon, slotsOf}
+use Rattle.slots.specs.Canon.{compareWords, insertSorted, canon}
+use Rattle.residuals.specs.Slots.{nodes, slotOf, slotsOf}
 use Rattle.monitor_spec.specs.Valid.{joinTrees, plant, plantWord, forest, oneTree, slotResidual, held, digitFits}
 use Rattle.monitor_spec.specs.Valid.{memoryFits, memoriesFit, reachAt, reachSum, validSlot}
 use Rattle.monitor_spec.specs.State.{nextVerdict, freshState, stateAfter, areasMeasured, workMeasured, slotCount}

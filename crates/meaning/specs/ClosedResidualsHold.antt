@@ -9,8 +9,8 @@ use mathlib.Core.List.{List, [], _∷_, _++_, flatMap}
 use mathlib.Core.Logic.{_↔_, inl}
 use lib.Dec.{T}
 use Rattle.numbers.specs.Every.{All, all-imp, all-and, all-append}
-use Rattle.meaning.specs.Some.{Any, any-imp, any-all, any-out, any-append-left, any-append-right}
-use Rattle.meaning.specs.Some.{any-flat, flat-any, all-flat}
+use Rattle.numbers.specs.Some.{Any, any-imp, any-all, any-out, any-append-left, any-append-right}
+use Rattle.numbers.specs.Some.{any-flat, flat-any, all-flat}
 use Rattle.table.specs.Table.{Table}
 use Rattle.meaning.specs.Figure1.{SetRef, Term, stop, fail, prefix, choice, par, call, member, sub}
 use Rattle.meaning.specs.Figure1.{GuardedTable, WellFormed}

@@ -8,7 +8,6 @@ pub mod Closing
 pub mod FigureExamples
 pub mod Examples
 pub mod Claims
-pub mod Some
 pub mod Formed
 pub mod Holds
 pub mod Theorem3

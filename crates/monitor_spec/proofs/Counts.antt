@@ -8,9 +8,10 @@ use lib.ListN.{length}
 use Rattle.numbers.specs.Every.{All}
 use Rattle.table.specs.Table.{Table}
 use Rattle.residuals.specs.Residual.{Residual, residualsOf}
-use Rattle.residuals.specs.Slots.{Order, below, same, above, slotOf, compareWords, insertSorted, canon, slotsOf}
-use Rattle.residuals.specs.Slots.Comparison.{same-eq, cmp-refl, apart-same, apart-above}
-use Rattle.residuals.specs.Slots.Canonical.{In, in-canon, canon-members}
+use Rattle.slots.specs.Canon.{Order, below, same, above, compareWords, insertSorted, canon, In}
+use Rattle.residuals.specs.Slots.{slotOf, slotsOf}
+use Rattle.slots.specs.Canon.Comparison.{same-eq, cmp-refl, apart-same, apart-above}
+use Rattle.slots.specs.Canon.Canonical.{in-canon, canon-members}
 use Rattle.monitor_spec.specs.Regular.{Regular}
 use Rattle.monitor_spec.specs.Proper.{Proper}
 use Rattle.monitor_spec.specs.Proper.Laws.{residualsOf-proper}

@@ -14,7 +14,7 @@ use Rattle.monitor_spec.specs.Regular.Laws.{regular}
 use Rattle.monitor_spec.specs.Residual.Traces.{traces-run, traces-definition}
 use Rattle.residuals.specs.Residual.{Residual, residualsOf}
 use Rattle.residuals.specs.Residual.Counts.{residuals-few}
-use Rattle.residuals.specs.Slots.Canonical.{slots-few}
+use Rattle.residuals.specs.Slots.Laws.{slots-few}
 use Rattle.monitor_spec.specs.Valid.{slotResidual, validSlot}
 use Rattle.monitor_spec.specs.Proper.Laws.{resolve-reach}
 use Rattle.monitor_spec.specs.Valid.Laws.{valid-proper, proper-valid}

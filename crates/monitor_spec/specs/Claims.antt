@@ -43,7 +43,7 @@ use Rattle.table.specs.Rules.{Rules}
 use Rattle.table.specs.Judge.{accepted, judgeList}
 use Rattle.table.specs.Operations.{zeros}
 use Rattle.numbers.specs.Every.{All}
-use Rattle.meaning.specs.Some.{Any}
+use Rattle.numbers.specs.Some.{Any}
 use Rattle.meaning.specs.Figure1.{Term, call, bodyCount}
 use Rattle.meaning.specs.Figure2.{TraceSet, Model}
 use Rattle.residuals.specs.Residual.{Residual, resolve, run, fromDefinition, residualsOf}

@@ -9,7 +9,7 @@ use mathlib.Core.List.{List, [], _∷_}
 use lib.ListN.{drop}
 use lib.Dec.{eqb, ltb}
 use Rattle.table.specs.Table.{Table}
-use Rattle.residuals.specs.Slots.{compareWords}
+use Rattle.slots.specs.Canon.{compareWords}
 use Rattle.monitor_spec.specs.Valid.{validSlot, isBelow}
 use Rattle.monitor_spec.specs.State.{Verdict, running, failedAt, State, Monitor, slotCount, even, choose, chunks}
 pub mod Reading

@@ -10,7 +10,7 @@ use mathlib.Core.List.{List, [], _∷_}
 use mathlib.Core.Logic.{_↔_}
 use lib.ListN.{length}
 use Rattle.numbers.specs.Every.{All}
-use Rattle.meaning.specs.Some.{Any}
+use Rattle.numbers.specs.Some.{Any}
 use Rattle.residuals.specs.Residual.{Residual}
 
 abbrev pub Among : Residual → List Residual → Type 0

@@ -15,7 +15,8 @@ use Rattle.table.specs.Memory.{Memory}
 use Rattle.table.specs.Width.{reach}
 use Rattle.residuals.specs.Residual.{Residual, leaf, pair}
 use Rattle.node_word.specs.Word.{termOfWord, memoryOf}
-use Rattle.residuals.specs.Slots.{Order, below, same, above, slotOf, compareWords}
+use Rattle.slots.specs.Canon.{Order, below, same, above, compareWords}
+use Rattle.residuals.specs.Slots.{slotOf}
 pub mod Packing
 pub mod Laws
 pub mod Residuals

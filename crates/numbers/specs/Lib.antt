@@ -2,6 +2,7 @@
 -- are, a number at a position of some bytes, what is proved of these, worked examples. Assumes nothing.
 pub mod Choice
 pub mod Every
+pub mod Some
 pub mod Number
 pub mod Position
 pub mod Claims

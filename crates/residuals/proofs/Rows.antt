@@ -9,7 +9,8 @@ use Rattle.node_word.specs.Word.{digitBits, digitBound, pack}
 use Rattle.residuals.specs.Keep.{keep}
 use Rattle.residuals.specs.Residual.{pairs, resolveIn, resolveDef, resolve, afterLeaf, afterPair, after, afterAll, run}
 use Rattle.residuals.specs.Residual.{fromDefinition, residualsOf}
-use Rattle.residuals.specs.Slots.{nodes, slotOf, compareWords, insertSorted, canon, slotsOf}
+use Rattle.slots.specs.Canon.{compareWords, insertSorted, canon}
+use Rattle.residuals.specs.Slots.{nodes, slotOf, slotsOf}
 use Rattle.residuals.specs.Examples.{residualsAfter, RowsHold, CallForgets, SlotsAscend}
 
 pub rows-hold : RowsHold

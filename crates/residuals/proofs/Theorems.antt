@@ -2,7 +2,7 @@
 use Rattle.meaning.specs.Formed.{guarded-table}
 use Rattle.residuals.specs.Residual.Calls.{resolveDef-body, resolve-call}
 use Rattle.residuals.specs.Residual.Counts.{resolve-length}
-use Rattle.residuals.specs.Slots.Canonical.{slots-sorted, in-slots}
+use Rattle.residuals.specs.Slots.Laws.{slots-sorted, in-slots}
 use Rattle.residuals.specs.Claims.{CallsResolve, ResolvesBranches, SlotsOnce}
 
 pub calls-resolve : CallsResolve

@@ -15,9 +15,10 @@ use Rattle.table.specs.Memory.{Memory, noMemory}
 use Rattle.table.specs.References.{firstWrong}
 use Rattle.table.specs.Branches.{branches}
 use Rattle.meaning.specs.Figure1.{bodyCount}
-use Rattle.meaning.specs.Some.{Any}
+use Rattle.numbers.specs.Some.{Any}
+use Rattle.slots.specs.Canon.{Sorted}
 use Rattle.residuals.specs.Residual.{Residual, resolveDef, resolve}
-use Rattle.residuals.specs.Slots.{slotOf, slotsOf, Sorted}
+use Rattle.residuals.specs.Slots.{slotOf, slotsOf}
 
 -- 01, "Residuals": "call the settled body", "Memory is .. all 0 at a body's start": of a definition, of a call's term
 unfoldable pub CallsResolve : Type 0

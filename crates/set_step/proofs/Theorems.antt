@@ -13,7 +13,8 @@ use Rattle.meaning.specs.Figure1.{bodyCount}
 use Rattle.node_word.specs.Word.{digitBits, digitBound, pack, termOfWord, memoryOf}
 use Rattle.residuals.specs.Keep.{keep}
 use Rattle.residuals.specs.Residual.{pairs, resolveIn, resolveDef, resolve, afterLeaf, afterPair, after, afterAll}
-use Rattle.residuals.specs.Slots.{nodes, slotOf, compareWords, insertSorted, canon, slotsOf}
+use Rattle.slots.specs.Canon.{compareWords, insertSorted, canon}
+use Rattle.residuals.specs.Slots.{nodes, slotOf, slotsOf}
 use Rattle.resolving.specs.Words.{kindAt, holdsAt}
 use Rattle.resolving.specs.Residual.{nth}
 use Rattle.resolving.specs.Distinct.{sameWords}

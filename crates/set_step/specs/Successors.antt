@@ -2,8 +2,7 @@
 -- by event": `afterAll` of crate residuals).
 --     SlotsHold    the slots of an area, from the i-th on, are those of residuals
 --     allKept      the residuals after an event, of all, with each leaf's repeats dropped
--- The laws are in `Successors/`: `Room` (they fit a slot), `Ordered` (slots in their order) and `Laws` (what a step
--- comes to). Assumes nothing.
+-- The laws are in `Successors/`: `Room` (they fit a slot) and `Laws` (what a step comes to). Assumes nothing.
 use Prim.Native.Nat.{ℕ, _+_}
 use mathlib.Core.Path.{_≡_}
 use mathlib.Core.List.{List, [], _∷_, _++_}
@@ -13,7 +12,6 @@ use Rattle.residuals.specs.Slots.{nodes}
 use Rattle.tree_walk.specs.Forest.{Valid, afterKept}
 use Rattle.set_step.specs.Stepped.{slotNodes}
 pub mod Room
-pub mod Ordered
 pub mod Laws
 
 -- the slots of an area, from the i-th on, are those of residuals

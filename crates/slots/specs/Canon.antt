@@ -1,53 +1,70 @@
--- Slots put in their places in a list (01, "Residuals": "An area holds slots ascending by first differing word, then
--- zeros").
---     insertSlot, canonFrom     one slot in its place; several, one after the other: ascending, none twice
---     areaOf                    an area that holds slots
---     Slots                     lists of sixteen words
---     Mem, SameMembers          a slot is one of several; two lists have the same slots
--- The laws are in `Canon/Compare.antt` (the order of slots), `Canon/Sets.antt` (what comes out is ascending, and
--- depends on the members only), `Canon/Members.antt`, `Canon/Places.antt` and `Canon/Laws.antt` (areas). Assumes
--- nothing.
-use Prim.Native.Nat.{ℕ, _-_, _*_}
+-- Slots in their order (01, "Residuals": "An area holds slots ascending by first differing word, then zeros").
+--     Order, compareWords     the order "by first differing word"
+--     insertSorted, canon     one slot put in its place; a list of slots ascending, each once
+--     Precedes, Sorted        that order as a relation; strictly ascending
+--     areaOf                  an area that holds slots
+--     Slots                   lists of sixteen words
+--     In, SameMembers         a slot is one of several; two lists have the same slots
+-- The laws are in `Canon/`: `Comparison` (the order), `Canonical` (what comes out is ascending, and depends on the
+-- members only), `Members`, `Places` and `Laws` (areas). Assumes nothing.
+use Prim.Native.Nat.{ℕ, _-_, _*_, _<_}
 use mathlib.Core.Path.{_≡_}
-use mathlib.Core.Logic.{_⊎_}
+use mathlib.Core.Bool.{true, false}
 use mathlib.Core.List.{List, [], _∷_, _++_, flatten}
 use lib.ListN.{length, replicate}
-use Rattle.slots.specs.Slots.{Order, below, same, above, order}
-pub mod Compare
-pub mod Sets
+use lib.Dec.{ltb}
+use Rattle.numbers.specs.Every.{All}
+use Rattle.numbers.specs.Some.{Any}
+pub mod Comparison
+pub mod Canonical
 pub mod Members
 pub mod Places
 pub mod Laws
 
-abbrev pub byOrder : {A : Type 0} → Order → A → A → A → A
-byOrder below a b c = a
-byOrder same a b c = b
-byOrder above a b c = c
+pub data Order : Type 0 where
+  below same above : Order
 
--- "ascending by first differing word"; "A residual already held is not held twice"
-unfoldable pub insertSlot : List ℕ → List (List ℕ) → List (List ℕ)
-insertSlot s [] = s ∷ []
-insertSlot s (x ∷ xs) = byOrder (order 16 x 0 s 0) (s ∷ (x ∷ xs)) (x ∷ xs) (x ∷ insertSlot s xs)
+-- "ascending by first differing word"
+unfoldable pub compareWords : List ℕ → List ℕ → Order
+compareWords [] [] = same
+compareWords [] (y ∷ ys) = below
+compareWords (x ∷ xs) [] = above
+compareWords (x ∷ xs) (y ∷ ys) =
+    elim (ltb x y) [ true ↦ below | false ↦ elim (ltb y x) [ true ↦ above | false ↦ compareWords xs ys ] ]
 
-unfoldable pub canonFrom : List (List ℕ) → List (List ℕ) → List (List ℕ)
-canonFrom xs [] = xs
-canonFrom xs (s ∷ ss) = canonFrom (insertSlot s xs) ss
+-- "A residual already held is not held twice."
+unfoldable pub insertSorted : List ℕ → List (List ℕ) → List (List ℕ)
+insertSorted s [] = s ∷ []
+insertSorted s (x ∷ xs) = elim (compareWords s x) [ below ↦ s ∷ x ∷ xs | same ↦ x ∷ xs | above ↦ x ∷ insertSorted s xs ]
+
+-- "An area holds slots ascending"
+unfoldable pub canon : List (List ℕ) → List (List ℕ)
+canon [] = []
+canon (s ∷ ss) = insertSorted s (canon ss)
+
+-- "by first differing word"; ours: a list stands before a longer one that it begins (slots are all of 16 words)
+pub data Precedes : List ℕ → List ℕ → Type 0 where
+  differs : {x y : ℕ} {xs ys : List ℕ} → x < y → Precedes (x ∷ xs) (y ∷ ys)
+  agrees : {x y : ℕ} {xs ys : List ℕ} → x ≡ y → Precedes xs ys → Precedes (x ∷ xs) (y ∷ ys)
+  begins : {y : ℕ} {ys : List ℕ} → Precedes [] (y ∷ ys)
+
+abbrev pub Sorted : List (List ℕ) → Type 0
+Sorted [] = Unit
+Sorted (s ∷ ss) = All (Precedes s) ss × Sorted ss
 
 -- "An area holds slots ascending by first differing word, then zeros"
 unfoldable pub areaOf : ℕ → List (List ℕ) → List ℕ
 areaOf cap xs = flatten xs ++ replicate ((cap - length xs) * 16) 0
 
 abbrev pub Slots : List (List ℕ) → Type 0
-Slots [] = Unit
-Slots (x ∷ xs) = (length x ≡ 16) × Slots xs
+Slots = All (λ x. length x ≡ 16)
 
 -- ---- members
 
--- z is one of the slots of a list
-abbrev pub Mem : List ℕ → List (List ℕ) → Type 0
-Mem z [] = ⊥
-Mem z (x ∷ l) = (z ≡ x) ⊎ Mem z l
+-- a slot is one of a list's
+abbrev pub In : List ℕ → List (List ℕ) → Type 0
+In a l = Any (λ x. a ≡ x) l
 
 -- two lists have the same slots, in whatever order and however often
 abbrev pub SameMembers : List (List ℕ) → List (List ℕ) → Type 0
-SameMembers a b = ((z : List ℕ) → Mem z a → Mem z b) × ((z : List ℕ) → Mem z b → Mem z a)
+SameMembers a b = ((z : List ℕ) → In z a → In z b) × ((z : List ℕ) → In z b → In z a)

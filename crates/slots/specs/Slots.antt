@@ -1,5 +1,5 @@
 -- Slots of sixteen words in an area (01, "Residuals": "ascending by first differing word").
---     Order, order                  how a new slot stands to a held one, word by word
+--     order                         how a new slot stands to a held one, word by word
 --     seek                          the place of a slot among those held, from one of them on
 --     middleOf, halved, narrowed    from which one: by halving, the last looked at first
 --     placeIn                       the place by both
@@ -15,18 +15,14 @@ use mathlib.Core.Bool.{Bool, true, false, cond}
 use lib.ListN.{length, getD, take, drop}
 use lib.Seq.{slice, paste}
 use lib.Dec.{ltb}
+use Rattle.slots.specs.Canon.{Order, below, same, above}
 use Rattle.slots.specs.declared.slots.Inserted.{Inserted}
 use Rattle.slots.specs.declared.slots.Inserted.the-variants as ins
 use Rattle.slots.specs.declared.slots.Place.{Place}
 use Rattle.slots.specs.declared.slots.Place.the-variants.{Held, At}
 
--- how a new slot stands to a held one
-pub data Order : Type 0 where
-  below : Order
-  same : Order
-  above : Order
-
--- n words of the new slot from q on, against those of the area from p on
+-- n words of the new slot from q on, against those of the area from p on: `compareWords` of them (`order-is` of
+-- `Canon/Places.antt`)
 unfoldable pub order : ℕ → List ℕ → ℕ → List ℕ → ℕ → Order
 order zero a p b q = same
 order (suc n) a p b q =

@@ -8,7 +8,7 @@ ghost use Prim.Native.Nat.{_≤_};
 ghost use lib.ListN.{length, take, drop};
 ghost use Rattle.table_index.specs.Index.{tableIn, Indexed};
 ghost use Rattle.node_word.specs.Word.{memoryOf};
-ghost use Rattle.residuals.specs.Slots.{compareWords};
+ghost use Rattle.slots.specs.Canon.{compareWords};
 ghost use Rattle.monitor_spec.specs.Valid.{digitFits, memoryFits, isBelow, validSlot};
 ghost use Rattle.monitor_spec.specs.Consistent.{allZero};
 ghost use Rattle.state.specs.Walk.{Few, withLeaf, paired, isWhole};

@@ -3,7 +3,6 @@
 --     definition-holds, definition-exceeds      the residuals of a definition
 -- Assumes nothing.
 use Prim.Native.Nat.{ℕ, _*_, _≤_, _<_}
-use native.Mathlib.Omega.{arith}
 use mathlib.Core.Path.{_≡_, refl, sym, _∙_}
 use mathlib.Core.List.{List, []}
 use lib.ListN.{length, replicate}
@@ -20,10 +19,10 @@ use Rattle.monitor_spec.specs.Valid.{held}
 use Rattle.monitor_spec.specs.Valid.Residuals.{slots-after}
 use Rattle.slots.specs.declared.slots.Held.the-variants.{Count, Exceeded}
 use Rattle.slots.specs.Holding.{said, putAll}
-use Rattle.slots.specs.Canon.{canonFrom, areaOf, SameMembers}
+use Rattle.slots.specs.Canon.{canon, areaOf, SameMembers}
 use Rattle.slots.specs.Canon.Laws.{put-canon, put-exceeded-canon}
 use Rattle.set_step.specs.Stepped.{gathered, Source}
-use Rattle.set_step.specs.Successors.Laws.{no-slots, stepped, exceeded, canon-slots}
+use Rattle.set_step.specs.Successors.Laws.{no-slots, stepped, exceeded}
 use Rattle.set_step.specs.Successors.Room.{Within, sixteen-words}
 use Rattle.set_step.specs.Started.{initial}
 use Rattle.step_laws.specs.Areas.{held-length, holds-slots}
@@ -85,19 +84,19 @@ module _ (t : Table) (rules : Rules t) where
     first-short : All (Within 15) (resolveDef t (bodyCount t) d)
     first-short = definition-short t rules d known
 
-    first-slots : canonFrom [] (initial t d) ≡ slotsOf settled
-    first-slots = rw first-is (canon-slots (resolveDef t (bodyCount t) d) first-short)
+    first-slots : canon (initial t d) ≡ slotsOf settled
+    unfolding slotsOf
+    first-slots = rw first-is
 
     pub definition-holds : (cap : ℕ) → length (slotsOf settled) ≤ cap → putAll (fill cap []) 0 (initial t d)
         ≡ said (Count (length (slotsOf settled))) (fill cap (slotsOf settled))
     definition-holds cap h =
-        rw (← (area-fill cap []), ← first-slots, ← (area-fill cap (canonFrom [] (initial t d))))
-        (put-canon cap [] (initial t d) tt tt (sixteen-words (resolveDef t (bodyCount t) d) first-short)
-        (omega arith) (rw first-slots h))
+        rw (← (area-fill cap []), ← first-slots, ← (area-fill cap (canon (initial t d))))
+        (put-canon cap (initial t d) (sixteen-words (resolveDef t (bodyCount t) d) first-short) (rw first-slots h))
 
     pub definition-exceeds : (cap : ℕ) → cap < length (slotsOf settled)
         → (putAll (fill cap []) 0 (initial t d)) .held ≡ Exceeded
     definition-exceeds cap h =
         rw (← (area-fill cap []))
-        (put-exceeded-canon cap [] (initial t d) tt tt
-        (sixteen-words (resolveDef t (bodyCount t) d) first-short) (omega arith) (rw first-slots h))
+        (put-exceeded-canon cap (initial t d) (sixteen-words (resolveDef t (bodyCount t) d) first-short)
+        (rw first-slots h))

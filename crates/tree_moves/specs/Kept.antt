@@ -29,7 +29,7 @@ use Rattle.resolving.specs.Distinct.Laws.{same-true, kept-held, kept-new, kept-
 use Rattle.tree_walk.specs.Walk.{leafKept, leafResults, longest}
 use Rattle.tree_walk.specs.Walk.Leaves.{results-yes, kept-yes, kept-not-kind, kept-not-held, nodes-short}
 use Rattle.tree_walk.specs.Course.Turns.{head-is, tail-is}
-use Rattle.slots.specs.Canon.{Mem, SameMembers}
+use Rattle.slots.specs.Canon.{In, SameMembers}
 
 -- ---- a slot's words are known from the slot
 
@@ -113,7 +113,7 @@ covers f (suc c) i h = covers-by f c i _ refl h (covers f c i) (ℕ-discrete i c
 
 -- ---- members by index
 
-pub mem-nth : (l : List Residual) (i : ℕ) → i < length l → Mem (nodes (nth l i)) (map nodes l)
+pub mem-nth : (l : List Residual) (i : ℕ) → i < length l → In (nodes (nth l i)) (map nodes l)
 unfolding nth
 mem-nth [] i h = absurd (omega arith)
 mem-nth (r ∷ l) zero h = inl refl
@@ -124,7 +124,7 @@ pub record At (l : List Residual) (z : List ℕ) : Type 0 where
   pub inside : i < length l
   pub is : z ≡ nodes (nth l i)
 
-mem-at : (l : List Residual) (z : List ℕ) → Mem z (map nodes l) → At l z
+mem-at : (l : List Residual) (z : List ℕ) → In z (map nodes l) → At l z
 unfolding nth
 mem-at [] z m = absurd m
 mem-at (r ∷ l) z (inl e) = record { i = 0; inside = omega arith; is = e }
@@ -132,13 +132,13 @@ mem-at (r ∷ l) z (inr m) =
     let a = mem-at l z m in record { i = suc (a .i); inside = omega (arith, a .inside); is = a .is }
 
 mem-pick : (s : List Residual) (ks : List ℕ) (j : ℕ) → j < length ks
-    → Mem (nodes (nth s (getD ks j 0))) (map nodes (map (nth s) ks))
+    → In (nodes (nth s (getD ks j 0))) (map nodes (map (nth s) ks))
 mem-pick s [] j h = absurd (omega arith)
 mem-pick s (k ∷ ks) zero h = inl refl
 mem-pick s (k ∷ ks) (suc j) h = inr (mem-pick s ks j (omega arith))
 
-pick-at : (s : List Residual) (ks : List ℕ) (n : ℕ) (z : List ℕ) → Indices ks n → Mem z (map nodes (map (nth s) ks))
-    → n ≡ length s → Mem z (map nodes s)
+pick-at : (s : List Residual) (ks : List ℕ) (n : ℕ) (z : List ℕ) → Indices ks n → In z (map nodes (map (nth s) ks))
+    → n ≡ length s → In z (map nodes s)
 pick-at s [] n z v m en = absurd m
 pick-at s (k ∷ ks) n z v (inl e) en = rw e (mem-nth s k (omega (arith, v .at 0 (omega arith))))
 pick-at s (k ∷ ks) n z v (inr m) en = pick-at s ks n z (record { at = λ j h. v .at (suc j) (omega arith) }) m en
@@ -171,8 +171,8 @@ module _ (t : Table) (e w : ℕ) (short : longest (map nodes (leafResults t e w)
     back,
   )
     where
-      back : (z : List ℕ) → Mem z (map nodes (leafResults t e w))
-          → Mem z (map nodes
+      back : (z : List ℕ) → In z (map nodes (leafResults t e w))
+          → In z (map nodes
           (map (nth (resolve t (termOfWord w + 1) (remember e (memoryOf w)))) (leafKept t e w)))
       back z m =
           let a = mem-at (follower t e w) z (rw er at m) in

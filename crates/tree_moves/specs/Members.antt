@@ -22,9 +22,9 @@ use Rattle.resolving.specs.Residual.After.{after-both, after-either}
 use Rattle.tree_walk.specs.Walk.{leafKept, leafResults, joins, before, longest, room}
 use Rattle.tree_walk.specs.Forest.{Valid, afterKept}
 use Rattle.tree_walk.specs.Forest.Words.{nodes-pairs}
-use Rattle.slots.specs.Canon.{Mem, SameMembers}
-use Rattle.slots.specs.Canon.Members.{Sub, in-left, in-right, out-append, map-in, map-out, sub-map, same-refl}
-use Rattle.slots.specs.Canon.Members.{same-append}
+use Rattle.numbers.specs.Some.{any-append-left, any-append-right, any-append-cases}
+use Rattle.slots.specs.Canon.{In, SameMembers}
+use Rattle.slots.specs.Canon.Members.{Sub, map-in, map-out, sub-map, same-refl, same-append}
 use Rattle.tree_moves.specs.Kept.{follower, leaf-both}
 
 -- ---- products and unions
@@ -33,12 +33,13 @@ sub-before : (w : ℕ) (a b : List (List ℕ)) → Sub a b → Sub (before w a) 
 unfolding before
 sub-before w a b f = sub-map (λ c. w ∷ c) a b f
 
-joins-in : (x y : List ℕ) (a b : List (List ℕ)) → Mem x a → Mem y b → Mem (x ++ y) (joins a b)
+joins-in : (x y : List ℕ) (a b : List (List ℕ)) → In x a → In y b → In (x ++ y) (joins a b)
 unfolding joins
 joins-in x y [] b m n = absurd m
 joins-in x y (o ∷ a) b (inl e) n =
-    in-left (x ++ y) (map (λ c. o ++ c) b) (joins a b) (rw e (map-in (λ c. o ++ c) b y n))
-joins-in x y (o ∷ a) b (inr m) n = in-right (x ++ y) (map (λ c. o ++ c) b) (joins a b) (joins-in x y a b m n)
+    any-append-left (λ z. x ++ y ≡ z) (map (λ c. o ++ c) b) (joins a b) (rw e (map-in (λ c. o ++ c) b y n))
+joins-in x y (o ∷ a) b (inr m) n =
+    any-append-right (λ z. x ++ y ≡ z) (map (λ c. o ++ c) b) (joins a b) (joins-in x y a b m n)
 
 sub-joins : (a a' b b' : List (List ℕ)) → Sub a a' → Sub b b' → Sub (joins a b) (joins a' b')
 unfolding joins
@@ -48,7 +49,7 @@ sub-joins (o ∷ a) a' b b' f g z m =
     (λ n. let i = map-out (λ c. o ++ c) b z n in rw (i .is)
     (joins-in o (i .x) a' b' (f o (inl refl)) (g (i .x) (i .member))))
     (λ n. sub-joins a a' b b' (λ y k. f y (inr k)) g z n)
-    (out-append z (map (λ c. o ++ c) b) (joins a b) m)
+    (any-append-cases (λ x. z ≡ x) (map (λ c. o ++ c) b) (joins a b) m)
 
 -- ---- a tree
 

@@ -27,7 +27,8 @@ use Rattle.residuals.specs.Residual.{run}
 use Rattle.residuals.specs.Residual.{fromDefinition, residualsOf}
 use Rattle.node_word.specs.Word.{digitBits, digitBound, pack, termOfWord, memoryOf}
 use Rattle.residuals.specs.Keep.{keep}
-use Rattle.residuals.specs.Slots.{nodes, slotOf, compareWords, insertSorted, canon}
+use Rattle.slots.specs.Canon.{compareWords, insertSorted, canon}
+use Rattle.residuals.specs.Slots.{nodes, slotOf}
 use Rattle.residuals.specs.Slots.{slotsOf}
 use Rattle.monitor_spec.specs.Valid.{joinTrees, plant, plantWord, forest, oneTree, slotResidual, held, digitFits}
 use Rattle.monitor_spec.specs.Valid.{memoryFits, memoriesFit, reachAt, reachSum, validSlot}

@@ -9,8 +9,8 @@ use native.Mathlib.Omega.{arith}
 use mathlib.Core.List.{List, [], _∷_, map}
 use mathlib.Core.Logic.{inl}
 use Rattle.numbers.specs.Every.{All, all-imp, all-append}
-use Rattle.meaning.specs.Some.{Any, any-imp, any-append-left, any-append-right, any-map, any-flat, all-map}
-use Rattle.meaning.specs.Some.{all-flat}
+use Rattle.numbers.specs.Some.{Any, any-imp, any-append-left, any-append-right, any-map, any-flat, all-map}
+use Rattle.numbers.specs.Some.{all-flat}
 use Rattle.table.specs.Table.{Table}
 use Rattle.meaning.specs.Figure1.{SetRef, Term, stop, fail, prefix, choice, par, call, body}
 use Rattle.meaning.specs.Figure1.{Guarded, GuardedTable, WellFormed, bodyCount}

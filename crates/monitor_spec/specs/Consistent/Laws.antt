@@ -10,7 +10,8 @@ use borrow.Author.Tests.{ltb-false, leb-false}
 use Rattle.table.specs.Table.{Table}
 use Rattle.monitor_spec.specs.Regular.{Regular}
 use Rattle.residuals.specs.Residual.{Residual, afterAll}
-use Rattle.residuals.specs.Slots.{same, slotsOf}
+use Rattle.slots.specs.Canon.{same}
+use Rattle.residuals.specs.Slots.{slotsOf}
 use Rattle.monitor_spec.specs.Proper.Laws.{afterAll-proper}
 use Rattle.monitor_spec.specs.Fold.{Step, went, stops, Ended, through}
 use Rattle.monitor_spec.specs.Fold.Laws.{through-went, through-stops}

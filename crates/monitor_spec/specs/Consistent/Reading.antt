@@ -12,9 +12,10 @@ use Rattle.table.specs.Table.{Table}
 use Rattle.numbers.specs.Every.{All, all-imp}
 use Rattle.monitor_spec.specs.Regular.{Regular}
 use Rattle.residuals.specs.Residual.{Residual}
-use Rattle.residuals.specs.Slots.{Order, below, same, above, slotOf, compareWords, canon, slotsOf}
-use Rattle.residuals.specs.Slots.Comparison.{Less, less-trans}
-use Rattle.residuals.specs.Slots.Canonical.{in-canon, Ascending, canon-ascending, ascending-unique}
+use Rattle.slots.specs.Canon.{Order, below, same, above, compareWords, canon}
+use Rattle.residuals.specs.Slots.{slotOf, slotsOf}
+use Rattle.slots.specs.Canon.Comparison.{Less, less-trans}
+use Rattle.slots.specs.Canon.Canonical.{in-canon, Ascending, canon-ascending, ascending-unique}
 use Rattle.monitor_spec.specs.Valid.{held, isBelow, validSlot}
 use Rattle.monitor_spec.specs.Proper.{Proper}
 use Rattle.monitor_spec.specs.Valid.Residuals.{held-some}

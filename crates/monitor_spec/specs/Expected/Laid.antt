@@ -13,7 +13,7 @@ use Rattle.numbers.specs.Every.{All}
 use Rattle.monitor_spec.specs.Regular.{Regular}
 use Rattle.residuals.specs.Residual.{Residual, afterAll}
 use Rattle.residuals.specs.Slots.{slotsOf}
-use Rattle.residuals.specs.Slots.Canonical.{Ascending, canon-ascending}
+use Rattle.slots.specs.Canon.Canonical.{Ascending, canon-ascending}
 use Rattle.monitor_spec.specs.Valid.{held, isBelow, validSlot}
 use Rattle.monitor_spec.specs.Valid.Residuals.{slot-sixteen, slots-all, slots-after}
 use Rattle.monitor_spec.specs.Valid.Laws.{proper-valid}

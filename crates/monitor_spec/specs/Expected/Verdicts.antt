@@ -9,7 +9,8 @@ use Rattle.table.specs.Table.{Table}
 use Rattle.meaning.specs.Figure1.{bodyCount}
 use Rattle.residuals.specs.Residual.{Residual, resolveDef, afterAll, run, fromDefinition, residualsOf}
 use Rattle.monitor_spec.specs.Meaning.{Some}
-use Rattle.residuals.specs.Slots.{Order, below, same, above, compareWords, slotOf, insertSorted, canon}
+use Rattle.slots.specs.Canon.{Order, below, same, above, compareWords, insertSorted, canon}
+use Rattle.residuals.specs.Slots.{slotOf}
 use Rattle.residuals.specs.Slots.{slotsOf}
 use Rattle.monitor_spec.specs.State.{Verdict, running, failedAt, nextVerdict}
 use Rattle.monitor_spec.specs.State.Records.{next-some, next-none, next-failed}

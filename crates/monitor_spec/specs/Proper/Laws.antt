@@ -12,7 +12,7 @@ use Rattle.table.specs.Table.{enclosing}
 use Rattle.meaning.specs.Figure1.{bodyCount, last}
 use Rattle.table.specs.Member.{member}
 use Rattle.numbers.specs.Every.{All, all-imp, all-append, all-and}
-use Rattle.meaning.specs.Some.{all-map, all-flat}
+use Rattle.numbers.specs.Some.{all-map, all-flat}
 use Rattle.table.specs.Part.{Stands}
 use Rattle.table.specs.Part.Numbers.{follower-stands, choice-left-stands, choice-right-stands}
 use Rattle.table.specs.Part.Numbers.{par-left-stands, par-right-stands, at-number, number-at}

@@ -10,7 +10,7 @@ use Rattle.meaning.specs.Figure1.{SetRef, Term, stop, fail, prefix, choice, par
 use Rattle.meaning.specs.Figure1 as F
 use Rattle.table.specs.Member.{member}
 use Rattle.numbers.specs.Every.{All, all-imp, all-append}
-use Rattle.meaning.specs.Some.{all-flat}
+use Rattle.numbers.specs.Some.{all-flat}
 use Rattle.meaning.specs.ClosedResiduals as C
 use Rattle.table.specs.Part.{Stands}
 use Rattle.table.specs.Part.Numbers.{follower-stands, at-number, number-at}

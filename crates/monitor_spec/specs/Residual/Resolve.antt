@@ -10,7 +10,7 @@ use Rattle.table.specs.Table
 use Rattle.table.specs.Table.{Table, termAt, bodyOf, bodyNumber, size}
 use Rattle.meaning.specs.Figure1.{SetRef, Term, stop, fail, prefix, choice, par, call, bodyCount, body, plain}
 use Rattle.numbers.specs.Every.{All, all-imp, all-append}
-use Rattle.meaning.specs.Some.{all-map, all-flat}
+use Rattle.numbers.specs.Some.{all-map, all-flat}
 use Rattle.meaning.specs.ClosedResiduals as C
 use Rattle.table.specs.Part.{Part, here, follower, choice-left, choice-right, par-left, par-right, Stands}
 use Rattle.table.specs.Part.Numbers.{choice-left-stands, choice-right-stands, par-left-stands}

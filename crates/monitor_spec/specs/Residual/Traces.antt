@@ -15,7 +15,7 @@ use Rattle.meaning.specs.Figure2.{TraceSet, Model}
 use Rattle.meaning.specs.Holds.{Holds}
 use Rattle.meaning.specs.Models.{holds-only}
 use Rattle.numbers.specs.Every.{All, all-imp}
-use Rattle.meaning.specs.Some.{any-unmap, Any, any-all, any-map, all-map}
+use Rattle.numbers.specs.Some.{any-unmap, Any, any-all, any-map, all-map}
 use Rattle.meaning.specs.ClosedResiduals as C
 use Rattle.meaning.specs.ClosedResidualsHold.{Ready, Has, run-holds, residuals-hold}
 use Rattle.table.specs.Part.Numbers.{number-at}

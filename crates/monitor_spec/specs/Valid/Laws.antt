@@ -16,8 +16,9 @@ use Rattle.monitor_spec.specs.Regular.{Regular}
 use Rattle.residuals.specs.Residual.{Residual, leaf, pair}
 use Rattle.monitor_spec.specs.Meaning.{Sound}
 use Rattle.node_word.specs.Word.{termOfWord, memoryOf}
-use Rattle.residuals.specs.Slots.{Order, below, same, above, slotOf, compareWords}
-use Rattle.residuals.specs.Slots.Comparison.{cmp-refl, same-eq}
+use Rattle.slots.specs.Canon.{Order, below, same, above, compareWords}
+use Rattle.residuals.specs.Slots.{slotOf}
+use Rattle.slots.specs.Canon.Comparison.{cmp-refl, same-eq}
 use Rattle.monitor_spec.specs.Valid.{joinTrees, plant, plantWord, forest, oneTree, slotResidual, digitFits}
 use Rattle.monitor_spec.specs.Valid.{memoryFits, memoriesFit, reachSum, isSame, validSlot}
 use Rattle.monitor_spec.specs.Proper.{Remembers, Fits, Proper}

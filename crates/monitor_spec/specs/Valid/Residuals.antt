@@ -9,14 +9,15 @@ use mathlib.Core.Logic.{_↔_, inl, inr, ⊎-elim}
 use lib.ListN.{length, replicate, length-append, length-replicate}
 use Rattle.table.specs.Table.{Table, enclosing}
 use Rattle.numbers.specs.Every.{All, all-imp}
-use Rattle.meaning.specs.Some.{Any, any-all, any-map, any-flat, flat-any, all-map}
+use Rattle.numbers.specs.Some.{Any, any-all, any-map, any-flat, flat-any, all-map}
 use Rattle.table.specs.Memory.{Memory, digit}
 use Rattle.monitor_spec.specs.Regular.{Regular}
 use Rattle.node_word.specs.Word.{Digits}
 use Rattle.node_word.specs.Word.Laws.{events-fit}
 use Rattle.residuals.specs.Residual.{Residual, leaf, pair, after, afterAll}
-use Rattle.residuals.specs.Slots.{nodes, slotOf, canon, slotsOf}
-use Rattle.residuals.specs.Slots.Canonical.{In, in-canon, of-all, all-of, canon-members}
+use Rattle.slots.specs.Canon.{canon, In}
+use Rattle.residuals.specs.Slots.{nodes, slotOf, slotsOf}
+use Rattle.slots.specs.Canon.Canonical.{in-canon, of-all, all-of, canon-members}
 use Rattle.monitor_spec.specs.Valid.{slotResidual, held}
 use Rattle.monitor_spec.specs.Proper.{Remembers, Fits, Proper}
 use Rattle.monitor_spec.specs.Proper.Nodes.{nodes-most}

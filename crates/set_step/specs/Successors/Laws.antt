@@ -11,12 +11,12 @@ use lib.ListN.{length, replicate}
 use Rattle.numbers.specs.Every.{All, all-imp, all-append}
 use Rattle.table.specs.Table.{Table}
 use Rattle.residuals.specs.Residual.{Residual, after, afterAll}
-use Rattle.residuals.specs.Slots.{nodes, slotOf, slotsOf}
+use Rattle.residuals.specs.Slots.{nodes, slotsOf}
 use Rattle.slots.specs.declared.slots.Held.the-variants.{Count, Exceeded}
 use Rattle.slots.specs.Holding.{said, putAll}
-use Rattle.slots.specs.Canon.{canonFrom, areaOf, Slots, SameMembers}
+use Rattle.slots.specs.Canon.{canon, areaOf, Slots, SameMembers}
 use Rattle.slots.specs.Canon.Laws.{put-canon, put-exceeded-canon}
-use Rattle.slots.specs.Canon.Sets.{canon-members}
+use Rattle.slots.specs.Canon.Canonical.{canon-members}
 use Rattle.slots.specs.Canon.Members.{sub-map, slots-in}
 use Rattle.resolving.specs.Residual.{pushAll}
 use Rattle.resolving.specs.Distinct.{empty}
@@ -27,8 +27,7 @@ use Rattle.tree_walk.specs.Forest.Results.{results-moved}
 use Rattle.tree_moves.specs.Members.{Short, short-of, same-after, append-both}
 use Rattle.set_step.specs.Stepped.{gathered, SoundSlot, Source}
 use Rattle.set_step.specs.Successors.{SlotsHold, allKept}
-use Rattle.set_step.specs.Successors.Room.{Within, after-room, slots-written, all-sixteen, sixteen-words}
-use Rattle.set_step.specs.Successors.Ordered.{canonFrom-same}
+use Rattle.set_step.specs.Successors.Room.{Within, after-room, slots-written, all-sixteen}
 
 joins-unit : (a : List (List ℕ)) → joins a ([] ∷ []) ≡ a
 unfolding joins
@@ -72,12 +71,11 @@ same-all t e src i (r ∷ rs) h s =
     (same-all t e src (i + 1) rs (h .2) (s .1))
 
 canon-same : (t : Table) (e : ℕ) (src : List ℕ) (rs : List Residual) → SlotsHold t src 0 rs → AllShort t e rs
-    → canonFrom [] (onto empty (map nodes (allKept t e rs))) ≡ canonFrom [] (onto empty (map nodes (afterAll t e rs)))
+    → canon (onto empty (map nodes (allKept t e rs))) ≡ canon (onto empty (map nodes (afterAll t e rs)))
 unfolding onto
 canon-same t e src rs h s =
     let b = same-all t e src 0 rs h s in
     canon-members (onto empty (map nodes (allKept t e rs))) (onto empty (map nodes (afterAll t e rs)))
-    (all-sixteen (map nodes (allKept t e rs))) (all-sixteen (map nodes (afterAll t e rs)))
     (sub-map (λ c. pushAll empty c) (map nodes (allKept t e rs)) (map nodes (afterAll t e rs)) (b .0))
     (sub-map (λ c. pushAll empty c) (map nodes (afterAll t e rs)) (map nodes (allKept t e rs)) (b .1))
 
@@ -107,10 +105,6 @@ module _ (t : Table) (e : ℕ) (src : List ℕ) where
 
 -- ---- the slots of residuals, put in their places
 
-pub canon-slots : (rs : List Residual) → All (Within 15) rs → canonFrom [] (map slotOf rs) ≡ slotsOf rs
-unfolding slotsOf
-canon-slots rs h = canonFrom-same (map slotOf rs) (sixteen-words rs h)
-
 module _ (t : Table) (e : ℕ) (src : List ℕ) (rs : List Residual) (h : SlotsHold t src 0 rs)
     (source : Source t e src (length rs)) (most : ℕ) where
   sound : (j : ℕ) → 0 ≤ j → j < 0 + length rs → SoundSlot t e src j
@@ -124,21 +118,20 @@ module _ (t : Table) (e : ℕ) (src : List ℕ) (rs : List Residual) (h : SlotsH
     slots = slots-in xs (onto empty (map nodes (allKept t e rs))) (all-sixteen (map nodes (allKept t e rs)))
         (members .0)
 
-    canon-is : canonFrom [] xs ≡ slotsOf (afterAll t e rs)
+    canon-is : canon xs ≡ slotsOf (afterAll t e rs)
+    unfolding slotsOf
     canon-is =
-        let fit = all-fit t e src 0 rs h sound in
-        canon-members xs (onto empty (map nodes (allKept t e rs))) slots (all-sixteen (map nodes (allKept t e rs)))
-        (members .0) (members .1)
+        canon-members xs (onto empty (map nodes (allKept t e rs))) (members .0) (members .1)
         ∙ canon-same t e src rs h (all-short t e src 0 rs h sound)
-        ∙ ap (canonFrom []) (slots-written (afterAll t e rs) fit) ∙ canon-slots (afterAll t e rs) fit
+        ∙ ap canon (slots-written (afterAll t e rs) (all-fit t e src 0 rs h sound))
 
     pub stepped : length (slotsOf (afterAll t e rs)) ≤ most
         → putAll (replicate (most * 16) 0) 0 xs
         ≡ said (Count (length (slotsOf (afterAll t e rs)))) (areaOf most (slotsOf (afterAll t e rs)))
     stepped k =
         rw (← (no-slots most), ← canon-is)
-        (put-canon most [] xs tt tt slots (omega arith) (rw canon-is k))
+        (put-canon most xs slots (rw canon-is k))
 
     pub exceeded : most < length (slotsOf (afterAll t e rs)) → (putAll (replicate (most * 16) 0) 0 xs) .held ≡ Exceeded
     exceeded k =
-        rw (← (no-slots most)) (put-exceeded-canon most [] xs tt tt slots (omega arith) (rw canon-is k))
+        rw (← (no-slots most)) (put-exceeded-canon most xs slots (rw canon-is k))

@@ -2,27 +2,28 @@
 --     put-slot                          holding one: what is held, or that there is no room
 --     put-canon, put-exceeded-canon     holding several: what is held, and when there is no room
 -- Assumes nothing.
-use Prim.Native.Nat.{ℕ, suc, _+_, _-_, _*_, _<_, _≤_}
+use Prim.Native.Nat.{ℕ, _+_, _-_, _*_, _<_, _≤_}
 use native.Mathlib.Omega.{arith}
 use native.Mathlib.Decide.{decLt}
 use mathlib.Core.Path.{_≡_, refl, ap, sym, _∙_}
 use mathlib.Core.Bool.{true, false}
-use mathlib.Core.List.{List, [], _∷_, _++_, append-assoc, flatten}
+use mathlib.Core.List.{List, [], _∷_, _++_, append-assoc, append-nil, flatten}
 use lib.ListN.{length, take, drop, replicate, length-append, length-replicate}
 use lib.ListN.{replicate-append-replicate}
 use lib.Seq.{length-take-le, take-take, drop-drop, take-at, drop-at, take-append-le, take-all}
 use lib.Dec.{ltb}
 use borrow.Author.Tests.{lt-ltb, le-ltb}
-use Rattle.slots.specs.Slots.{Order, below, same, above, order, placeIn, gapped, stored, insertAnswer}
-use Rattle.slots.specs.Slots.{insertWords}
+use Rattle.numbers.specs.Every.{all-append}
+use Rattle.slots.specs.Slots.{placeIn, gapped, stored, insertAnswer, insertWords}
 use Rattle.slots.specs.declared.slots.Place.{Place}
 use Rattle.slots.specs.declared.slots.Place.the-variants as place
 use Rattle.slots.specs.declared.slots.Inserted.the-variants as ins
 use Rattle.slots.specs.declared.slots.Held.{Held}
 use Rattle.slots.specs.declared.slots.Held.the-variants.{Count, Exceeded}
 use Rattle.slots.specs.Holding.{Outcome, said, putOne, chain, putAll}
-use Rattle.slots.specs.Canon.{byOrder, insertSlot, canonFrom, areaOf, Slots}
-use Rattle.slots.specs.Canon.Sets.{Sorted, insert-slots, insert-sorted}
+use Rattle.slots.specs.Canon.{insertSorted, canon, areaOf, Slots}
+use Rattle.slots.specs.Canon.Canonical.{Ascending, in-canon, canon-ascending, canon-snoc, canon-grows}
+use Rattle.slots.specs.Canon.Members.{slots-in}
 use Rattle.slots.specs.Canon.Places.{placeAmong, place-in, Split, split-place, held-same}
 
 -- ---- the words of an area
@@ -105,7 +106,7 @@ module _ (a b s : List ℕ) (z p n : ℕ) (ep : length a ≡ p) (en : length a +
 
 -- ---- one slot
 
-module _ (most : ℕ) (xs : List (List ℕ)) (s : List ℕ) (v : Slots xs) (u : Sorted xs) (es : length s ≡ 16)
+module _ (most : ℕ) (xs : List (List ℕ)) (s : List ℕ) (v : Slots xs) (u : Ascending xs) (es : length s ≡ 16)
     (h : length xs ≤ most) where
   there : placeIn (length xs) (areaOf most xs) s ≡ placeAmong xs s 0
   unfolding areaOf
@@ -121,7 +122,7 @@ module _ (most : ℕ) (xs : List (List ℕ)) (s : List ℕ) (v : Slots xs) (u : 
     lengths : length xs ≡ length (d .a) + length (d .b)
     lengths = ap length (d .whole) ∙ length-append (d .a) (d .b)
 
-    longer : length (insertSlot s xs) ≡ length xs + 1
+    longer : length (insertSorted s xs) ≡ length xs + 1
     longer = ap length (d .put) ∙ length-append (d .a) (s ∷ d .b) ∙ omega (arith, lengths)
 
     module _ (w : length xs < most) where
@@ -135,19 +136,19 @@ module _ (most : ℕ) (xs : List (List ℕ)) (s : List ℕ) (v : Slots xs) (u : 
           (ap flatten (d .whole) ∙ flatten-append (d .a) (d .b))
           ∙ append-assoc (flatten (d .a)) (flatten (d .b)) _
 
-      area-after : areaOf most (insertSlot s xs)
+      area-after : areaOf most (insertSorted s xs)
           ≡ flatten (d .a) ++ (s ++ (flatten (d .b) ++ replicate ((most - length xs - 1) * 16) 0))
       unfolding areaOf flatten
       area-after =
-          let z : (most - length (insertSlot s xs)) * 16 ≡ (most - length xs - 1) * 16 = omega (arith, longer) in
-          ap (λ (k : ℕ). flatten (insertSlot s xs) ++ replicate k 0) z
+          let z : (most - length (insertSorted s xs)) * 16 ≡ (most - length xs - 1) * 16 = omega (arith, longer) in
+          ap (λ (k : ℕ). flatten (insertSorted s xs) ++ replicate k 0) z
           ∙ ap (λ (l : List ℕ). l ++ replicate ((most - length xs - 1) * 16) 0)
           (ap flatten (d .put) ∙ flatten-append (d .a) (s ∷ d .b))
           ∙ append-assoc (flatten (d .a)) (s ++ flatten (d .b)) _
           ∙ ap (λ (l : List ℕ). flatten (d .a) ++ l) (append-assoc s (flatten (d .b)) _)
 
       inserted : stored (gapped (areaOf most xs) (i * 16) (length xs * 16)) (i * 16) s 16
-          ≡ areaOf most (insertSlot s xs)
+          ≡ areaOf most (insertSorted s xs)
       inserted =
           ap (λ (l : List ℕ). stored (gapped l (i * 16) (length xs * 16)) (i * 16) s 16) area-before
           ∙ opened (flatten (d .a)) (flatten (d .b)) s ((most - length xs - 1) * 16) (i * 16) (length xs * 16)
@@ -156,7 +157,7 @@ module _ (most : ℕ) (xs : List (List ℕ)) (s : List ℕ) (v : Slots xs) (u : 
           ∙ sym area-after
 
       put-new-slot : putOne (areaOf most xs) (length xs) s
-          ≡ said (Count (length (insertSlot s xs))) (areaOf most (insertSlot s xs))
+          ≡ said (Count (length (insertSorted s xs))) (areaOf most (insertSorted s xs))
       unfolding putOne insertAnswer insertWords
       put-new-slot =
           let f : ltb (length (areaOf most xs) - length xs * 16) 16
@@ -172,15 +173,15 @@ module _ (most : ℕ) (xs : List (List ℕ)) (s : List ℕ) (v : Slots xs) (u : 
         rw (there, e, f)
 
   put-held-slot : placeAmong xs s 0 ≡ place.Held → putOne (areaOf most xs) (length xs) s
-      ≡ said (Count (length (insertSlot s xs))) (areaOf most (insertSlot s xs))
+      ≡ said (Count (length (insertSorted s xs))) (areaOf most (insertSorted s xs))
   unfolding putOne insertAnswer insertWords
   put-held-slot e = rw (there, e, held-same xs s 0 e)
 
   -- a slot is held, or refused exactly where the slots would be more than fit
   pub record PutSlot : Type 0 where
-    pub held : length (insertSlot s xs) ≤ most → putOne (areaOf most xs) (length xs) s
-        ≡ said (Count (length (insertSlot s xs))) (areaOf most (insertSlot s xs))
-    pub refused : most < length (insertSlot s xs) → (putOne (areaOf most xs) (length xs) s) .held ≡ Exceeded
+    pub held : length (insertSorted s xs) ≤ most → putOne (areaOf most xs) (length xs) s
+        ≡ said (Count (length (insertSorted s xs))) (areaOf most (insertSorted s xs))
+    pub refused : most < length (insertSorted s xs) → (putOne (areaOf most xs) (length xs) s) .held ≡ Exceeded
 
   by-place : (q : Place) → placeAmong xs s 0 ≡ q → PutSlot
   by-place place.Held e =
@@ -195,53 +196,67 @@ module _ (most : ℕ) (xs : List (List ℕ)) (s : List ℕ) (v : Slots xs) (u : 
 
 -- ---- all slots
 
-grows-by : (o : Order) (s x : List ℕ) (xs : List (List ℕ)) → length xs ≤ length (insertSlot s xs)
-    → suc (length xs) ≤ length (byOrder o (s ∷ (x ∷ xs)) (x ∷ xs) (x ∷ insertSlot s xs))
-grows-by below s x xs h = omega arith
-grows-by same s x xs h = omega arith
-grows-by above s x xs h = omega arith
-
-grows : (s : List ℕ) (xs : List (List ℕ)) → length xs ≤ length (insertSlot s xs)
-unfolding insertSlot
-grows s [] = omega arith
-grows s (x ∷ xs) = grows-by (order 16 x 0 s 0) s x xs (grows s xs)
-
-pub canon-grows : (xs ss : List (List ℕ)) → length xs ≤ length (canonFrom xs ss)
-unfolding canonFrom
-canon-grows xs [] = omega arith
-canon-grows xs (s ∷ ss) = omega (arith, grows s xs, canon-grows (insertSlot s xs) ss)
-
 stays : (o : Outcome) (f : List ℕ → ℕ → Outcome) → o .held ≡ Exceeded → (chain (o .held) (o .area) f) .held ≡ Exceeded
 stays o f e = rw e
 
--- holding slots in an area gives the ascending slots without repeats; it is exceeded exactly where these are more
--- than fit
-pub put-canon : (most : ℕ) (xs ss : List (List ℕ)) → Slots xs → Sorted xs → Slots ss → length xs ≤ most
-    → length (canonFrom xs ss) ≤ most
-    → putAll (areaOf most xs) (length xs) ss ≡ said (Count (length (canonFrom xs ss))) (areaOf most (canonFrom xs ss))
-unfolding putAll canonFrom
-put-canon most xs [] v u w h k = refl
-put-canon most xs (s ∷ ss) v u w h k =
-    let g : length (insertSlot s xs) ≤ most = omega (arith, canon-grows (insertSlot s xs) ss) in
-    rw (put-slot most xs s v u (w .0) h .held g)
-    (put-canon most (insertSlot s xs) ss (insert-slots s xs (w .0) v) (insert-sorted s xs (w .0) v u) (w .1) g k)
+-- where those of l are held, s comes
+module _ (most : ℕ) (l : List (List ℕ)) (s : List ℕ) (v : Slots l) (es : length s ≡ 16) (h : length (canon l) ≤ most)
+  where
+    held-slots : Slots (canon l)
+    held-slots = slots-in (canon l) l v (λ a i. in-canon a l .0 i)
 
-exceeded-by : (most : ℕ) (xs : List (List ℕ)) (s : List ℕ) (ss : List (List ℕ)) → Slots xs → Sorted xs
-    → length s ≡ 16 → Slots ss → length xs ≤ most → most < length (canonFrom (insertSlot s xs) ss)
-    → (length (insertSlot s xs) ≤ most → (putAll (areaOf most (insertSlot s xs)) (length (insertSlot s xs)) ss) .held
-    ≡ Exceeded) → Dec (most < length (insertSlot s xs))
-    → (chain ((putOne (areaOf most xs) (length xs) s) .held) ((putOne (areaOf most xs) (length xs) s) .area)
-    (λ l c. putAll l c ss)) .held ≡ Exceeded
-exceeded-by most xs s ss v u es w h k ih (yes z) = stays _ _ (put-slot most xs s v u es h .refused z)
-exceeded-by most xs s ss v u es w h k ih (no z) =
-    rw (put-slot most xs s v u es h .held (omega arith)) (ih (omega arith))
+    next-held : length (canon (l ++ s ∷ [])) ≤ most → putOne (areaOf most (canon l)) (length (canon l)) s
+        ≡ said (Count (length (canon (l ++ s ∷ [])))) (areaOf most (canon (l ++ s ∷ [])))
+    next-held k =
+        rw (canon-snoc l s)
+        (put-slot most (canon l) s held-slots (canon-ascending l) es h .held (rw (canon-snoc l s) at k))
 
-pub put-exceeded-canon : (most : ℕ) (xs ss : List (List ℕ)) → Slots xs → Sorted xs → Slots ss → length xs ≤ most
-    → most < length (canonFrom xs ss) → (putAll (areaOf most xs) (length xs) ss) .held ≡ Exceeded
-unfolding putAll canonFrom
-put-exceeded-canon most xs [] v u w h k = absurd (omega arith)
-put-exceeded-canon most xs (s ∷ ss) v u w h k =
-    exceeded-by most xs s ss v u (w .0) (w .1) h k
-    (λ g. put-exceeded-canon most (insertSlot s xs) ss (insert-slots s xs (w .0) v) (insert-sorted s xs (w .0) v u)
-    (w .1) g k)
-    (decLt most (length (insertSlot s xs)))
+    next-refused : most < length (canon (l ++ s ∷ []))
+        → (putOne (areaOf most (canon l)) (length (canon l)) s) .held ≡ Exceeded
+    next-refused k =
+        put-slot most (canon l) s held-slots (canon-ascending l) es h .refused (rw (canon-snoc l s) at k)
+
+    exceeded-by : (ss : List (List ℕ)) → (length (canon (l ++ s ∷ [])) ≤ most
+        → (putAll (areaOf most (canon (l ++ s ∷ []))) (length (canon (l ++ s ∷ []))) ss) .held ≡ Exceeded)
+        → Dec (most < length (canon (l ++ s ∷ [])))
+        → (chain ((putOne (areaOf most (canon l)) (length (canon l)) s) .held)
+        ((putOne (areaOf most (canon l)) (length (canon l)) s) .area) (λ l c. putAll l c ss)) .held ≡ Exceeded
+    exceeded-by ss ih (yes z) = stays _ _ (next-refused z)
+    exceeded-by ss ih (no z) = rw (next-held (omega arith)) (ih (omega arith))
+
+    more : Slots (l ++ s ∷ [])
+    more = all-append (λ x. length x ≡ 16) l (s ∷ []) v (es, tt)
+
+put-from : (most : ℕ) (l ss : List (List ℕ)) → Slots l → Slots ss → length (canon l) ≤ most
+    → length (canon (l ++ ss)) ≤ most → putAll (areaOf most (canon l)) (length (canon l)) ss
+    ≡ said (Count (length (canon (l ++ ss)))) (areaOf most (canon (l ++ ss)))
+unfolding putAll
+put-from most l [] v w h k = rw (append-nil l)
+put-from most l (s ∷ ss) v w h k =
+    let e : (l ++ s ∷ []) ++ ss ≡ l ++ s ∷ ss = append-assoc l (s ∷ []) ss in
+    let k' : length (canon ((l ++ s ∷ []) ++ ss)) ≤ most = rw e k in
+    let g : length (canon (l ++ s ∷ [])) ≤ most = omega (arith, canon-grows (l ++ s ∷ []) ss) in
+    rw (next-held most l s v (w .0) h g, ← e)
+    (put-from most (l ++ s ∷ []) ss (more most l s v (w .0) h) (w .1) g k')
+
+exceeded-from : (most : ℕ) (l ss : List (List ℕ)) → Slots l → Slots ss → length (canon l) ≤ most
+    → most < length (canon (l ++ ss)) → (putAll (areaOf most (canon l)) (length (canon l)) ss) .held ≡ Exceeded
+unfolding putAll
+exceeded-from most l [] v w h k = absurd (omega (arith, ap (λ (a : List (List ℕ)). length (canon a)) (append-nil l)))
+exceeded-from most l (s ∷ ss) v w h k =
+    let k' : most < length (canon ((l ++ s ∷ []) ++ ss)) = rw (append-assoc l (s ∷ []) ss) k in
+    exceeded-by most l s v (w .0) h ss
+    (λ g. exceeded-from most (l ++ s ∷ []) ss (more most l s v (w .0) h) (w .1) g k')
+    (decLt most (length (canon (l ++ s ∷ []))))
+
+-- holding slots in an area of none gives the ascending slots without repeats; it is exceeded exactly where these are
+-- more than fit
+pub put-canon : (most : ℕ) (ss : List (List ℕ)) → Slots ss → length (canon ss) ≤ most
+    → putAll (areaOf most []) 0 ss ≡ said (Count (length (canon ss))) (areaOf most (canon ss))
+unfolding canon
+put-canon most ss w k = put-from most [] ss tt w (omega arith) k
+
+pub put-exceeded-canon : (most : ℕ) (ss : List (List ℕ)) → Slots ss → most < length (canon ss)
+    → (putAll (areaOf most []) 0 ss) .held ≡ Exceeded
+unfolding canon
+put-exceeded-canon most ss w k = exceeded-from most [] ss tt w (omega arith) k

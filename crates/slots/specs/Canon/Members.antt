@@ -1,58 +1,47 @@
 -- Members of lists, of two lists together and of a list's images.
---     in-left, in-right, out-append, sub-append     two lists
---     Image, map-in, map-out, sub-map               images
+--     sub-append                                       two lists
+--     Image, map-in, map-out, sub-map                  images
 --     same-refl, same-trans, same-append, same-map     the same members
---     slots-in                                      members of slots are slots
+--     slots-in                                         members of slots are slots
 -- Assumes nothing.
 use Prim.Native.Nat.{ℕ}
 use mathlib.Core.Path.{_≡_, refl, ap}
 use mathlib.Core.Logic.{_⊎_, inl, inr, ⊎-elim}
 use mathlib.Core.List.{List, [], _∷_, _++_, map}
 use lib.ListN.{length}
-use Rattle.slots.specs.Canon.{Slots, Mem, SameMembers}
+use Rattle.numbers.specs.Some.{any-append-left, any-append-right, any-append-cases}
+use Rattle.slots.specs.Canon.{Slots, In, SameMembers}
+use Rattle.slots.specs.Canon.Canonical.{all-of, of-all}
 
 abbrev pub Sub : List (List ℕ) → List (List ℕ) → Type 0
-Sub a b = (z : List ℕ) → Mem z a → Mem z b
+Sub a b = (z : List ℕ) → In z a → In z b
 
 -- ---- two lists
 
-pub in-left : (z : List ℕ) (a b : List (List ℕ)) → Mem z a → Mem z (a ++ b)
-in-left z [] b m = absurd m
-in-left z (x ∷ a) b (inl e) = inl e
-in-left z (x ∷ a) b (inr m) = inr (in-left z a b m)
-
-pub in-right : (z : List ℕ) (a b : List (List ℕ)) → Mem z b → Mem z (a ++ b)
-in-right z [] b m = m
-in-right z (x ∷ a) b m = inr (in-right z a b m)
-
-pub out-append : (z : List ℕ) (a b : List (List ℕ)) → Mem z (a ++ b) → Mem z a ⊎ Mem z b
-out-append z [] b m = inr m
-out-append z (x ∷ a) b (inl e) = inl (inl e)
-out-append z (x ∷ a) b (inr m) = ⊎-elim (λ n. inl (inr n)) (λ n. inr n) (out-append z a b m)
-
 pub sub-append : (a a' b b' : List (List ℕ)) → Sub a a' → Sub b b' → Sub (a ++ b) (a' ++ b')
 sub-append a a' b b' f g z m =
-    ⊎-elim (λ n. in-left z a' b' (f z n)) (λ n. in-right z a' b' (g z n)) (out-append z a b m)
+    ⊎-elim (λ n. any-append-left (λ x. z ≡ x) a' b' (f z n)) (λ n. any-append-right (λ x. z ≡ x) a' b' (g z n))
+    (any-append-cases (λ x. z ≡ x) a b m)
 
 -- ---- images
 
 pub record Image (g : List ℕ → List ℕ) (a : List (List ℕ)) (z : List ℕ) : Type 0 where
   pub x : List ℕ
-  pub member : Mem x a
+  pub member : In x a
   pub is : z ≡ g x
 
-pub map-in : (g : List ℕ → List ℕ) (a : List (List ℕ)) (x : List ℕ) → Mem x a → Mem (g x) (map g a)
+pub map-in : (g : List ℕ → List ℕ) (a : List (List ℕ)) (x : List ℕ) → In x a → In (g x) (map g a)
 map-in g [] x m = absurd m
 map-in g (y ∷ a) x (inl e) = inl (ap g e)
 map-in g (y ∷ a) x (inr m) = inr (map-in g a x m)
 
-pub map-out : (g : List ℕ → List ℕ) (a : List (List ℕ)) (z : List ℕ) → Mem z (map g a) → Image g a z
+pub map-out : (g : List ℕ → List ℕ) (a : List (List ℕ)) (z : List ℕ) → In z (map g a) → Image g a z
 map-out g [] z m = absurd m
 map-out g (y ∷ a) z (inl e) = record { x = y; member = inl refl; is = e }
 map-out g (y ∷ a) z (inr m) = let i = map-out g a z m in record { x = i .x; member = inr (i .member); is = i .is }
 
-pub sub-map : (g : List ℕ → List ℕ) (a b : List (List ℕ)) → ((z : List ℕ) → Mem z a → Mem z b) → (z : List ℕ)
-    → Mem z (map g a) → Mem z (map g b)
+pub sub-map : (g : List ℕ → List ℕ) (a b : List (List ℕ)) → ((z : List ℕ) → In z a → In z b) → (z : List ℕ)
+    → In z (map g a) → In z (map g b)
 sub-map g a b f z m = let i = map-out g a z m in rw (i .is) (map-in g b (i .x) (f (i .x) (i .member)))
 
 -- ---- the same members
@@ -74,11 +63,5 @@ same-map g a b f = (sub-map g a b (f .0), sub-map g b a (f .1))
 
 -- ---- slots
 
-slot-at : (z : List ℕ) (ys : List (List ℕ)) → Slots ys → Mem z ys → length z ≡ 16
-slot-at z [] v m = absurd m
-slot-at z (y ∷ ys) v (inl e) = rw e (v .0)
-slot-at z (y ∷ ys) v (inr m) = slot-at z ys (v .1) m
-
 pub slots-in : (xs ys : List (List ℕ)) → Slots ys → Sub xs ys → Slots xs
-slots-in [] ys v f = tt
-slots-in (x ∷ xs) ys v f = (slot-at x ys v (f x (inl refl)), slots-in xs ys v (λ z m. f z (inr m)))
+slots-in xs ys v f = all-of (λ x. length x ≡ 16) xs (λ a i. of-all (λ x. length x ≡ 16) ys v a (f a i))

@@ -12,8 +12,8 @@ use borrow.Author.Tests.{le-ltb, lt-ltb}
 use Rattle.slots.specs.declared.slots.Place.{Place}
 use Rattle.slots.specs.declared.slots.Place.the-variants.{Held, At}
 use Rattle.slots.specs.declared.slots.Inserted.the-variants as ins
-use Rattle.slots.specs.Slots.{Order, below, same, above, order, placeBy, seek, placeIn, gapped, stored}
-use Rattle.slots.specs.Slots.{insertAnswer, insertWords}
+use Rattle.slots.specs.Canon.{Order, below, same, above}
+use Rattle.slots.specs.Slots.{order, placeBy, seek, placeIn, gapped, stored, insertAnswer, insertWords}
 
 module _ (a b : List ℕ) where
   pub order-none : (n p q : ℕ) → n ≡ 0 → order n a p b q ≡ same

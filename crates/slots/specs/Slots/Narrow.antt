@@ -14,8 +14,8 @@ use mathlib.Core.Bool.{Bool, true, false}
 use mathlib.Core.List.{List}
 use borrow.Author.Tests.{le-ltb, lt-ltb}
 use Rattle.slots.specs.declared.slots.Place.the-variants.{At}
-use Rattle.slots.specs.Slots.{Order, below, same, above, order, seek, isAbove, middleOf, halved, narrowed}
-use Rattle.slots.specs.Slots.{seekFrom, placeIn}
+use Rattle.slots.specs.Canon.{Order, below, same, above}
+use Rattle.slots.specs.Slots.{order, seek, isAbove, middleOf, halved, narrowed, seekFrom, placeIn}
 use Rattle.slots.specs.Slots.Laws.{seek-on, seek-bound}
 
 pub above-of : (o : Order) → isAbove o ≡ true → o ≡ above

@@ -6,7 +6,7 @@ use mathlib.Core.Bool.{Bool, true, false, _&&_}
 use mathlib.Core.List.{List, [], _∷_}
 use lib.ListN.{length, take, drop, length-take, length-drop}
 use lib.Seq.{drop-drop}
-use Rattle.residuals.specs.Slots.{compareWords}
+use Rattle.slots.specs.Canon.{compareWords}
 use Rattle.monitor_spec.specs.Valid.{isBelow}
 use Rattle.monitor_spec.specs.State.{chunks}
 use Rattle.monitor_spec.specs.Consistent.{every, ascendsFrom, ascends}

@@ -6,8 +6,8 @@ use mathlib.Core.Path.{_≡_, ap, ap₂, sym, _∙_}
 use mathlib.Core.List.{List}
 use lib.ListN.{length, getD, drop, drop-of-length-le}
 use lib.Seq.{drop-cons}
-use Rattle.residuals.specs.Slots.{below, same, above, compareWords}
-use Rattle.residuals.specs.Slots.Comparison.{cmp-lt, cmp-gt, cmp-eq}
+use Rattle.slots.specs.Canon.{below, same, above, compareWords}
+use Rattle.slots.specs.Canon.Comparison.{cmp-lt, cmp-gt, cmp-eq}
 
 module _ (a b : List ℕ) (j : ℕ) where
   pub compare-below : j < length a → j < length b → getD a j 0 < getD b j 0

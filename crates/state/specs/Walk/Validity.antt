@@ -15,8 +15,9 @@ use borrow.Author.Tests.{ne-eqb}
 use Rattle.table.specs.Table.{Table}
 use Rattle.state.specs.declared.valid.Forest.{Forest}
 use Rattle.residuals.specs.Residual.{Residual}
-use Rattle.residuals.specs.Slots.{Order, below, same, above, nodes, slotOf, compareWords}
-use Rattle.residuals.specs.Slots.Comparison.{cmp-refl, same-eq}
+use Rattle.slots.specs.Canon.{Order, below, same, above, compareWords}
+use Rattle.residuals.specs.Slots.{nodes, slotOf}
+use Rattle.slots.specs.Canon.Comparison.{cmp-refl, same-eq}
 use Rattle.monitor_spec.specs.Valid.{forest, oneTree, memoriesFit, reachSum}
 use Rattle.monitor_spec.specs.Valid.{isSame, validSlot}
 use Rattle.monitor_spec.specs.Valid.Laws.{slot-none, slot-some, valid-none, valid-at}

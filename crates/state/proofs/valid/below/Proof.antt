@@ -4,7 +4,7 @@ use native.Mathlib.Omega.{arith}
 use Prim.Native.Nat.{_-_, _≤_}
 use mathlib.Core.Path.{_≡_, refl, ap, sym, _∙_}
 use lib.ListN.{drop}
-use Rattle.residuals.specs.Slots.{compareWords}
+use Rattle.slots.specs.Canon.{compareWords}
 use Rattle.monitor_spec.specs.Valid.{isBelow}
 use Rattle.state.proofs.valid.BelowTurn.{compare-below, compare-above, compare-next, compare-done}
 use borrow.Author.Needs.{needs}

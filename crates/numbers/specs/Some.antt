@@ -3,11 +3,11 @@
 --     Any                          a property of some element
 --     any-imp, any-all, any-out    its laws
 --     any-append-*, any-map, any-unmap, any-flat, flat-any    by how the list is made
---     all-map, all-flat            of every element;  `Every` of the numbers crate has the other laws of `All`
+--     all-map, all-flat            of every element;  `Every` has the other laws of `All`
 -- Assumes nothing.
 use mathlib.Core.List.{List, [], _∷_, _++_, map, flatMap}
 use mathlib.Core.Logic.{_⊎_, inl, inr, ⊎-elim}
 use Rattle.numbers.specs.Every.{All, all-append}
 
 module _ {A : Type 0} where
   abbrev pub Any : (A → Type 0) → List A → Type 0

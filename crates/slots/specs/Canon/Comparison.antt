@@ -5,7 +5,7 @@ use native.Mathlib.Decide.{decLt}
 use mathlib.Core.Path.{_≡_, refl, ap₂, sym, _∙_}
 use mathlib.Core.List.{List, [], _∷_}
 use borrow.Author.Tests.{le-ltb, lt-ltb}
-use Rattle.residuals.specs.Slots.{Order, below, same, above, compareWords, Precedes, differs, agrees, begins}
+use Rattle.slots.specs.Canon.{Order, below, same, above, compareWords, Precedes, differs, agrees, begins}
 
 abbrev pub Less : List ℕ → List ℕ → Type 0
 Less a b = compareWords a b ≡ below
@@ -88,6 +88,14 @@ less-not-eq a b h e = apart-same h (rw e (cmp-refl b))
 
 pub less-not-back : (a b : List ℕ) → Less a b → Less b a → ⊥
 less-not-back a b h k = less-not-eq a a (less-trans a b a h k) refl
+
+pub less-above : (a b : List ℕ) → Less a b → compareWords b a ≡ above
+less-above a b h = by (compareWords b a) refl
+  where
+    by : (o : Order) → compareWords b a ≡ o → o ≡ above
+    by below e = absurd (less-not-back a b h e)
+    by same e = absurd (less-not-eq a b h (sym (same-eq b a e)))
+    by above e = refl
 
 -- what is below stands before
 pub less-precedes : (a b : List ℕ) → Less a b → Precedes a b

@@ -1,36 +1,29 @@
--- `canon` has the members of its list, is strictly ascending, and depends on the members only; so the slots of
--- residuals. Assumes nothing.
+-- `canon` has the members of its list, is strictly ascending, and depends on the members only. Assumes nothing.
 use Prim.Native.Nat.{ℕ, suc, _≤_}
 use native.Mathlib.Omega.{arith}
-use mathlib.Core.Path.{_≡_, refl, ap₂, sym, _∙_}
-use mathlib.Core.List.{List, [], _∷_, _++_, map}
+use mathlib.Core.Path.{_≡_, refl, ap, ap₂, sym, _∙_}
+use mathlib.Core.List.{List, [], _∷_, _++_, append-assoc, append-nil}
 use mathlib.Core.Logic.{_↔_, _⊎_, inl, inr, ⊎-elim}
-use lib.ListN.{length, length-map}
+use lib.ListN.{length}
 use Rattle.numbers.specs.Every.{All, all-imp}
-use Rattle.meaning.specs.Some.{Any, any-append-left, any-append-right, any-append-cases}
-use Rattle.residuals.specs.Residual.{Residual}
-use Rattle.residuals.specs.Slots.{Order, below, same, above, slotOf, compareWords, insertSorted, canon}
-use Rattle.residuals.specs.Slots.{slotsOf}
-use Rattle.residuals.specs.Slots.{Precedes, Sorted}
-use Rattle.residuals.specs.Slots.Comparison.{Less, same-eq, above-less, less-trans, less-not-eq, less-not-back}
-use Rattle.residuals.specs.Slots.Comparison.{less-precedes}
-
-abbrev pub In : List ℕ → List (List ℕ) → Type 0
-In a l = Any (λ x. a ≡ x) l
+use Rattle.numbers.specs.Some.{any-append-left, any-append-right, any-append-cases}
+use Rattle.slots.specs.Canon.{Order, below, same, above, compareWords, insertSorted, canon, Precedes, Sorted, In}
+use Rattle.slots.specs.Canon.Comparison.{Less, same-eq, above-less, less-trans, less-not-eq, less-not-back}
+use Rattle.slots.specs.Canon.Comparison.{less-precedes}
 
 abbrev pub Ascending : List (List ℕ) → Type 0
 Ascending [] = Unit
 Ascending (x ∷ l) = All (Less x) l × Ascending l
 
-insert-below : (s x : List ℕ) (l : List (List ℕ)) → compareWords s x ≡ below → insertSorted s (x ∷ l) ≡ s ∷ x ∷ l
+pub insert-below : (s x : List ℕ) (l : List (List ℕ)) → compareWords s x ≡ below → insertSorted s (x ∷ l) ≡ s ∷ x ∷ l
 unfolding insertSorted
 insert-below s x l e = rw (e, insertSorted)
 
-insert-same : (s x : List ℕ) (l : List (List ℕ)) → compareWords s x ≡ same → insertSorted s (x ∷ l) ≡ x ∷ l
+pub insert-same : (s x : List ℕ) (l : List (List ℕ)) → compareWords s x ≡ same → insertSorted s (x ∷ l) ≡ x ∷ l
 unfolding insertSorted
 insert-same s x l e = rw (e, insertSorted)
 
-insert-above : (s x : List ℕ) (l : List (List ℕ)) → compareWords s x ≡ above
+pub insert-above : (s x : List ℕ) (l : List (List ℕ)) → compareWords s x ≡ above
     → insertSorted s (x ∷ l) ≡ x ∷ insertSorted s l
 unfolding insertSorted
 insert-above s x l e = rw (e, insertSorted)
@@ -141,48 +134,41 @@ canon-snoc l s = canon-members (l ++ s ∷ []) (s ∷ l) into back
     back a h = ⊎-elim (λ e. any-append-right (λ x. a ≡ x) l (s ∷ []) (inl e))
         (λ k. any-append-left (λ x. a ≡ x) l (s ∷ []) k) h
 
--- a slot put in makes a list longer by one at most
-insert-length : (s : List ℕ) (l : List (List ℕ)) → length (insertSorted s l) ≤ suc (length l)
+-- a slot put in makes a list longer by one at most, and no shorter
+insert-length : (s : List ℕ) (l : List (List ℕ))
+    → (length l ≤ length (insertSorted s l)) × (length (insertSorted s l) ≤ suc (length l))
 unfolding insertSorted
-insert-length s [] = omega arith
+insert-length s [] = (omega arith, omega arith)
 insert-length s (x ∷ l) = by (compareWords s x) refl (insert-length s l)
   where
-    by : (o : Order) → compareWords s x ≡ o → length (insertSorted s l) ≤ suc (length l)
-        → length (insertSorted s (x ∷ l)) ≤ suc (length (x ∷ l))
-    by below e ih = rw (insert-below s x l e) (omega arith)
-    by same e ih = rw (insert-same s x l e) (omega arith)
-    by above e ih = rw (insert-above s x l e) (omega arith)
+    by : (o : Order) → compareWords s x ≡ o
+        → (length l ≤ length (insertSorted s l)) × (length (insertSorted s l) ≤ suc (length l))
+        → (length (x ∷ l) ≤ length (insertSorted s (x ∷ l))) × (length (insertSorted s (x ∷ l)) ≤ suc (length (x ∷ l)))
+    by below e ih = rw (insert-below s x l e) (omega arith, omega arith)
+    by same e ih = rw (insert-same s x l e) (omega arith, omega arith)
+    by above e ih = let (a, b) = ih in rw (insert-above s x l e) (omega arith, omega arith)
 
-canon-few : (l : List (List ℕ)) → length (canon l) ≤ length l
+pub canon-few : (l : List (List ℕ)) → length (canon l) ≤ length l
 unfolding canon
 canon-few [] = omega arith
-canon-few (s ∷ l) = let a = canon-few l in let b = insert-length s (canon l) in omega arith
+canon-few (s ∷ l) = let a = canon-few l in let (b, c) = insert-length s (canon l) in omega arith
 
--- ---- the slots of residuals
-
-pub slots-few : (rs : List Residual) → length (slotsOf rs) ≤ length rs
-unfolding slotsOf
-slots-few rs = let a = canon-few (map slotOf rs) in omega (arith, length-map rs slotOf)
+pub canon-grows : (l ss : List (List ℕ)) → length (canon l) ≤ length (canon (l ++ ss))
+canon-grows l [] = rw (append-nil l) (omega arith)
+canon-grows l (s ∷ ss) =
+    let (a, b) = insert-length s (canon l) in
+    let c = canon-grows (l ++ s ∷ []) ss in
+    omega (
+      arith,
+      a,
+      c,
+      ap length (canon-snoc l s),
+      ap (λ (k : List (List ℕ)). length (canon k)) (append-assoc l (s ∷ []) ss),
+    )
 
 sorted-of : (l : List (List ℕ)) → Ascending l → Sorted l
 sorted-of [] h = tt
 sorted-of (x ∷ l) h = (all-imp (Less x) (Precedes x) (less-precedes x) l (h .0), sorted-of l (h .1))
 
-pub slots-sorted : (rs : List Residual) → Sorted (slotsOf rs)
-unfolding slotsOf
-slots-sorted rs = sorted-of (canon (map slotOf rs)) (canon-ascending (map slotOf rs))
-
-in-map : (s : List ℕ) (rs : List Residual) → In s (map slotOf rs) ↔ Any (λ r. s ≡ slotOf r) rs
-in-map s [] = (λ h. h, λ h. h)
-in-map s (r ∷ rs) =
-    let i = in-map s rs in (
-      λ h. ⊎-elim (λ k. inl k) (λ k. inr (i .0 k)) h,
-      λ h. ⊎-elim (λ k. inl k) (λ k. inr (i .1 k)) h,
-    )
-
-pub in-slots : (s : List ℕ) (rs : List Residual) → In s (slotsOf rs) ↔ Any (λ r. s ≡ slotOf r) rs
-unfolding slotsOf
-in-slots s rs =
-    let i = in-canon s (map slotOf rs) in
-    let j = in-map s rs in
-    (λ h. j .0 (i .0 h), λ h. i .1 (j .1 h))
+pub canon-sorted : (l : List (List ℕ)) → Sorted (canon l)
+canon-sorted l = sorted-of (canon l) (canon-ascending l)
