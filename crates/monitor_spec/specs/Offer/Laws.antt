@@ -61,9 +61,6 @@ module _ (t : Table) (rs : List Residual) (b : ℕ) where
       by [] e h = let a = bits-none k e in let p = pow-suc 2 k in omega arith
       by (q ∷ qs) e h = let a = bits-some k q qs e in let p = pow-suc 2 k in omega arith
 
-  abbrev Set : ℕ → ℕ → Type 0
-  Set k e = bitsFrom t rs b k / 2 ^ e % 2 ≡ 1
-
   not-set : {X : Type 0} (j : ℕ) → j ≡ 0 → j ≡ 1 → X
   not-set j e f = absurd (omega arith)
 

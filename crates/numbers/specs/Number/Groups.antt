@@ -1,6 +1,6 @@
 -- The laws of `Number.antt` for any count of bytes and any greatest last byte: a written number reads back, and what
 -- is read is just what would be written. By induction on how many bytes may follow.
---     groups-short, groups-long       groups by cases;  groups-some, groups-few: its length;  groups-bytes
+--     groups-short, groups-long       groups by cases;  groups-some, groups-few: its length
 --     limit-zero, limit-suc           limitOf by cases;  limit-65536, limit-64-bits: the two that are used
 --     scan-written, scan-is-written   the two halves
 -- Not here: at most two bytes after the first, `Number/Laws.antt`. Assumes nothing.
@@ -59,15 +59,6 @@ limit-65536 = refl
 pub limit-64-bits : limitOf 9 1 ≡ 2 ^ 64
 unfolding limitOf
 limit-64-bits = refl
-
--- ---- the bytes of a number are bytes
-pub groups-bytes : (k top v : ℕ) → top < 256 → v < limitOf k top → Bytes (groups k v)
-unfolding groups
-groups-bytes zero top v t h = (omega (arith, limit-zero top), tt)
-groups-bytes (suc k) top v t h =
-    cond-cases Bytes (ltb v 128) (v ∷ []) _
-    (λ l. let l' = ltb-true v 128 l in (omega arith, tt))
-    (λ _. (omega arith, groups-bytes k top (v / 128) t (omega (arith, limit-suc k top))))
 
 -- ---- what is written reads back
 value-path : (v w n : ℕ) (s : List ℕ) → v ≡ w → value v n s ≡ value w n s

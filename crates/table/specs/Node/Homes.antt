@@ -139,11 +139,6 @@ sizes-inside ds zero = omega arith
 sizes-inside [] (suc d) = omega arith
 sizes-inside (x ∷ ds) (suc d) = omega (arith, sizes-inside ds d)
 
-pub sizes-all : (ds : List Definition) → sizes (take (length ds) ds) ≡ sizes ds
-unfolding sizes
-sizes-all [] = refl
-sizes-all (x ∷ ds) = ap (λ (n : ℕ). size (x .body) + n) (sizes-all ds)
-
 abbrev pub BodyAt : ℕ → ℕ → List Definition → ℕ → ℕ → Type 0
 BodyAt own i ds d m = (j : ℕ) × Stands own i ds d (sizes (take d ds)) (node (bodySpot m) j (bodyIn ds d))
 

@@ -62,11 +62,6 @@ module _ (windows : List ℕ) (good : T (goodTimetable windows)) where
   due-in notStarted now h = refl
   due-in (started s last) now h = T-true (changes windows last now) (changes-in windows last now good h)
 
-  pub due-out : (s : TimedState) (now : ℕ) → startDue windows s now ≡ true → Due windows s now
-  unfolding startDue
-  due-out notStarted now e = tt
-  due-out (started s last) now e = changes-out windows last now good (true-T (changes windows last now) e)
-
   pub changed-out : (last now : ℕ) → changes windows last now ≡ false → Changes windows last now → ⊥
   changed-out last now e h = clash (T-true (changes windows last now) (changes-in windows last now good h)) e
 

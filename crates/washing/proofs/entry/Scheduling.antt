@@ -96,9 +96,6 @@ module _ (everyday wash windows : List ℕ) (x : TimedState) (a b : List ℕ) wh
         ap (entering shut (λ u. scheduling windows m 8192 (tableIn everyday) u))
         (sym (judged-wash w k) ∙ entered-shut _ wash j w' h r q)
 
-    pub wash-index : j ≡ Accepted → Indexed wash w'
-    wash-index q = entered-open _ wash j w' h q .1
-
     pub wash-accepted : j ≡ Accepted → (i : Judged) (w'' : List ℕ) → of next i w'' → of later i w''
     unfolding afterEveryday entering
     wash-accepted q i w'' f =
@@ -168,10 +165,6 @@ module _ (everyday wash windows : List ℕ) (x : TimedState) (a b : List ℕ) wh
         timed-long =
             eqb-true (length w) 8192 (and-split (areasMeasured a b) (workMeasured w)
             (and-split (areasMeasured a b && workMeasured w) (eqb es ms) lent-right .0) .1)
-
-        pub timed-pairs : es ≡ ms
-        timed-pairs =
-            eqb-true es ms (and-split (areasMeasured a b && workMeasured w) (eqb es ms) lent-right .1)
 
         pub timed-accepted : (i : Judged) (w'' : List ℕ) → of later i w'' → of whole i w''
         unfolding timedEntrance afterEveryday entering
