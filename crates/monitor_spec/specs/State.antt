@@ -7,12 +7,12 @@
 --     even, choose                     which area is present
 --     chunks, fill, laid               an area's slots; slots and then zeros; a record with its slots laid out
 -- The laws are in `State/`: `Records`, `Areas`. Assumes nothing.
-use Prim.Native.Nat.{ℕ, zero, suc, max, _-_, _*_, _/_, _%_}
+use Prim.Native.Nat.{ℕ, zero, suc, max, _/_, _%_}
 use mathlib.Core.Bool.{Bool, true, false, _&&_}
-use mathlib.Core.List.{List, [], _∷_, _++_, flatten}
+use mathlib.Core.List.{List, [], _∷_}
 use lib.ListN.{length, take, drop}
 use lib.Dec.{eqb, leb}
-use Rattle.table.specs.Operations.{zeros}
+unfoldable pub use Rattle.slots.specs.Canon.{fill}
 pub mod Records
 pub mod Areas
 
@@ -100,10 +100,6 @@ choose false a b = b
 unfoldable pub chunks : ℕ → List ℕ → List (List ℕ)
 chunks zero a = []
 chunks (suc n) a = take 16 a ∷ chunks n (drop 16 a)
-
--- 01, "Residuals": "An area holds slots ascending by first differing word, then zeros": an area of n slots
-unfoldable pub fill : ℕ → List (List ℕ) → List ℕ
-fill n ss = flatten ss ++ zeros ((n - length ss) * 16)
 
 -- "the present area has their slots and then zeros, the other area zeros": a record with areas of n slots
 unfoldable pub laid : ℕ → State → List (List ℕ) → Monitor

@@ -2,11 +2,11 @@
 --     Order, compareWords     the order "by first differing word"
 --     insertSorted, canon     one slot put in its place; a list of slots ascending, each once
 --     Precedes, Sorted        that order as a relation; strictly ascending
---     areaOf                  an area that holds slots
---     Slots                   lists of sixteen words
+--     fill                    an area of n slots that holds some, and then zeros
+--     Sixteen, Slots          a list of sixteen words; a list of such
 --     In, SameMembers         a slot is one of several; two lists have the same slots
 -- The laws are in `Canon/`: `Comparison` (the order), `Canonical` (what comes out is ascending, and depends on the
--- members only), `Members`, `Places` and `Laws` (areas). Assumes nothing.
+-- members only), `Members`, `Areas`, `Places` and `Laws` (areas). Assumes nothing.
 use Prim.Native.Nat.{ℕ, _-_, _*_, _<_}
 use mathlib.Core.Path.{_≡_}
 use mathlib.Core.Bool.{true, false}
@@ -18,6 +18,7 @@ use Rattle.numbers.specs.Some.{Any}
 pub mod Comparison
 pub mod Canonical
 pub mod Members
+pub mod Areas
 pub mod Places
 pub mod Laws
 
@@ -52,12 +53,15 @@ abbrev pub Sorted : List (List ℕ) → Type 0
 Sorted [] = Unit
 Sorted (s ∷ ss) = All (Precedes s) ss × Sorted ss
 
--- "An area holds slots ascending by first differing word, then zeros"
-unfoldable pub areaOf : ℕ → List (List ℕ) → List ℕ
-areaOf cap xs = flatten xs ++ replicate ((cap - length xs) * 16) 0
+-- "An area holds slots ascending by first differing word, then zeros": an area of n slots
+unfoldable pub fill : ℕ → List (List ℕ) → List ℕ
+fill n ss = flatten ss ++ replicate ((n - length ss) * 16) 0
+
+abbrev pub Sixteen : List ℕ → Type 0
+Sixteen s = length s ≡ 16
 
 abbrev pub Slots : List (List ℕ) → Type 0
-Slots = All (λ x. length x ≡ 16)
+Slots = All Sixteen
 
 -- ---- members
 

@@ -20,7 +20,8 @@ use Rattle.residuals.specs.Residual.{Residual, leaf, resolveDef, after}
 use Rattle.residuals.specs.Slots.{slotsOf}
 use Rattle.monitor_spec.specs.Regular.Laws.{regular}
 use Rattle.monitor_spec.specs.State.{fill}
-use Rattle.monitor_spec.specs.State.Areas.{Sixteen, length-fill}
+use Rattle.slots.specs.Canon.{Sixteen}
+use Rattle.slots.specs.Canon.Areas.{length-fill}
 use Rattle.monitor_spec.specs.Proper.{Proper}
 use Rattle.monitor_spec.specs.Proper.Laws.{definition-proper}
 use Rattle.monitor_spec.specs.Proper.Nodes.{nodes-most}

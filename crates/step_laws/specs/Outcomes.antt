@@ -2,10 +2,10 @@
 --     step-holds, step-exceeds                  one event, from an area that holds residuals
 --     definition-holds, definition-exceeds      the residuals of a definition
 -- Assumes nothing.
-use Prim.Native.Nat.{ℕ, _*_, _≤_, _<_}
-use mathlib.Core.Path.{_≡_, refl, sym, _∙_}
+use Prim.Native.Nat.{ℕ, _≤_, _<_}
+use mathlib.Core.Path.{_≡_, refl}
 use mathlib.Core.List.{List, []}
-use lib.ListN.{length, replicate}
+use lib.ListN.{length}
 use Rattle.numbers.specs.Every.{All}
 use Rattle.table.specs.Table.{Table}
 use Rattle.table.specs.Rules.{Rules}
@@ -19,23 +19,15 @@ use Rattle.monitor_spec.specs.Valid.{held}
 use Rattle.monitor_spec.specs.Valid.Residuals.{slots-after}
 use Rattle.slots.specs.declared.slots.Held.the-variants.{Count, Exceeded}
 use Rattle.slots.specs.Holding.{said, putAll}
-use Rattle.slots.specs.Canon.{canon, areaOf, SameMembers}
+use Rattle.slots.specs.Canon.{canon, SameMembers}
+use Rattle.slots.specs.Canon.Areas.{fill-none}
 use Rattle.slots.specs.Canon.Laws.{put-canon, put-exceeded-canon}
 use Rattle.set_step.specs.Stepped.{gathered, Source}
-use Rattle.set_step.specs.Successors.Laws.{no-slots, stepped, exceeded}
+use Rattle.set_step.specs.Successors.Laws.{stepped, exceeded}
 use Rattle.set_step.specs.Successors.Room.{Within, sixteen-words}
 use Rattle.set_step.specs.Started.{initial}
 use Rattle.step_laws.specs.Areas.{held-length, holds-slots}
 use Rattle.step_laws.specs.Asks.{step-source, definition-short}
-
--- ---- an area
-
-area-fill : (n : ℕ) (xs : List (List ℕ)) → areaOf n xs ≡ fill n xs
-unfolding areaOf fill
-area-fill n xs = refl
-
-zeroed : (n : ℕ) → fill n [] ≡ replicate (n * 16) 0
-zeroed n = sym (area-fill n []) ∙ no-slots n
 
 module _ (t : Table) (rules : Rules t) where
   -- ---- one event, of slots with the members that the step promises
@@ -59,14 +51,14 @@ module _ (t : Table) (rules : Rules t) where
     pub step-holds : (cap : ℕ) → length (slotsOf (afterAll t e rs)) ≤ cap → putAll (fill cap []) 0 xs
         ≡ said (Count (length (slotsOf (afterAll t e rs)))) (fill cap (slotsOf (afterAll t e rs)))
     step-holds cap k =
-        rw (zeroed cap, ← same-slots, ← (area-fill cap (slotsOf (afterAll t e hs))))
+        rw (fill-none cap, ← same-slots)
         (stepped t e (fill n (slotsOf rs)) hs (holds-slots t rules rs proper n) source cap xs (rw same-length m)
         (rw same-slots k))
 
     pub step-exceeds : (cap : ℕ) → cap < length (slotsOf (afterAll t e rs))
         → (putAll (fill cap []) 0 xs) .held ≡ Exceeded
     step-exceeds cap k =
-        rw (zeroed cap)
+        rw (fill-none cap)
         (exceeded t e (fill n (slotsOf rs)) hs (holds-slots t rules rs proper n) source cap xs (rw same-length m)
         (rw same-slots k))
 
@@ -91,12 +83,11 @@ module _ (t : Table) (rules : Rules t) where
     pub definition-holds : (cap : ℕ) → length (slotsOf settled) ≤ cap → putAll (fill cap []) 0 (initial t d)
         ≡ said (Count (length (slotsOf settled))) (fill cap (slotsOf settled))
     definition-holds cap h =
-        rw (← (area-fill cap []), ← first-slots, ← (area-fill cap (canon (initial t d))))
+        rw (← first-slots)
         (put-canon cap (initial t d) (sixteen-words (resolveDef t (bodyCount t) d) first-short) (rw first-slots h))
 
     pub definition-exceeds : (cap : ℕ) → cap < length (slotsOf settled)
         → (putAll (fill cap []) 0 (initial t d)) .held ≡ Exceeded
     definition-exceeds cap h =
-        rw (← (area-fill cap []))
-        (put-exceeded-canon cap (initial t d) (sixteen-words (resolveDef t (bodyCount t) d) first-short)
-        (rw first-slots h))
+        put-exceeded-canon cap (initial t d) (sixteen-words (resolveDef t (bodyCount t) d) first-short)
+        (rw first-slots h)

@@ -17,12 +17,13 @@ use Rattle.residuals.specs.Residual.{Residual}
 use Rattle.residuals.specs.Slots.{slotsOf}
 use Rattle.monitor_spec.specs.Valid.Residuals.{slot-sixteen, slots-all}
 use Rattle.monitor_spec.specs.State.{slotCount, fill}
-use Rattle.monitor_spec.specs.State.Areas.{Sixteen, length-flatten, slotCount-fill}
+use Rattle.slots.specs.Canon.{Sixteen}
+use Rattle.slots.specs.Canon.Areas.{length-flatten, fill-none}
+use Rattle.monitor_spec.specs.State.Areas.{slotCount-fill}
 use Rattle.step_laws.specs.Holds.{heldIn}
 use Rattle.feeding.specs.declared.event.Next.{Next}
 use Rattle.feeding.specs.declared.event.Next.the-variants.{Count, Refused}
 use Rattle.feeding.specs.Feeding.{Empty, NextBy, Holding, Advanced}
-use Rattle.feeding.proofs.event.Sets.{fill-none}
 
 -- the words in use are zeroed, and the others were zero
 cleared-fill : (n : ℕ) (ss : List (List ℕ)) → All Sixteen ss → length ss ≤ n

@@ -2,10 +2,10 @@
 --     next-unknown, next-full, next-exceeded    refusals 11, 12 and 13
 --     next-count                                the residuals have room
 -- Assumes nothing.
-use Prim.Native.Nat.{ℕ, _-_, _*_, _≤_, _<_}
+use Prim.Native.Nat.{ℕ, _*_, _≤_, _<_}
 use native.Mathlib.Omega.{arith}
 use mathlib.Core.Path.{_≡_, ap, sym, _∙_}
-use mathlib.Core.List.{List, [], flatten}
+use mathlib.Core.List.{List, []}
 use lib.ListN.{length}
 use Rattle.table.specs.Table.{Table}
 use Rattle.table.specs.Operations.{zeros}
@@ -16,7 +16,7 @@ use Rattle.set_step.specs.Stepped.{SteppedSet}
 use Rattle.residuals.specs.Residual.{Residual, afterAll}
 use Rattle.residuals.specs.Slots.{slotsOf}
 use Rattle.monitor_spec.specs.State.{slotCount, fill}
-use Rattle.monitor_spec.specs.State.Areas.{length-fill}
+use Rattle.slots.specs.Canon.Areas.{length-fill, fill-none}
 use Rattle.monitor_spec.specs.Feed.{counterMost}
 use Rattle.monitor_spec.specs.Feed.Laws.{event-unknown, event-full, event-exceeded, event-passes}
 use Rattle.step_laws.specs.Holds.{AreaHolds, heldIn}
@@ -24,10 +24,6 @@ use Rattle.step_laws.specs.Filled.{Filled}
 use Rattle.step_laws.specs.Filled.Laws.{stepped-filled}
 use Rattle.feeding.specs.declared.event.Next.the-variants.{Count, Refused}
 use Rattle.feeding.specs.Feeding.{Empty, NextBy}
-
-pub fill-none : (n : ℕ) → fill n [] ≡ zeros (n * 16)
-unfolding fill flatten
-fill-none n = let i : (n - 0) * 16 ≡ n * 16 = omega arith in ap zeros i
 
 module _ (t : Table) (e k : ℕ) (p : List ℕ) (c : ℕ) (o : List ℕ) (z : Empty o) where
   abbrev cap : ℕ

@@ -23,8 +23,10 @@ use Rattle.monitor_spec.specs.State.{chunks, fill, laid}
 use Rattle.monitor_spec.specs.Consistent.{every, allZero, ascendsFrom, ascends, verdictFits, peakFits, recordFits}
 use Rattle.monitor_spec.specs.Consistent.{areaFits, consistent}
 use Rattle.monitor_spec.specs.Feed.{presentSlots, nextSlots, taking}
-use Rattle.monitor_spec.specs.State.Areas.{Sixteen, both-true, choose-twice, choose-flip, choose-same, choose-ap}
-use Rattle.monitor_spec.specs.State.Areas.{even-suc, length-fill, slotCount-fill, chunks-fill, zero-after}
+use Rattle.slots.specs.Canon.{Sixteen}
+use Rattle.monitor_spec.specs.State.Areas.{both-true, choose-twice, choose-flip, choose-same, choose-ap}
+use Rattle.slots.specs.Canon.Areas.{length-fill}
+use Rattle.monitor_spec.specs.State.Areas.{even-suc, slotCount-fill, chunks-fill, zero-after}
 use Rattle.monitor_spec.specs.State.Areas.{zero-fill}
 use Rattle.monitor_spec.specs.Sensible.{Agrees, Sensible}
 use Rattle.monitor_spec.specs.Expected.Verdicts.{some-length, none-length}

@@ -4,17 +4,16 @@ use native.Mathlib.Omega.{arith}
 use mathlib.Core.Path.{_≡_, refl, ap, ap₂, _∙_}
 use mathlib.Core.Bool.{Bool, true, false, not, _&&_}
 use mathlib.Core.List.{List, [], _∷_, _++_, append-assoc, flatten}
-use lib.ListN.{length, take, drop, replicate, length-append, length-replicate}
+use lib.ListN.{length, take, drop}
 use lib.Seq.{take-at, drop-at}
 use lib.Dec.{eqb}
 use borrow.Author.Tests.{eq-eqb, ne-eqb}
 use Rattle.numbers.specs.Every.{All}
+use Rattle.slots.specs.Canon.{Sixteen}
+use Rattle.slots.specs.Canon.Areas.{length-flatten, length-fill}
 use Rattle.monitor_spec.specs.State.{slotCount, even, choose, chunks, fill}
 use Rattle.table.specs.Operations.{zeros}
 use Rattle.monitor_spec.specs.Consistent.{every, allZero}
-
-abbrev pub Sixteen : List ℕ → Type 0
-Sixteen s = length s ≡ 16
 
 pub both-true : {a b : Bool} → a ≡ true → b ≡ true → (a && b) ≡ true
 both-true {a} {b} e f = rw (e, f)
@@ -57,28 +56,11 @@ even-suc n = by (native.Mathlib.Decide.ℕ-discrete (n % 2) 0)
     by (yes h) = rw (eq-eqb (n % 2) 0 h) (ne-eqb (suc n % 2) 0 (λ k. omega arith))
     by (no h) = rw (ne-eqb (n % 2) 0 h) (eq-eqb (suc n % 2) 0 (omega arith))
 
--- ---- lengths
-
-pub length-flatten : (ss : List (List ℕ)) → All Sixteen ss → length (flatten ss) ≡ length ss * 16
-unfolding flatten
-length-flatten [] h = refl
-length-flatten (s ∷ ss) h =
-    let a = length-flatten ss (h .1) in
-    let b = h .0 in
-    omega (arith, length-append s (flatten ss))
-
-pub length-fill : (n : ℕ) (ss : List (List ℕ)) → All Sixteen ss → length ss ≤ n → length (fill n ss) ≡ n * 16
-unfolding fill
-length-fill n ss h l =
-    let a = length-flatten ss h in
-    let b = length-replicate {A = ℕ} ((n - length ss) * 16) 0 in
-    omega (arith, length-append (flatten ss) (replicate ((n - length ss) * 16) 0))
+-- ---- reading back
 
 pub slotCount-fill : (n : ℕ) (ss : List (List ℕ)) → All Sixteen ss → length ss ≤ n → slotCount (fill n ss) ≡ n
 unfolding slotCount
 slotCount-fill n ss h l = let a = length-fill n ss h l in omega arith
-
--- ---- reading back
 
 chunks-flatten : (ss : List (List ℕ)) (rest : List ℕ) → All Sixteen ss → chunks (length ss) (flatten ss ++ rest) ≡ ss
 unfolding chunks flatten

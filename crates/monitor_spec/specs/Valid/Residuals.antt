@@ -22,7 +22,7 @@ use Rattle.monitor_spec.specs.Valid.{slotResidual, held}
 use Rattle.monitor_spec.specs.Proper.{Remembers, Fits, Proper}
 use Rattle.monitor_spec.specs.Proper.Nodes.{nodes-most}
 use Rattle.monitor_spec.specs.Valid.Packing.{DigitsAll, slotResidual-slotOf}
-use Rattle.monitor_spec.specs.State.Areas.{Sixteen}
+use Rattle.slots.specs.Canon.{Sixteen}
 
 any-in : (X : List ℕ → Type 0) (l : List (List ℕ)) → Any X l → (a : List ℕ) × In a l × X a
 any-in X [] h = absurd h

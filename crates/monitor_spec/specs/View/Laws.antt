@@ -17,8 +17,9 @@ use Rattle.residuals.specs.Residual.{Residual}
 use Rattle.residuals.specs.Slots.{slotsOf}
 use Rattle.monitor_spec.specs.State.{Verdict, running, failedAt, State, Monitor, even, choose, fill, laid}
 use Rattle.monitor_spec.specs.View.{Part, noPart, partBy, viewPart, wordsIn, viewOf}
-use Rattle.monitor_spec.specs.State.Areas.{Sixteen, choose-ap, present-even, present-odd}
-use Rattle.monitor_spec.specs.State.Areas.{length-flatten, length-fill}
+use Rattle.slots.specs.Canon.{Sixteen}
+use Rattle.monitor_spec.specs.State.Areas.{choose-ap, present-even, present-odd}
+use Rattle.slots.specs.Canon.Areas.{length-flatten, length-fill}
 use Rattle.monitor_spec.specs.Expected.Verdicts.{slots-none}
 use Rattle.monitor_spec.specs.Sensible.{Agrees, Sensible}
 use Rattle.monitor_spec.specs.Expected.Laid.{all-sixteen}

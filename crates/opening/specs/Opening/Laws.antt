@@ -10,7 +10,7 @@ use Prim.Native.Nat.{ℕ, _-_, _*_, _%_, _<_, _≤_}
 use native.Mathlib.Omega.{arith}
 use mathlib.Core.Path.{_≡_, ap, sym, subst, _∙_}
 use mathlib.Core.Bool.{Bool, true, _&&_}
-use mathlib.Core.List.{List, [], flatten}
+use mathlib.Core.List.{List, []}
 use lib.ListN.{length}
 use lib.Dec.{eqb}
 use borrow.Author.Tests.{eqb-true}
@@ -24,6 +24,7 @@ use Rattle.index.specs.Facts.{indexed-rules}
 use Rattle.meaning.specs.Figure1.{bodyCount, last}
 use Rattle.slots.specs.declared.slots.Held.{Held}
 use Rattle.slots.specs.declared.slots.Held.the-variants.{Count, Exceeded}
+use Rattle.slots.specs.Canon.Areas.{fill-none}
 use Rattle.slots.specs.Holding.{putAll, Gave}
 use Rattle.set_step.specs.Started.{ResolvesAll, initial}
 use Rattle.residuals.specs.Residual.{fromDefinition, residualsOf}
@@ -66,8 +67,7 @@ areas-length a b e =
     (omega arith, omega arith)
 
 cleared : (n k : ℕ) → k ≡ n * 16 → zeros k ≡ fill n []
-unfolding fill flatten
-cleared n k e = let z : k ≡ (n - 0) * 16 = omega arith in rw z
+cleared n k e = ap zeros e ∙ sym (fill-none n)
 
 pub areas-cleared : (a b : List ℕ) → areasMeasured a b ≡ true
     → (zeros (length a) ≡ fill (slotCount a) []) × (zeros (length b) ≡ fill (slotCount a) [])

@@ -3,10 +3,10 @@
 --     stepped                      the slots of the residuals after the event
 --     exceeded                     no room, where these are more than fit
 -- Assumes nothing.
-use Prim.Native.Nat.{ℕ, _+_, _-_, _*_, _<_, _≤_}
+use Prim.Native.Nat.{ℕ, _+_, _*_, _<_, _≤_}
 use native.Mathlib.Omega.{arith}
 use mathlib.Core.Path.{_≡_, refl, ap, sym, _∙_}
-use mathlib.Core.List.{List, [], _∷_, map, flatMap, append-nil, map-append, flatten}
+use mathlib.Core.List.{List, [], _∷_, map, flatMap, append-nil, map-append}
 use lib.ListN.{length, replicate}
 use Rattle.numbers.specs.Every.{All, all-imp, all-append}
 use Rattle.table.specs.Table.{Table}
@@ -14,7 +14,8 @@ use Rattle.residuals.specs.Residual.{Residual, after, afterAll}
 use Rattle.residuals.specs.Slots.{nodes, slotsOf}
 use Rattle.slots.specs.declared.slots.Held.the-variants.{Count, Exceeded}
 use Rattle.slots.specs.Holding.{said, putAll}
-use Rattle.slots.specs.Canon.{canon, areaOf, Slots, SameMembers}
+use Rattle.slots.specs.Canon.{canon, fill, Slots, SameMembers}
+use Rattle.slots.specs.Canon.Areas.{fill-none}
 use Rattle.slots.specs.Canon.Laws.{put-canon, put-exceeded-canon}
 use Rattle.slots.specs.Canon.Canonical.{canon-members}
 use Rattle.slots.specs.Canon.Members.{sub-map, slots-in}
@@ -50,11 +51,6 @@ gathered-of t e src i n (r ∷ rs) en h =
     rw (en, h .0, results-of t e r (h .1), gathered-of t e src (i + 1) (length rs) rs refl (h .2))
     (sym (ap (onto empty) (map-append nodes (afterKept t e r) (allKept t e rs))
     ∙ onto-append empty (map nodes (afterKept t e r)) (map nodes (allKept t e rs))))
-
--- the area with no slot is all zero
-pub no-slots : (most : ℕ) → areaOf most [] ≡ replicate (most * 16) 0
-unfolding areaOf flatten
-no-slots most = let z : (most - 0) * 16 ≡ most * 16 = omega arith in rw z
 
 -- ---- the same with the repeats
 
@@ -127,11 +123,11 @@ module _ (t : Table) (e : ℕ) (src : List ℕ) (rs : List Residual) (h : SlotsH
 
     pub stepped : length (slotsOf (afterAll t e rs)) ≤ most
         → putAll (replicate (most * 16) 0) 0 xs
-        ≡ said (Count (length (slotsOf (afterAll t e rs)))) (areaOf most (slotsOf (afterAll t e rs)))
+        ≡ said (Count (length (slotsOf (afterAll t e rs)))) (fill most (slotsOf (afterAll t e rs)))
     stepped k =
-        rw (← (no-slots most), ← canon-is)
+        rw (← (fill-none most), ← canon-is)
         (put-canon most xs slots (rw canon-is k))
 
     pub exceeded : most < length (slotsOf (afterAll t e rs)) → (putAll (replicate (most * 16) 0) 0 xs) .held ≡ Exceeded
     exceeded k =
-        rw (← (no-slots most)) (put-exceeded-canon most xs slots (rw canon-is k))
+        rw (← (fill-none most)) (put-exceeded-canon most xs slots (rw canon-is k))

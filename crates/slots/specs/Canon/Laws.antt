@@ -21,32 +21,13 @@ use Rattle.slots.specs.declared.slots.Inserted.the-variants as ins
 use Rattle.slots.specs.declared.slots.Held.{Held}
 use Rattle.slots.specs.declared.slots.Held.the-variants.{Count, Exceeded}
 use Rattle.slots.specs.Holding.{Outcome, said, putOne, chain, putAll}
-use Rattle.slots.specs.Canon.{insertSorted, canon, areaOf, Slots}
+use Rattle.slots.specs.Canon.{insertSorted, canon, fill, Sixteen, Slots}
 use Rattle.slots.specs.Canon.Canonical.{Ascending, in-canon, canon-ascending, canon-snoc, canon-grows}
 use Rattle.slots.specs.Canon.Members.{slots-in}
+use Rattle.slots.specs.Canon.Areas.{flatten-append, slots-append, length-flatten, length-fill}
 use Rattle.slots.specs.Canon.Places.{placeAmong, place-in, Split, split-place, held-same}
 
 -- ---- the words of an area
-
-flatten-append : (a b : List (List ℕ)) → flatten (a ++ b) ≡ flatten a ++ flatten b
-unfolding flatten
-flatten-append [] b = refl
-flatten-append (x ∷ a) b = rw (flatten-append a b) (sym (append-assoc x (flatten a) (flatten b)))
-
-slots-append : (a b : List (List ℕ)) → Slots (a ++ b) → Slots a × Slots b
-slots-append [] b v = (tt, v)
-slots-append (x ∷ a) b v = let r = slots-append a b (v .1) in ((v .0, r .0), r .1)
-
-length-flatten : (xs : List (List ℕ)) → Slots xs → length (flatten xs) ≡ length xs * 16
-unfolding flatten
-length-flatten [] v = omega arith
-length-flatten (x ∷ xs) v = length-append x (flatten xs) ∙ omega (arith, v .0, length-flatten xs (v .1))
-
-length-area : (cap : ℕ) (xs : List (List ℕ)) → Slots xs → length xs ≤ cap → length (areaOf cap xs) ≡ cap * 16
-unfolding areaOf
-length-area most xs v h =
-    length-append (flatten xs) _
-    ∙ omega (arith, length-flatten xs v, length-replicate {A = ℕ} ((most - length xs) * 16) 0)
 
 zeros-less : (n : ℕ) → drop {A = ℕ} 16 (replicate (n + 16) 0) ≡ replicate n 0
 zeros-less n =
@@ -108,8 +89,8 @@ module _ (a b s : List ℕ) (z p n : ℕ) (ep : length a ≡ p) (en : length a +
 
 module _ (most : ℕ) (xs : List (List ℕ)) (s : List ℕ) (v : Slots xs) (u : Ascending xs) (es : length s ≡ 16)
     (h : length xs ≤ most) where
-  there : placeIn (length xs) (areaOf most xs) s ≡ placeAmong xs s 0
-  unfolding areaOf
+  there : placeIn (length xs) (fill most xs) s ≡ placeAmong xs s 0
+  unfolding fill
   there = place-in s es xs (replicate ((most - length xs) * 16) 0) v u
 
   module _ (i : ℕ) (e : placeAmong xs s 0 ≡ place.At i) where
@@ -126,9 +107,9 @@ module _ (most : ℕ) (xs : List (List ℕ)) (s : List ℕ) (v : Slots xs) (u : 
     longer = ap length (d .put) ∙ length-append (d .a) (s ∷ d .b) ∙ omega (arith, lengths)
 
     module _ (w : length xs < most) where
-      area-before : areaOf most xs
+      area-before : fill most xs
           ≡ flatten (d .a) ++ (flatten (d .b) ++ replicate ((most - length xs - 1) * 16 + 16) 0)
-      unfolding areaOf
+      unfolding fill
       area-before =
           let z : (most - length xs) * 16 ≡ (most - length xs - 1) * 16 + 16 = omega arith in
           ap (λ (k : ℕ). flatten xs ++ replicate k 0) z
@@ -136,9 +117,9 @@ module _ (most : ℕ) (xs : List (List ℕ)) (s : List ℕ) (v : Slots xs) (u : 
           (ap flatten (d .whole) ∙ flatten-append (d .a) (d .b))
           ∙ append-assoc (flatten (d .a)) (flatten (d .b)) _
 
-      area-after : areaOf most (insertSorted s xs)
+      area-after : fill most (insertSorted s xs)
           ≡ flatten (d .a) ++ (s ++ (flatten (d .b) ++ replicate ((most - length xs - 1) * 16) 0))
-      unfolding areaOf flatten
+      unfolding fill flatten
       area-after =
           let z : (most - length (insertSorted s xs)) * 16 ≡ (most - length xs - 1) * 16 = omega (arith, longer) in
           ap (λ (k : ℕ). flatten (insertSorted s xs) ++ replicate k 0) z
@@ -147,8 +128,8 @@ module _ (most : ℕ) (xs : List (List ℕ)) (s : List ℕ) (v : Slots xs) (u : 
           ∙ append-assoc (flatten (d .a)) (s ++ flatten (d .b)) _
           ∙ ap (λ (l : List ℕ). flatten (d .a) ++ l) (append-assoc s (flatten (d .b)) _)
 
-      inserted : stored (gapped (areaOf most xs) (i * 16) (length xs * 16)) (i * 16) s 16
-          ≡ areaOf most (insertSorted s xs)
+      inserted : stored (gapped (fill most xs) (i * 16) (length xs * 16)) (i * 16) s 16
+          ≡ fill most (insertSorted s xs)
       inserted =
           ap (λ (l : List ℕ). stored (gapped l (i * 16) (length xs * 16)) (i * 16) s 16) area-before
           ∙ opened (flatten (d .a)) (flatten (d .b)) s ((most - length xs - 1) * 16) (i * 16) (length xs * 16)
@@ -156,32 +137,32 @@ module _ (most : ℕ) (xs : List (List ℕ)) (s : List ℕ) (v : Slots xs) (u : 
           (omega (arith, length-flatten (d .a) (parts .0), length-flatten (d .b) (parts .1), lengths)) es
           ∙ sym area-after
 
-      put-new-slot : putOne (areaOf most xs) (length xs) s
-          ≡ said (Count (length (insertSorted s xs))) (areaOf most (insertSorted s xs))
+      put-new-slot : putOne (fill most xs) (length xs) s
+          ≡ said (Count (length (insertSorted s xs))) (fill most (insertSorted s xs))
       unfolding putOne insertAnswer insertWords
       put-new-slot =
-          let f : ltb (length (areaOf most xs) - length xs * 16) 16
-          ≡ false = le-ltb (length (areaOf most xs) - length xs * 16) 16 (omega (arith, length-area most xs v h))
+          let f : ltb (length (fill most xs) - length xs * 16) 16
+          ≡ false = le-ltb (length (fill most xs) - length xs * 16) 16 (omega (arith, length-fill most xs v h))
           in
           rw (there, e, f, inserted, longer)
 
-    put-full : length xs ≡ most → (putOne (areaOf most xs) (length xs) s) .held ≡ Exceeded
+    put-full : length xs ≡ most → (putOne (fill most xs) (length xs) s) .held ≡ Exceeded
     unfolding putOne insertAnswer
     put-full w =
-        let f : ltb (length (areaOf most xs) - length xs * 16) 16
-        ≡ true = lt-ltb (length (areaOf most xs) - length xs * 16) 16 (omega (arith, length-area most xs v h)) in
+        let f : ltb (length (fill most xs) - length xs * 16) 16
+        ≡ true = lt-ltb (length (fill most xs) - length xs * 16) 16 (omega (arith, length-fill most xs v h)) in
         rw (there, e, f)
 
-  put-held-slot : placeAmong xs s 0 ≡ place.Held → putOne (areaOf most xs) (length xs) s
-      ≡ said (Count (length (insertSorted s xs))) (areaOf most (insertSorted s xs))
+  put-held-slot : placeAmong xs s 0 ≡ place.Held → putOne (fill most xs) (length xs) s
+      ≡ said (Count (length (insertSorted s xs))) (fill most (insertSorted s xs))
   unfolding putOne insertAnswer insertWords
   put-held-slot e = rw (there, e, held-same xs s 0 e)
 
   -- a slot is held, or refused exactly where the slots would be more than fit
   pub record PutSlot : Type 0 where
-    pub held : length (insertSorted s xs) ≤ most → putOne (areaOf most xs) (length xs) s
-        ≡ said (Count (length (insertSorted s xs))) (areaOf most (insertSorted s xs))
-    pub refused : most < length (insertSorted s xs) → (putOne (areaOf most xs) (length xs) s) .held ≡ Exceeded
+    pub held : length (insertSorted s xs) ≤ most → putOne (fill most xs) (length xs) s
+        ≡ said (Count (length (insertSorted s xs))) (fill most (insertSorted s xs))
+    pub refused : most < length (insertSorted s xs) → (putOne (fill most xs) (length xs) s) .held ≡ Exceeded
 
   by-place : (q : Place) → placeAmong xs s 0 ≡ q → PutSlot
   by-place place.Held e =
@@ -205,31 +186,31 @@ module _ (most : ℕ) (l : List (List ℕ)) (s : List ℕ) (v : Slots l) (es : l
     held-slots : Slots (canon l)
     held-slots = slots-in (canon l) l v (λ a i. in-canon a l .0 i)
 
-    next-held : length (canon (l ++ s ∷ [])) ≤ most → putOne (areaOf most (canon l)) (length (canon l)) s
-        ≡ said (Count (length (canon (l ++ s ∷ [])))) (areaOf most (canon (l ++ s ∷ [])))
+    next-held : length (canon (l ++ s ∷ [])) ≤ most → putOne (fill most (canon l)) (length (canon l)) s
+        ≡ said (Count (length (canon (l ++ s ∷ [])))) (fill most (canon (l ++ s ∷ [])))
     next-held k =
         rw (canon-snoc l s)
         (put-slot most (canon l) s held-slots (canon-ascending l) es h .held (rw (canon-snoc l s) at k))
 
     next-refused : most < length (canon (l ++ s ∷ []))
-        → (putOne (areaOf most (canon l)) (length (canon l)) s) .held ≡ Exceeded
+        → (putOne (fill most (canon l)) (length (canon l)) s) .held ≡ Exceeded
     next-refused k =
         put-slot most (canon l) s held-slots (canon-ascending l) es h .refused (rw (canon-snoc l s) at k)
 
     exceeded-by : (ss : List (List ℕ)) → (length (canon (l ++ s ∷ [])) ≤ most
-        → (putAll (areaOf most (canon (l ++ s ∷ []))) (length (canon (l ++ s ∷ []))) ss) .held ≡ Exceeded)
+        → (putAll (fill most (canon (l ++ s ∷ []))) (length (canon (l ++ s ∷ []))) ss) .held ≡ Exceeded)
         → Dec (most < length (canon (l ++ s ∷ [])))
-        → (chain ((putOne (areaOf most (canon l)) (length (canon l)) s) .held)
-        ((putOne (areaOf most (canon l)) (length (canon l)) s) .area) (λ l c. putAll l c ss)) .held ≡ Exceeded
+        → (chain ((putOne (fill most (canon l)) (length (canon l)) s) .held)
+        ((putOne (fill most (canon l)) (length (canon l)) s) .area) (λ l c. putAll l c ss)) .held ≡ Exceeded
     exceeded-by ss ih (yes z) = stays _ _ (next-refused z)
     exceeded-by ss ih (no z) = rw (next-held (omega arith)) (ih (omega arith))
 
     more : Slots (l ++ s ∷ [])
-    more = all-append (λ x. length x ≡ 16) l (s ∷ []) v (es, tt)
+    more = all-append Sixteen l (s ∷ []) v (es, tt)
 
 put-from : (most : ℕ) (l ss : List (List ℕ)) → Slots l → Slots ss → length (canon l) ≤ most
-    → length (canon (l ++ ss)) ≤ most → putAll (areaOf most (canon l)) (length (canon l)) ss
-    ≡ said (Count (length (canon (l ++ ss)))) (areaOf most (canon (l ++ ss)))
+    → length (canon (l ++ ss)) ≤ most → putAll (fill most (canon l)) (length (canon l)) ss
+    ≡ said (Count (length (canon (l ++ ss)))) (fill most (canon (l ++ ss)))
 unfolding putAll
 put-from most l [] v w h k = rw (append-nil l)
 put-from most l (s ∷ ss) v w h k =
@@ -240,7 +221,7 @@ put-from most l (s ∷ ss) v w h k =
     (put-from most (l ++ s ∷ []) ss (more most l s v (w .0) h) (w .1) g k')
 
 exceeded-from : (most : ℕ) (l ss : List (List ℕ)) → Slots l → Slots ss → length (canon l) ≤ most
-    → most < length (canon (l ++ ss)) → (putAll (areaOf most (canon l)) (length (canon l)) ss) .held ≡ Exceeded
+    → most < length (canon (l ++ ss)) → (putAll (fill most (canon l)) (length (canon l)) ss) .held ≡ Exceeded
 unfolding putAll
 exceeded-from most l [] v w h k = absurd (omega (arith, ap (λ (a : List (List ℕ)). length (canon a)) (append-nil l)))
 exceeded-from most l (s ∷ ss) v w h k =
@@ -252,11 +233,11 @@ exceeded-from most l (s ∷ ss) v w h k =
 -- holding slots in an area of none gives the ascending slots without repeats; it is exceeded exactly where these are
 -- more than fit
 pub put-canon : (most : ℕ) (ss : List (List ℕ)) → Slots ss → length (canon ss) ≤ most
-    → putAll (areaOf most []) 0 ss ≡ said (Count (length (canon ss))) (areaOf most (canon ss))
+    → putAll (fill most []) 0 ss ≡ said (Count (length (canon ss))) (fill most (canon ss))
 unfolding canon
 put-canon most ss w k = put-from most [] ss tt w (omega arith) k
 
 pub put-exceeded-canon : (most : ℕ) (ss : List (List ℕ)) → Slots ss → most < length (canon ss)
-    → (putAll (areaOf most []) 0 ss) .held ≡ Exceeded
+    → (putAll (fill most []) 0 ss) .held ≡ Exceeded
 unfolding canon
 put-exceeded-canon most ss w k = exceeded-from most [] ss tt w (omega arith) k

@@ -8,9 +8,8 @@ use Prim.Native.Nat.{ℕ}
 use mathlib.Core.Path.{_≡_, refl, ap}
 use mathlib.Core.Logic.{_⊎_, inl, inr, ⊎-elim}
 use mathlib.Core.List.{List, [], _∷_, _++_, map}
-use lib.ListN.{length}
 use Rattle.numbers.specs.Some.{any-append-left, any-append-right, any-append-cases}
-use Rattle.slots.specs.Canon.{Slots, In, SameMembers}
+use Rattle.slots.specs.Canon.{Sixteen, Slots, In, SameMembers}
 use Rattle.slots.specs.Canon.Canonical.{all-of, of-all}
 
 abbrev pub Sub : List (List ℕ) → List (List ℕ) → Type 0
@@ -64,4 +63,4 @@ same-map g a b f = (sub-map g a b (f .0), sub-map g b a (f .1))
 -- ---- slots
 
 pub slots-in : (xs ys : List (List ℕ)) → Slots ys → Sub xs ys → Slots xs
-slots-in xs ys v f = all-of (λ x. length x ≡ 16) xs (λ a i. of-all (λ x. length x ≡ 16) ys v a (f a i))
+slots-in xs ys v f = all-of Sixteen xs (λ a i. of-all Sixteen ys v a (f a i))

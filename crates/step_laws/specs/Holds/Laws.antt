@@ -23,7 +23,9 @@ use Rattle.monitor_spec.specs.Valid.{held}
 use Rattle.monitor_spec.specs.Valid.Laws.{SlotOf}
 use Rattle.monitor_spec.specs.Valid.Residuals.{held-some, read-back, slot-sixteen, slots-all, slots-after}
 use Rattle.monitor_spec.specs.State.{Monitor, areasMeasured, slotCount, even, choose, chunks, fill, laid}
-use Rattle.monitor_spec.specs.State.Areas.{Sixteen, choose-twice, length-fill, chunks-fill}
+use Rattle.slots.specs.Canon.{Sixteen}
+use Rattle.slots.specs.Canon.Areas.{length-fill}
+use Rattle.monitor_spec.specs.State.Areas.{choose-twice, chunks-fill}
 use Rattle.monitor_spec.specs.Consistent.{consistent}
 use Rattle.monitor_spec.specs.Consistent.Reading.{consistent-laid}
 use Rattle.monitor_spec.specs.Regular.Laws.{regular}
