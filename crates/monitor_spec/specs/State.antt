@@ -3,7 +3,8 @@
 --     counted, holding                 one event more is taken; so many residuals are held
 --     freshState, stateAfter           the record before any event; the record after one event more
 --     Answer, Outcome                  a result, a refusal, a refusal with a record; the answer with all lent words
---     areasMeasured, workMeasured      lent lengths;  slotCount: how many slots an area has
+--     lengthsFit, areasMeasured        the lengths of both areas, as numbers; of the areas
+--     workMeasured, slotCount          the length of the work area; how many slots an area has
 --     even, choose                     which area is present
 --     chunks, fill, laid               an area's slots; slots and then zeros; a record with its slots laid out
 -- The laws are in `State/`: `Records`, `Areas`. Assumes nothing.
@@ -77,8 +78,12 @@ pub record Outcome : Type 0 where
   pub work : List ℕ
 
 -- "Lent areas 0 and 1: u64 words, equal lengths, a multiple of 16 from 16 to 4,096."
+unfoldable pub lengthsFit : ℕ → ℕ → Bool
+lengthsFit a b = eqb a b && (eqb (a % 16) 0 && (leb 16 a && leb a 4096))
+
 unfoldable pub areasMeasured : List ℕ → List ℕ → Bool
-areasMeasured a b = eqb (length a) (length b) && (eqb (length a % 16) 0 && (leb 16 (length a) && leb (length a) 4096))
+unfolding lengthsFit
+areasMeasured a b = lengthsFit (length a) (length b)
 
 -- "The work area, lent to all but View, is 8,192 u64 words"
 unfoldable pub workMeasured : List ℕ → Bool

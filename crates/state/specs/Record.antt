@@ -2,10 +2,9 @@
 -- definition"), and what the functions on the record promise.
 --     verdictOf, stateOf, monitorOf    a verdict, a record, a record with both areas
 --     succeeding                       the record after an event, while events can be counted
---     lengthsFit                       the lengths of lent areas, as numbers
 -- The laws are in `Record/Laws.antt`. Assumes nothing.
-use Prim.Native.Nat.{ℕ, _%_}
-use mathlib.Core.Bool.{Bool, true, false, _&&_}
+use Prim.Native.Nat.{ℕ}
+use mathlib.Core.Bool.{true, false, _&&_}
 use mathlib.Core.List.{List}
 use lib.Dec.{eqb, leb}
 use Rattle.state.specs.declared.record.Verdict.{Verdict as VerdictCode}
@@ -29,7 +28,3 @@ monitorOf s a b = record { state = stateOf s; area0 = a; area1 = b }
 -- the record after an event that leaves n residuals; where no event more can be counted it stays, and Feed refuses (12)
 unfoldable pub succeeding : State → ℕ → State
 succeeding s n = elim (eqb (s .taken) counterMost) [ true ↦ s | false ↦ stateAfter s n ]
-
--- `areasMeasured`
-unfoldable pub lengthsFit : ℕ → ℕ → Bool
-lengthsFit a b = eqb a b && (eqb (a % 16) 0 && (leb 16 a && leb a 4096))

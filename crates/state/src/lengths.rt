@@ -1,6 +1,6 @@
 // Whether the lengths of lent areas are as they must be (document 01, "Operations"; refusal 1).
 ghost use mathlib.Core.Path.{_≡_};
-ghost use Rattle.state.specs.Record.{lengthsFit};
+ghost use Rattle.monitor_spec.specs.State.{lengthsFit};
 
 // Of the lengths of area 0 and area 1.
 pub fn lengths_fit(a: usize, b: usize) -> bool

@@ -178,7 +178,7 @@ unfolding choose
 choose-length true x y n e f = e
 choose-length false x y n e f = f
 
-areas-length : (a b : List ℕ) → areasMeasured a b ≡ true
+pub areas-length : (a b : List ℕ) → areasMeasured a b ≡ true
     → (length a ≡ slotCount a * 16) × (length b ≡ slotCount a * 16)
 unfolding areasMeasured slotCount
 areas-length a b e =

@@ -6,14 +6,12 @@
 --     opened-run, opened-exceeded                        an accepted table
 --     open-enters, open-declined, open-accepted          any list and any lengths
 -- Assumes nothing.
-use Prim.Native.Nat.{ℕ, _-_, _*_, _%_, _<_, _≤_}
+use Prim.Native.Nat.{ℕ, _-_, _*_, _<_, _≤_}
 use native.Mathlib.Omega.{arith}
 use mathlib.Core.Path.{_≡_, ap, sym, subst, _∙_}
 use mathlib.Core.Bool.{Bool, true, _&&_}
 use mathlib.Core.List.{List, []}
 use lib.ListN.{length}
-use lib.Dec.{eqb}
-use borrow.Author.Tests.{eqb-true}
 use Rattle.table.specs.Table.{Table}
 use Rattle.table.specs.Operations.{zeros}
 use Rattle.table_index.specs.Index.{tableIn, Indexed}
@@ -29,8 +27,9 @@ use Rattle.slots.specs.Holding.{putAll, Gave}
 use Rattle.set_step.specs.Started.{ResolvesAll, initial}
 use Rattle.residuals.specs.Residual.{fromDefinition, residualsOf}
 use Rattle.residuals.specs.Slots.{slotsOf}
-use Rattle.monitor_spec.specs.State.{freshState, Monitor, refused, areasMeasured, workMeasured, slotCount, fill}
-use Rattle.monitor_spec.specs.Valid.Laws.{and-split}
+use Rattle.monitor_spec.specs.Consistent.Reading.{areas-length}
+use Rattle.monitor_spec.specs.State.{freshState, Monitor, refused, lengthsFit, areasMeasured, workMeasured}
+use Rattle.monitor_spec.specs.State.{slotCount, fill}
 use Rattle.monitor_spec.specs.Regular.Laws.{regular}
 use Rattle.monitor_spec.specs.Entering.{Entrance, entrance, refusing}
 use Rattle.monitor_spec.specs.Fold.{through}
@@ -43,7 +42,7 @@ use Rattle.monitor_spec.specs.History.Begun.{fresh-laid}
 use Rattle.state.specs.declared.answer.Answer.{Answer}
 use Rattle.state.specs.declared.answer.Answer.the-variants.{Refused}
 use Rattle.state.specs.declared.record.State as code
-use Rattle.state.specs.Record.{stateOf, monitorOf, lengthsFit}
+use Rattle.state.specs.Record.{stateOf, monitorOf}
 use Rattle.state.specs.Record.Laws.{lengths-measured}
 use Rattle.state.specs.Answers.{outcome}
 use Rattle.entering.specs.Entered.{Entered}
@@ -55,16 +54,6 @@ use Rattle.feeding.specs.Feeding.{Standing, EndedBy}
 use Rattle.opening.specs.Opening.{Resolved, OpenedBy}
 
 -- ---- areas of the right lengths
-
-areas-length : (a b : List ℕ) → areasMeasured a b ≡ true
-    → (length a ≡ slotCount a * 16) × (length b ≡ slotCount a * 16)
-unfolding areasMeasured slotCount
-areas-length a b e =
-    let (x, y) = and-split (eqb (length a) (length b)) _ e in
-    let (z, w) = and-split (eqb (length a % 16) 0) _ y in
-    let g = eqb-true (length a) (length b) x in
-    let h = eqb-true (length a % 16) 0 z in
-    (omega arith, omega arith)
 
 cleared : (n k : ℕ) → k ≡ n * 16 → zeros k ≡ fill n []
 cleared n k e = ap zeros e ∙ sym (fill-none n)

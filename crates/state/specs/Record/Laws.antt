@@ -6,13 +6,13 @@ use mathlib.Core.List.{List}
 use lib.ListN.{length}
 use borrow.Author.Tests.{eq-eqb, ne-eqb}
 use Rattle.monitor_spec.specs.State.{Verdict, running, failedAt, State, nextVerdict, counted, holding, freshState}
-use Rattle.monitor_spec.specs.State.{stateAfter, areasMeasured}
+use Rattle.monitor_spec.specs.State.{stateAfter, lengthsFit, areasMeasured}
 use Rattle.monitor_spec.specs.State.Records.{state-path, next-some, next-none, next-failed}
 use Rattle.monitor_spec.specs.Feed.{counterMost}
 use Rattle.state.specs.declared.record.Verdict.{Verdict as VerdictCode}
 use Rattle.state.specs.declared.record.Verdict.the-variants.{Running, Failed}
 use Rattle.state.specs.declared.record.State.{State as StateCode}
-use Rattle.state.specs.Record.{verdictOf, stateOf, succeeding, lengthsFit}
+use Rattle.state.specs.Record.{verdictOf, stateOf, succeeding}
 
 -- ---- residuals are held
 
@@ -72,5 +72,5 @@ after-held s u r n h c e = e ∙ ap (λ (x : State). holding x n) c ∙ sym (suc
 -- ---- lengths
 
 pub lengths-measured : (a b : List ℕ) → lengthsFit (length a) (length b) ≡ areasMeasured a b
-unfolding lengthsFit areasMeasured
+unfolding areasMeasured
 lengths-measured a b = refl

@@ -19,12 +19,11 @@ use Rattle.table.specs.declared.answer.Refusal.{Refusal}
 use Rattle.table.specs.declared.answer.Judged.{Judged}
 use Rattle.table.specs.declared.answer.Judged.the-variants.{Accepted, Declined}
 use Rattle.table_index.specs.Index.{tableIn, Indexed}
-use Rattle.monitor_spec.specs.State.{areasMeasured, workMeasured}
+use Rattle.monitor_spec.specs.State.{lengthsFit, areasMeasured, workMeasured}
 use Rattle.monitor_spec.specs.Valid.Laws.{and-split}
 use Rattle.monitor_spec.specs.Entering.{Entrance, judging, entrance, entering}
 use Rattle.monitor_spec.specs.Entering as before
 use Rattle.monitor_spec.specs.Entering.Laws.{entrance-judged, entrance-admits}
-use Rattle.state.specs.Record.{lengthsFit}
 use Rattle.state.specs.Record.Laws.{lengths-measured}
 use Rattle.entering.specs.Entered.{Entered}
 use Rattle.entering.specs.Entered.Laws.{entered-shut, entered-open}

@@ -1,7 +1,7 @@
 -- `state::lengths::lengths_fit` meets its contract: the tests of each return say which part of `lengthsFit` decides.
 -- Assumes nothing.
 use borrow.Author.Tests.{le-leb, lt-leb, eq-eqb, ne-eqb}
-use Rattle.state.specs.Record.{lengthsFit}
+use Rattle.monitor_spec.specs.State.{lengthsFit}
 use Rattle.state.proofs.lengths.lengths_fit.Statement.{statement}
 use Rattle.state.proofs.lengths.lengths_fit.Tie as tie
 
