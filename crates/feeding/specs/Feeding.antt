@@ -62,7 +62,7 @@ pub record AreasFilled (met : Option ℕ) (next : List (List ℕ)) (a⁺ b⁺ : 
   pub second : b' ≡ b⁺
 
 -- it meets one: "areas as then"
-pub record Kept (met : Option ℕ) (x : ℕ) (a b a' b' : List ℕ) : Type 0 where
+pub record AreasKept (met : Option ℕ) (x : ℕ) (a b a' b' : List ℕ) : Type 0 where
   pub meets : met ≡ some x
   pub first : a' ≡ a
   pub second : b' ≡ b
@@ -70,7 +70,7 @@ pub record Kept (met : Option ℕ) (x : ℕ) (a b a' b' : List ℕ) : Type 0 whe
 -- of areas a and b: they become a⁺ and b⁺, or are kept
 abbrev pub Stepped : Option ℕ → List (List ℕ) → List ℕ → List ℕ → List ℕ → List ℕ → Next → List ℕ → List ℕ → Type 0
 Stepped met next a b a⁺ b⁺ (Count c) a' b' = AreasFilled met next a⁺ b⁺ c a' b'
-Stepped met next a b a⁺ b⁺ (Refused x) a' b' = Kept met x a b a' b'
+Stepped met next a b a⁺ b⁺ (Refused x) a' b' = AreasKept met x a b a' b'
 
 -- "each event fills the other and zeroes the first": of area p with c residuals and area o, with k events taken
 unfoldable pub Advanced : Table → ℕ → ℕ → ℕ → List ℕ → List ℕ → Next → List ℕ → List ℕ → Type 0

@@ -22,7 +22,7 @@ use Rattle.monitor_spec.specs.Expected.Records.{record-verdict}
 use Rattle.monitor_spec.specs.Expected.Steps.{Fed}
 use Rattle.monitor_spec.specs.History.{Leaves}
 use Rattle.monitor_spec.specs.History.Laws.{extends, measured, feed-refused, feed-goes}
-use Rattle.monitor_spec.specs.Stops.{Stops, StoppedAt, AnswersOne}
+use Rattle.monitor_spec.specs.Stops.{EventStops, StoppedAt, AnswersOne}
 use Rattle.monitor_spec.proofs.Endings.{T-true, true-T, false-T, not-true, none-answer, some-answer}
 use Rattle.monitor_spec.proofs.Endings.{ending-given, ending-stopped, stops-out, stops-in}
 use Rattle.monitor_spec.proofs.Forms.{given-same, refused-same, stopped-same, refused-given, refused-stopped}
@@ -97,7 +97,7 @@ module _ (t : Table) (regular : Regular t) (n : ℕ) (s : List ℕ) (fed : Fed t
         placed = omega arith;
         unrefused = extends t regular n u s fed .takes ∙ ap (s ++_) (took-took (takeEvent t) es M);
         stops =
-            subst (λ (z : List ℕ). Stops t n z (i .event) number) (x .takes)
+            subst (λ (z : List ℕ). EventStops t n z (i .event) number) (x .takes)
             (stops-out t n (extend t n s es) (i .event) regular (x .feeds) number c);
       }
 

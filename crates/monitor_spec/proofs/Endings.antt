@@ -21,7 +21,7 @@ use Rattle.monitor_spec.specs.Joined.{residualCount}
 use Rattle.monitor_spec.specs.Expected.{monitorAfter}
 use Rattle.monitor_spec.specs.Expected.Records.{length-snoc}
 use Rattle.monitor_spec.specs.Expected.Steps.{Fed, sift, take-sifts}
-use Rattle.monitor_spec.specs.Stops.{Stops, unknown, full, exceeded}
+use Rattle.monitor_spec.specs.Stops.{EventStops, unknown, full, exceeded}
 use Rattle.monitor_spec.proofs.Forms.{refused-given, refused-stopped}
 
 pub T-true : (b : Bool) → T b → b ≡ true
@@ -120,7 +120,7 @@ module _ (t : Table) (n : ℕ) (s : List ℕ) (e : ℕ) where
   abbrev C : Bool
   C = ltb n (residualCount t (s ++ e ∷ []))
 
-  met-stops : (k : ℕ) → Met A B C k → Stops t n s e k
+  met-stops : (k : ℕ) → Met A B C k → EventStops t n s e k
   met-stops k (met-11 a) = unknown (leb-true (t .alphabet) e a)
   met-stops k (met-12 a b) =
       let l = length-snoc s e in
@@ -132,7 +132,7 @@ module _ (t : Table) (n : ℕ) (s : List ℕ) (e : ℕ) where
       (λ p. eqb-false (length (s ++ e ∷ [])) 18446744073709551616 b (omega arith))
       (ltb-true n (residualCount t (s ++ e ∷ [])) c)
 
-  stops-met : (k : ℕ) → Stops t n s e k → Met A B C k
+  stops-met : (k : ℕ) → EventStops t n s e k → Met A B C k
   stops-met k (unknown a) = met-11 (le-leb (t .alphabet) e a)
   stops-met k (full a b) =
       let l = length-snoc s e in
@@ -143,14 +143,14 @@ module _ (t : Table) (n : ℕ) (s : List ℕ) (e : ℕ) where
       (lt-ltb n (residualCount t (s ++ e ∷ [])) c)
 
   module _ (regular : Regular t) (fed : Fed t n s) where
-    pub stops-out : (k : ℕ) → takeEvent t (monitorAfter t n s) e ≡ stops k → Stops t n s e k
+    pub stops-out : (k : ℕ) → takeEvent t (monitorAfter t n s) e ≡ stops k → EventStops t n s e k
     stops-out k h = met-stops k
         (sift-out A B C (monitorAfter t n (s ++ e ∷ [])) k (sym (take-sifts t regular n s fed e) ∙ h))
 
-    pub stops-in : (k : ℕ) → Stops t n s e k → takeEvent t (monitorAfter t n s) e ≡ stops k
+    pub stops-in : (k : ℕ) → EventStops t n s e k → takeEvent t (monitorAfter t n s) e ≡ stops k
     stops-in k h = take-sifts t regular n s fed e ∙ sift-in A B C (monitorAfter t n (s ++ e ∷ [])) k (stops-met k h)
 
-  pub stops-range : (k : ℕ) → Stops t n s e k → (11 ≤ k) × (k ≤ 13)
+  pub stops-range : (k : ℕ) → EventStops t n s e k → (11 ≤ k) × (k ≤ 13)
   stops-range k (unknown a) = (omega arith, omega arith)
   stops-range k (full a b) = (omega arith, omega arith)
   stops-range k (exceeded a b c) = (omega arith, omega arith)

@@ -1,6 +1,6 @@
 -- The residuals whose slots are valid (01, "Disturbed": "A valid slot is one whole residual tree ..").
 --     Remembers    of a memory: its events are below A, and zero from the count of enclosing prefixes on
---     Fits, Kept   so at each node; and the leaves' reach sums to at most k
+--     Fits, Fitting  so at each node; and the leaves' reach sums to at most k
 --     Proper       a sound residual that fits, its reach at most 8
 -- The laws are in `Proper/`: `Laws` (resolving and stepping keep it), `Nodes` (its slot has room). Assumes nothing.
 use Prim.Native.Nat.{ℕ, _≤_, _<_}
@@ -22,8 +22,8 @@ Fits t (leaf n m) = Remembers (t .alphabet) (enclosing t n) m
 Fits t (pair n m l r) = Remembers (t .alphabet) (enclosing t n) m × Fits t l × Fits t r
 
 -- "the leaves' reach sums to at most"
-abbrev pub Kept : Table → ℕ → Residual → Type 0
-Kept t k r = Fits t r × (reachSum t r ≤ k)
+abbrev pub Fitting : Table → ℕ → Residual → Type 0
+Fitting t k r = Fits t r × (reachSum t r ≤ k)
 
 abbrev pub Proper : Table → Residual → Type 0
-Proper t r = Sound t r × Kept t 8 r
+Proper t r = Sound t r × Fitting t 8 r

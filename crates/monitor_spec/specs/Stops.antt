@@ -1,5 +1,5 @@
 -- When and where a feeding call stops (01, "When the monitor declines"), and demand 2 for one list (00, demand 2).
---     Stops         refusal 11, 12 or 13 is met at an event, after a list
+--     EventStops    refusal 11, 12 or 13 is met at an event, after a list
 --     StoppedAt     so at a place of a call's events, and at none before it
 --     AnswersOne    the answers of a call along a history, exactly
 --     JudgesOne     running, failed at n and capacity exceeded, exactly, of an Open; the peak
@@ -21,13 +21,13 @@ use Rattle.monitor_spec.specs.Joined.{residualCount, extend}
 use Rattle.monitor_spec.specs.History.{start, ShortestOutside, GreatestOver, Leaves}
 
 -- after the joined events s, with n slots: "per event 11, 12, 13"
-pub data Stops (t : Table) (n : ℕ) (s : List ℕ) (e : ℕ) : ℕ → Type 0 where
+pub data EventStops (t : Table) (n : ℕ) (s : List ℕ) (e : ℕ) : ℕ → Type 0 where
   -- "strange event: event A or more"
-  unknown : t .alphabet ≤ e → Stops t n s e 11
+  unknown : t .alphabet ≤ e → EventStops t n s e 11
   -- "counter full: taken is 2^64-1"
-  full : e < t .alphabet → length s ≡ counterMost → Stops t n s e 12
+  full : e < t .alphabet → length s ≡ counterMost → EventStops t n s e 12
   -- "crowded: residuals after the event .. exceed the slots"; 00, demand 2: "with nothing earlier .. to refuse"
-  exceeded : e < t .alphabet → (length s ≡ counterMost → ⊥) → n < residualCount t (s ++ e ∷ []) → Stops t n s e 13
+  exceeded : e < t .alphabet → (length s ≡ counterMost → ⊥) → n < residualCount t (s ++ e ∷ []) → EventStops t n s e 13
 
 -- a call with the events es, where s were joined before it: the events before the place are joined whole
 pub record StoppedAt (t : Table) (n : ℕ) (s es : List ℕ) (number place : ℕ) : Type 0 where
@@ -38,7 +38,7 @@ pub record StoppedAt (t : Table) (n : ℕ) (s es : List ℕ) (number place : ℕ
   -- "events taken by this call"
   pub placed : length before ≡ place
   pub unrefused : extend t n s before ≡ s ++ before
-  pub stops : Stops t n (s ++ before) event number
+  pub stops : EventStops t n (s ++ before) event number
 
 -- a call on the monitor m, which s were joined to
 pub record AnswersOne (l : List ℕ) (t : Table) (n : ℕ) (s : List ℕ) (m : Monitor) (es w : List ℕ) : Type 0 where

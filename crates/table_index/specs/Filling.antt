@@ -1,5 +1,5 @@
 -- What the functions that store widths and branches in the work area ask and promise.
---     Kept, ReachKept                               the words outside a part, and the reach of terms, are as they were
+--     KeptOutside, ReachKept                        the words outside a part, and the reach of terms, are as they were
 --     storedCall                                    what a call counts in a level, by the stored widths of levels
 --     WidthKnown, WidthAsked, WidthGiven            the width of one term
 --     WidthsAsked, WidthsFilled                     the widths of the terms from one number up to another
@@ -36,8 +36,8 @@ pub mod Bodies
 pub mod Excess
 
 -- the words from a up to b may have changed, and no other
-abbrev pub Kept : ℕ → ℕ → List ℕ → List ℕ → Type 0
-Kept a b w w' = (x : ℕ) → ((a ≤ x) × (x < b) → ⊥) → getD w' x 0 ≡ getD w x 0
+abbrev pub KeptOutside : ℕ → ℕ → List ℕ → List ℕ → Type 0
+KeptOutside a b w w' = (x : ℕ) → ((a ≤ x) × (x < b) → ⊥) → getD w' x 0 ≡ getD w x 0
 
 -- ---- widths
 
@@ -80,7 +80,7 @@ pub record WidthsAsked (t : Table) (w : List ℕ) (from to level : ℕ) : Type 0
 
 pub record WidthsFilled (t : Table) (w w' : List ℕ) (from to level : ℕ) : Type 0 where
   pub structure : Structured t w'
-  pub kept : Kept (termsAt + from) (termsAt + to) w w'
+  pub kept : KeptOutside (termsAt + from) (termsAt + to) w w'
   pub known : (n : ℕ) → from ≤ n → n < to → WidthKnown t w' (storedCall t w level) n
 
 -- the widths of the levels below are stored
@@ -98,12 +98,12 @@ bodyWidth t w level d =
 
 pub record BodyDone (t : Table) (w w' : List ℕ) (d level r : ℕ) : Type 0 where
   pub structure : Structured t w'
-  pub kept : Kept termsAt setsAt w w'
+  pub kept : KeptOutside termsAt setsAt w w'
   pub value : r ≡ bodyWidth t w level d
 
 pub record LevelDone (t : Table) (w w' : List ℕ) (level r : ℕ) : Type 0 where
   pub structure : Structured t w'
-  pub kept : Kept termsAt setsAt w w'
+  pub kept : KeptOutside termsAt setsAt w w'
   pub value : r ≡ widest (widthWith (storedCall t w level)) level (t .definitions)
 
 -- ---- branches
@@ -149,7 +149,7 @@ CallsReady t w from to most =
 
 pub record BranchesFilled (t : Table) (w w' : List ℕ) (from to : ℕ) : Type 0 where
   pub structure : Structured t w'
-  pub kept : Kept (termsAt + from) (termsAt + to) w w'
+  pub kept : KeptOutside (termsAt + from) (termsAt + to) w w'
   pub reaches : ReachKept w w'
   pub known : (most : ℕ) → CallsReady t w from to most
       → (n : ℕ) → from ≤ n → n < to → prefixesAt t n ≤ most → BranchesKnown t w' n

@@ -44,8 +44,8 @@ pub mod Header
 pub mod Structure
 
 -- a parser's refusal is the code's
-abbrev pub Stops : {A : Type 0} → Result A → Refusal → Type 0
-Stops x r = x ≡ refused (r .number) (r .place)
+abbrev pub Refuses : {A : Type 0} → Result A → Refusal → Type 0
+Refuses x r = x ≡ refused (r .number) (r .place)
 
 -- the sets of the list are known and stand in the work area
 pub record SetsReady (l w : List ℕ) (count : ℕ) : Type 0 where
@@ -81,7 +81,7 @@ pub record RowFound (l : List ℕ) (A i low high j : ℕ) : Type 0 where
 
 abbrev pub RowRead : List ℕ → ℕ → ℕ → Row → Type 0
 RowRead l A i (Mask low high j) = RowFound l A i low high j
-RowRead l A i (NoRow r) = Stops (row A (tokensAt l i)) r
+RowRead l A i (NoRow r) = Refuses (row A (tokensAt l i)) r
 
 -- one row stored: its first word, and its second where the alphabet has more than 64 events
 unfoldable pub rowStored : ℕ → ℕ → ℕ → ℕ → List ℕ → List ℕ
@@ -106,7 +106,7 @@ pub record RowsFound (l : List ℕ) (A count i row₀ : ℕ) (w w' : List ℕ) (
 
 abbrev pub RowsRead : List ℕ → ℕ → ℕ → ℕ → ℕ → List ℕ → List ℕ → Place → Type 0
 RowsRead l A count i row₀ w w' (At j) = RowsFound l A count i row₀ w w' j
-RowsRead l A count i row₀ w w' (Stop r) = Stops (times count (row A) (tokensAt l i)) r × (length w' ≡ length w)
+RowsRead l A count i row₀ w w' (Stop r) = Refuses (times count (row A) (tokensAt l i)) r × (length w' ≡ length w)
 
 pub record SetFound (l : List ℕ) (A i row₀ : ℕ) (w w' : List ℕ) (j kind end : ℕ) : Type 0 where
   pub value : SetDef
@@ -122,7 +122,7 @@ pub record SetFound (l : List ℕ) (A i row₀ : ℕ) (w w' : List ℕ) (j kind 
 
 abbrev pub SetRead : List ℕ → ℕ → ℕ → ℕ → List ℕ → List ℕ → SetEnd → Type 0
 SetRead l A i row₀ w w' (NextSet j kind end) = SetFound l A i row₀ w w' j kind end
-SetRead l A i row₀ w w' (NoSet r) = Stops (eventSet A row₀ (tokensAt l i)) r × (length w' ≡ length w)
+SetRead l A i row₀ w w' (NoSet r) = Refuses (eventSet A row₀ (tokensAt l i)) r × (length w' ≡ length w)
 
 pub record SetsFound (l : List ℕ) (A count i : ℕ) (w w' : List ℕ) (j : ℕ) : Type 0 where
   pub sets : List SetDef
@@ -134,7 +134,7 @@ pub record SetsFound (l : List ℕ) (A count i : ℕ) (w w' : List ℕ) (j : ℕ
 
 abbrev pub SetsRead : List ℕ → ℕ → ℕ → ℕ → List ℕ → List ℕ → Place → Type 0
 SetsRead l A count i w w' (At j) = SetsFound l A count i w w' j
-SetsRead l A count i w w' (Stop r) = Stops (eventSets A count 0 (tokensAt l i)) r × (length w' ≡ length w)
+SetsRead l A count i w w' (Stop r) = Refuses (eventSets A count 0 (tokensAt l i)) r × (length w' ≡ length w)
 
 -- ---- terms
 
@@ -149,7 +149,7 @@ pub record ReferenceFound (sets : List SetDef) (l : List ℕ) (i target paramete
 
 abbrev pub ReferenceRead : List SetDef → List ℕ → ℕ → Reference → Type 0
 ReferenceRead sets l i (Found target parameter j) = ReferenceFound sets l i target parameter j
-ReferenceRead sets l i (NoReference r) = Stops (setRef sets (tokensAt l i)) r
+ReferenceRead sets l i (NoReference r) = Refuses (setRef sets (tokensAt l i)) r
 
 -- the word of a term with this head and this right side, and nothing else, was stored; it is a structure
 pub record WordStored (h : Head) (n right : ℕ) (w w' : List ℕ) : Type 0 where
@@ -174,7 +174,7 @@ pub record TermFound (sets : List SetDef) (l : List ℕ) (s : Spot) (deep n i : 
 
 abbrev pub TermRead : List SetDef → List ℕ → Spot → ℕ → ℕ → ℕ → List ℕ → List ℕ → TermEnd → Type 0
 TermRead sets l s deep n i w w' (NextTerm j m) = TermFound sets l s deep n i w w' j m
-TermRead sets l s deep n i w w' (NoTerm r) = Stops (termWith sets deep n (tokensAt l i)) r × (length w' ≡ length w)
+TermRead sets l s deep n i w w' (NoTerm r) = Refuses (termWith sets deep n (tokensAt l i)) r × (length w' ≡ length w)
 
 pub record DefinitionsFound (sets : List SetDef) (l : List ℕ) (count i : ℕ) (w w' : List ℕ) (j m : ℕ) : Type 0 where
   pub definitions : List Definition
@@ -194,7 +194,7 @@ pub record DefinitionsFound (sets : List SetDef) (l : List ℕ) (count i : ℕ) 
 abbrev pub DefinitionsRead : List SetDef → List ℕ → ℕ → ℕ → List ℕ → List ℕ → TermEnd → Type 0
 DefinitionsRead sets l count i w w' (NextTerm j m) = DefinitionsFound sets l count i w w' j m
 DefinitionsRead sets l count i w w' (NoTerm r) =
-    Stops (definitionsOf sets count 0 (tokensAt l i)) r × (length w' ≡ length w)
+    Refuses (definitionsOf sets count 0 (tokensAt l i)) r × (length w' ≡ length w)
 
 -- ---- the whole
 

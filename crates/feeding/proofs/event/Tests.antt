@@ -19,7 +19,7 @@ use Rattle.feeding.specs.declared.event.Next.the-variants.{Count, Refuse
 use Rattle.feeding.specs.declared.event.Taken.the-variants.{Went, Stopped}
 use Rattle.state.specs.Record.{stateOf, monitorOf, succeeding}
 use Rattle.state.specs.Record.Laws.{succeeding-counts}
-use Rattle.feeding.specs.Feeding.{AreasFilled, Kept, Moved, TakenBy}
+use Rattle.feeding.specs.Feeding.{AreasFilled, AreasKept, Moved, TakenBy}
 
 -- an event that is taken can be counted
 passes-counts : {t : Table} {cap k : ℕ} {rs : List Residual} {e : ℕ} {o : Option ℕ} → EventCase t cap k rs e o
@@ -38,7 +38,7 @@ module _ (t : Table) (e : ℕ) (s : State) (a b : List ℕ) (r : Next) (a' b' : 
   pub taken-refused : (k : ℕ) → r ≡ Refused k → TakenBy t m e (Stopped k) a' b'
   unfolding Moved
   taken-refused k q =
-      let h : Kept (metBy t m e) k a b a' b' = rw q at g in
+      let h : AreasKept (metBy t m e) k a b a' b' = rw q at g in
       (take-refused t m e k (h .meets), h .first, h .second)
 
   pub taken-went : (c : ℕ) → r ≡ Count c → (s' : State) → stateOf s' ≡ succeeding (stateOf s) c

@@ -31,7 +31,7 @@ use Rattle.residuals.specs.Residual.Calls.{resolve-at}
 use Rattle.monitor_spec.specs.Residual.Resolve.{resolveDef-sound}
 use Rattle.monitor_spec.specs.Residual.After.{after-leaf-at, after-pair-at, after-sound}
 use Rattle.monitor_spec.specs.Valid.{reachAt, reachSum}
-use Rattle.monitor_spec.specs.Proper.{Remembers, Fits, Kept, Proper}
+use Rattle.monitor_spec.specs.Proper.{Remembers, Fits, Fitting, Proper}
 
 module _ (n : ℕ) (m : Memory) (X Y Z : Residual → Type 0) (f : (l r : Residual) → X l → Y r → Z (pair n m l r)) where
   all-pairs : (ls rs : List Residual) → All X ls → All Y rs → All Z (pairs n m ls rs)
@@ -154,11 +154,11 @@ module _ (t : Table) where
 
   -- ---- both
 
-  kept-more : (j k : ℕ) → j ≤ k → (rs : List Residual) → All (Kept t j) rs → All (Kept t k) rs
-  kept-more j k h rs a = all-imp (Kept t j) (Kept t k) (λ r x. let y = x .1 in (x .0, omega arith)) rs a
+  kept-more : (j k : ℕ) → j ≤ k → (rs : List Residual) → All (Fitting t j) rs → All (Fitting t k) rs
+  kept-more j k h rs a = all-imp (Fitting t j) (Fitting t k) (λ r x. let y = x .1 in (x .0, omega arith)) rs a
 
   pair-kept : {h c n : ℕ} {x : Term} (m : Memory) → Stands (t .definitions) h c n x → Remembers (t .alphabet) c m
-      → (j k : ℕ) (l r : Residual) → Kept t j l → Kept t k r → Kept t (j + k) (pair n m l r)
+      → (j k : ℕ) (l r : Residual) → Fitting t j l → Fitting t k r → Fitting t (j + k) (pair n m l r)
   pair-kept {n = n} m s f j k l r a b =
       ((rw (around-number t s) f, a .0, b .0), pair-within n m j k l r (a .1) (b .1))
 
@@ -188,21 +188,21 @@ module _ (t : Table) where
         (resolveIn-reach (resolveDef t (bodyCount t)) (resolveDef-reach (bodyCount t)) p m s)
 
     pub resolve-kept : (n : ℕ) (m : Memory) (p : Term) {h c : ℕ} → Stands (t .definitions) h c n p
-        → Remembers (t .alphabet) c m → All (Kept t (reach t p)) (resolve t n m)
+        → Remembers (t .alphabet) c m → All (Fitting t (reach t p)) (resolve t n m)
     resolve-kept n m p s g =
         all-and (Fits t) (Within (reach t p)) (resolve t n m)
         (rw (resolve-at t n m p (at-number t s))
         (resolveIn-fits (resolveDef t (bodyCount t)) (resolveDef-fits (bodyCount t)) p m s g))
         (resolve-reach n m p s)
 
-    choose-kept : (b : Bool) (k : ℕ) (l r : List Residual) → All (Kept t k) l → All (Kept t k) r
-        → All (Kept t k) (elim b [ true ↦ l | false ↦ r ])
+    choose-kept : (b : Bool) (k : ℕ) (l r : List Residual) → All (Fitting t k) l → All (Fitting t k) r
+        → All (Fitting t k) (elim b [ true ↦ l | false ↦ r ])
     choose-kept true k l r h j = h
     choose-kept false k l r h j = j
 
     module _ (e : ℕ) (small : e < t .alphabet) where
       leaf-after : (n : ℕ) (m : Memory) (x : Term) → termAt t n ≡ some x → Remembers (t .alphabet) (enclosing t n) m
-          → All (Kept t (reach t x)) (afterLeaf t e n m x)
+          → All (Fitting t (reach t x)) (afterLeaf t e n m x)
       unfolding afterLeaf reach widthWith
       leaf-after n m stop h g = tt
       leaf-after n m fail h g = tt
@@ -217,8 +217,8 @@ module _ (t : Table) where
 
       pair-after : (n : ℕ) (m : Memory) (l r : Residual) (x : Term) → termAt t n ≡ some x
           → Remembers (t .alphabet) (enclosing t n) m → Fits t l → Fits t r
-          → All (Kept t (reachSum t l)) (after t e l) → All (Kept t (reachSum t r)) (after t e r)
-          → All (Kept t (reachSum t l + reachSum t r)) (afterPair t e n m l r (after t e l) (after t e r) x)
+          → All (Fitting t (reachSum t l)) (after t e l) → All (Fitting t (reachSum t r)) (after t e r)
+          → All (Fitting t (reachSum t l + reachSum t r)) (afterPair t e n m l r (after t e l) (after t e r) x)
       unfolding afterPair
       pair-after n m l r stop h g i j a b = tt
       pair-after n m l r fail h g i j a b = tt
@@ -230,23 +230,23 @@ module _ (t : Table) where
           let x : ℕ = reachSum t l in
           let y : ℕ = reachSum t r in
           let st = number-at t n (par s p q) h .stands in
-          let f : (l′ r′ : Residual) → Kept t x l′ → Kept t y r′ → Kept t (x + y) (pair n m l′ r′) =
+          let f : (l′ r′ : Residual) → Fitting t x l′ → Fitting t y r′ → Fitting t (x + y) (pair n m l′ r′) =
           pair-kept m st (rw (around-number t st) at g) x y in
           choose-kept
           (member t s m e)
           (x + y)
           (pairs n m ls rs)
           (pairs n m ls (r ∷ []) ++ pairs n m (l ∷ []) rs)
-          (all-pairs n m (Kept t x) (Kept t y) (Kept t (x + y)) f ls rs a b)
+          (all-pairs n m (Fitting t x) (Fitting t y) (Fitting t (x + y)) f ls rs a b)
           (all-append
-          (Kept t (x + y))
+          (Fitting t (x + y))
           (pairs n m ls (r ∷ []))
           (pairs n m (l ∷ []) rs)
-          (all-pairs n m (Kept t x) (Kept t y) (Kept t (x + y)) f ls (r ∷ []) a ((j, omega arith), tt))
-          (all-pairs n m (Kept t x) (Kept t y) (Kept t (x + y)) f (l ∷ []) rs ((i, omega arith), tt) b))
+          (all-pairs n m (Fitting t x) (Fitting t y) (Fitting t (x + y)) f ls (r ∷ []) a ((j, omega arith), tt))
+          (all-pairs n m (Fitting t x) (Fitting t y) (Fitting t (x + y)) f (l ∷ []) rs ((i, omega arith), tt) b))
       pair-after n m l r (call d) h g i j a b = tt
 
-      pub after-kept : (R : Residual) → Sound t R → Fits t R → All (Kept t (reachSum t R)) (after t e R)
+      pub after-kept : (R : Residual) → Sound t R → Fits t R → All (Fitting t (reachSum t R)) (after t e R)
       unfolding reachSum
       after-kept (leaf n m) (x, h, i) g =
           rw (after-leaf-at t regular e n m x h, reachAt-at n x h) (leaf-after n m x h g)
@@ -256,7 +256,7 @@ module _ (t : Table) where
 
       after-proper : (R : Residual) → Proper t R → All (Proper t) (after t e R)
       after-proper R (s, (f, k)) =
-          all-and (Sound t) (Kept t 8) (after t e R) (after-sound t regular e R s)
+          all-and (Sound t) (Fitting t 8) (after t e R) (after-sound t regular e R s)
           (kept-more (reachSum t R) 8 k (after t e R) (after-kept R s f))
 
       pub afterAll-proper : (rs : List Residual) → All (Proper t) rs → All (Proper t) (afterAll t e rs)
@@ -266,7 +266,7 @@ module _ (t : Table) where
 
     pub definition-proper : (d : ℕ) → d < bodyCount t → All (Proper t) (resolveDef t (bodyCount t) d)
     definition-proper d l =
-        all-and (Sound t) (Kept t 8) (resolveDef t (bodyCount t) d) (resolveDef-sound t regular (bodyCount t) d)
+        all-and (Sound t) (Fitting t 8) (resolveDef t (bodyCount t) d) (resolveDef-sound t regular (bodyCount t) d)
         (all-and (Fits t) (Within 8) (resolveDef t (bodyCount t) d) (resolveDef-fits (bodyCount t) d)
         (within-more (levelWidth t (levelIn (t .definitions) d)) 8 (regular .width-most (levelIn (t .definitions) d))
         (resolveDef t (bodyCount t) d) (resolveDef-reach (bodyCount t) d)))

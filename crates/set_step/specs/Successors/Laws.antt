@@ -13,7 +13,7 @@ use Rattle.table.specs.Table.{Table}
 use Rattle.residuals.specs.Residual.{Residual, after, afterAll}
 use Rattle.residuals.specs.Slots.{nodes, slotsOf}
 use Rattle.slots.specs.declared.slots.Held.the-variants.{Count, Exceeded}
-use Rattle.slots.specs.Holding.{said, putAll}
+use Rattle.slots.specs.Holding.{leaves, putAll}
 use Rattle.slots.specs.Canon.{canon, fill, Slots, SameMembers}
 use Rattle.slots.specs.Canon.Areas.{fill-none}
 use Rattle.slots.specs.Canon.Laws.{put-canon, put-exceeded-canon}
@@ -123,7 +123,7 @@ module _ (t : Table) (e : ℕ) (src : List ℕ) (rs : List Residual) (h : SlotsH
 
     pub stepped : length (slotsOf (afterAll t e rs)) ≤ most
         → putAll (replicate (most * 16) 0) 0 xs
-        ≡ said (Count (length (slotsOf (afterAll t e rs)))) (fill most (slotsOf (afterAll t e rs)))
+        ≡ leaves (Count (length (slotsOf (afterAll t e rs)))) (fill most (slotsOf (afterAll t e rs)))
     stepped k =
         rw (← (fill-none most), ← canon-is)
         (put-canon most xs slots (rw canon-is k))

@@ -20,7 +20,7 @@ use Rattle.slots.specs.declared.slots.Place.the-variants as place
 use Rattle.slots.specs.declared.slots.Inserted.the-variants as ins
 use Rattle.slots.specs.declared.slots.Held.{Held}
 use Rattle.slots.specs.declared.slots.Held.the-variants.{Count, Exceeded}
-use Rattle.slots.specs.Holding.{Outcome, said, putOne, chain, putAll}
+use Rattle.slots.specs.Holding.{Outcome, leaves, putOne, chain, putAll}
 use Rattle.slots.specs.Canon.{insertSorted, canon, fill, Sixteen, Slots}
 use Rattle.slots.specs.Canon.Canonical.{Ascending, in-canon, canon-ascending, canon-snoc, canon-grows}
 use Rattle.slots.specs.Canon.Members.{slots-in}
@@ -138,7 +138,7 @@ module _ (most : ℕ) (xs : List (List ℕ)) (s : List ℕ) (v : Slots xs) (u : 
           ∙ sym area-after
 
       put-new-slot : putOne (fill most xs) (length xs) s
-          ≡ said (Count (length (insertSorted s xs))) (fill most (insertSorted s xs))
+          ≡ leaves (Count (length (insertSorted s xs))) (fill most (insertSorted s xs))
       unfolding putOne insertAnswer insertWords
       put-new-slot =
           let f : ltb (length (fill most xs) - length xs * 16) 16
@@ -154,14 +154,14 @@ module _ (most : ℕ) (xs : List (List ℕ)) (s : List ℕ) (v : Slots xs) (u : 
         rw (there, e, f)
 
   put-held-slot : placeAmong xs s 0 ≡ place.Held → putOne (fill most xs) (length xs) s
-      ≡ said (Count (length (insertSorted s xs))) (fill most (insertSorted s xs))
+      ≡ leaves (Count (length (insertSorted s xs))) (fill most (insertSorted s xs))
   unfolding putOne insertAnswer insertWords
   put-held-slot e = rw (there, e, held-same xs s 0 e)
 
   -- a slot is held, or refused exactly where the slots would be more than fit
   pub record PutSlot : Type 0 where
     pub held : length (insertSorted s xs) ≤ most → putOne (fill most xs) (length xs) s
-        ≡ said (Count (length (insertSorted s xs))) (fill most (insertSorted s xs))
+        ≡ leaves (Count (length (insertSorted s xs))) (fill most (insertSorted s xs))
     pub refused : most < length (insertSorted s xs) → (putOne (fill most xs) (length xs) s) .held ≡ Exceeded
 
   by-place : (q : Place) → placeAmong xs s 0 ≡ q → PutSlot
@@ -187,7 +187,7 @@ module _ (most : ℕ) (l : List (List ℕ)) (s : List ℕ) (v : Slots l) (es : l
     held-slots = slots-in (canon l) l v (λ a i. in-canon a l .0 i)
 
     next-held : length (canon (l ++ s ∷ [])) ≤ most → putOne (fill most (canon l)) (length (canon l)) s
-        ≡ said (Count (length (canon (l ++ s ∷ [])))) (fill most (canon (l ++ s ∷ [])))
+        ≡ leaves (Count (length (canon (l ++ s ∷ [])))) (fill most (canon (l ++ s ∷ [])))
     next-held k =
         rw (canon-snoc l s)
         (put-slot most (canon l) s held-slots (canon-ascending l) es h .held (rw (canon-snoc l s) at k))
@@ -210,7 +210,7 @@ module _ (most : ℕ) (l : List (List ℕ)) (s : List ℕ) (v : Slots l) (es : l
 
 put-from : (most : ℕ) (l ss : List (List ℕ)) → Slots l → Slots ss → length (canon l) ≤ most
     → length (canon (l ++ ss)) ≤ most → putAll (fill most (canon l)) (length (canon l)) ss
-    ≡ said (Count (length (canon (l ++ ss)))) (fill most (canon (l ++ ss)))
+    ≡ leaves (Count (length (canon (l ++ ss)))) (fill most (canon (l ++ ss)))
 unfolding putAll
 put-from most l [] v w h k = rw (append-nil l)
 put-from most l (s ∷ ss) v w h k =
@@ -233,7 +233,7 @@ exceeded-from most l (s ∷ ss) v w h k =
 -- holding slots in an area of none gives the ascending slots without repeats; it is exceeded exactly where these are
 -- more than fit
 pub put-canon : (most : ℕ) (ss : List (List ℕ)) → Slots ss → length (canon ss) ≤ most
-    → putAll (fill most []) 0 ss ≡ said (Count (length (canon ss))) (fill most (canon ss))
+    → putAll (fill most []) 0 ss ≡ leaves (Count (length (canon ss))) (fill most (canon ss))
 unfolding canon
 put-canon most ss w k = put-from most [] ss tt w (omega arith) k
 

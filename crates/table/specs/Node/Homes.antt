@@ -1,5 +1,5 @@
 -- Which node stands where over definitions: what `nodesFrom` lists, as a relation to go by (ours).
---     Stands                   x is the node of number n over definitions
+--     NodeStands               x is the node of number n over definitions
 --     stands-in, stands-out    it is the list's element
 --     stands-body, stands-home    each body stands at its number; each node in a definition's body
 -- Assumes nothing.
@@ -18,12 +18,12 @@ use Rattle.table.specs.Node.Parts.{Part, here, length-nodes, left-at, ri
 use Rattle.table.specs.Node.Parts.{part-fits, part-below, part-trans, part-in, part-out, part-own}
 
 -- over the definitions from number `own` on, whose first number has index i: x is in definition own + h
-pub data Stands : ℕ → ℕ → List Definition → ℕ → ℕ → Node → Type 0 where
+pub data NodeStands : ℕ → ℕ → List Definition → ℕ → ℕ → Node → Type 0 where
   first : {own i n : ℕ} {d : Definition} {ds : List Definition} {x : Node}
-      → Part (bodySpot own) (suc i) (d .body) n x → Stands own i (d ∷ ds) 0 n x
+      → Part (bodySpot own) (suc i) (d .body) n x → NodeStands own i (d ∷ ds) 0 n x
   later : {own i h n : ℕ} {d : Definition} {ds : List Definition} {x : Node}
-      → Stands (suc own) (i + length (definitionNumbers d)) ds h n x
-      → Stands own i (d ∷ ds) (suc h) (size (d .body) + n) x
+      → NodeStands (suc own) (i + length (definitionNumbers d)) ds h n x
+      → NodeStands own i (d ∷ ds) (suc h) (size (d .body) + n) x
 
 pub length-nodesFrom : (own i : ℕ) (ds : List Definition) → length (nodesFrom own i ds) ≡ sizes ds
 unfolding nodesFrom sizes
@@ -35,7 +35,7 @@ length-nodesFrom own i (d ∷ ds) =
 
 -- ---- over definitions
 
-pub stands-in : {own i h n : ℕ} {ds : List Definition} {x : Node} → Stands own i ds h n x
+pub stands-in : {own i h n : ℕ} {ds : List Definition} {x : Node} → NodeStands own i ds h n x
     → getD (nodesFrom own i ds) n noNode ≡ x
 unfolding nodesFrom
 stands-in (first {own = own} {i = i} {n = n} {d = d} {ds = ds} y) =
@@ -45,12 +45,12 @@ stands-in (later {own = own} {i = i} {n = n} {d = d} {ds = ds} y) =
     let more = nodesFrom (suc own) (i + length (definitionNumbers d)) ds in
     right-at (bodySpot own) (suc i) (d .body) more n ∙ stands-in y
 
-pub stands-at : {own i h n m : ℕ} {ds : List Definition} {x : Node} → n ≡ m → Stands own i ds h n x
-    → Stands own i ds h m x
+pub stands-at : {own i h n m : ℕ} {ds : List Definition} {x : Node} → n ≡ m → NodeStands own i ds h n x
+    → NodeStands own i ds h m x
 stands-at e y = rw (← e) y
 
 abbrev pub StandsAt : ℕ → ℕ → List Definition → ℕ → Type 0
-StandsAt own i ds n = (h : ℕ) × (x : Node) × Stands own i ds h n x
+StandsAt own i ds n = (h : ℕ) × (x : Node) × NodeStands own i ds h n x
 
 pub stands-out : (own i : ℕ) (ds : List Definition) (n : ℕ) → n < sizes ds → StandsAt own i ds n
 unfolding sizes
@@ -64,12 +64,12 @@ stands-out own i (d ∷ ds) n h =
           (suc k, x, stands-at (omega arith) (later y))
     ]
 
-pub stands-part : {own i h n k : ℕ} {ds : List Definition} {x y : Node} → Stands own i ds h n x
-    → Part (x .spot) (x .place) (x .term) k y → Stands own i ds h (n + k) y
+pub stands-part : {own i h n k : ℕ} {ds : List Definition} {x y : Node} → NodeStands own i ds h n x
+    → Part (x .spot) (x .place) (x .term) k y → NodeStands own i ds h (n + k) y
 stands-part (first a) b = first (part-trans a b)
 stands-part (later a) b = stands-at (omega arith) (later (stands-part a b))
 
-pub stands-fits : {own i h n : ℕ} {ds : List Definition} {x : Node} → Stands own i ds h n x
+pub stands-fits : {own i h n : ℕ} {ds : List Definition} {x : Node} → NodeStands own i ds h n x
     → n + size (x .term) ≤ sizes ds
 unfolding sizes
 stands-fits (first y) = omega (arith, part-fits y)
@@ -77,7 +77,7 @@ stands-fits (later y) = omega (arith, stands-fits y)
 
 -- ---- the definition of a node
 
-pub stands-own : {own i h n : ℕ} {ds : List Definition} {x : Node} → Stands own i ds h n x → x .spot .own ≡ own + h
+pub stands-own : {own i h n : ℕ} {ds : List Definition} {x : Node} → NodeStands own i ds h n x → x .spot .own ≡ own + h
 stands-own (first y) = omega (arith, part-own y)
 stands-own (later y) = omega (arith, stands-own y)
 
@@ -86,7 +86,7 @@ pub record Within (ds : List Definition) (h n m : ℕ) : Type 0 where
   pub from : sizes (take h ds) ≤ n
   pub until : n + m ≤ sizes (take (suc h) ds)
 
-pub stands-within : {own i h n : ℕ} {ds : List Definition} {x : Node} → Stands own i ds h n x
+pub stands-within : {own i h n : ℕ} {ds : List Definition} {x : Node} → NodeStands own i ds h n x
     → Within ds h n (size (x .term))
 unfolding sizes
 stands-within (first y) =
@@ -119,7 +119,7 @@ pub record PartOf (Y : Definition → Type 0) (x : Node) : Type 0 where
   pub part : Part (bodySpot number) index (home .body) into x
 
 pub stands-home : (Y : Definition → Type 0) {own i h n : ℕ} {ds : List Definition} {x : Node} → All Y ds
-    → Stands own i ds h n x → PartOf Y x
+    → NodeStands own i ds h n x → PartOf Y x
 stands-home Y f (first {own = own} {i = i} {n = n} {d = d} y) =
     record { home = d; is = f .0; number = own; index = suc i; into = n; part = y }
 stands-home Y f (later y) = stands-home Y (f .1) y
@@ -140,7 +140,7 @@ sizes-inside [] (suc d) = omega arith
 sizes-inside (x ∷ ds) (suc d) = omega (arith, sizes-inside ds d)
 
 abbrev pub BodyAt : ℕ → ℕ → List Definition → ℕ → ℕ → Type 0
-BodyAt own i ds d m = (j : ℕ) × Stands own i ds d (sizes (take d ds)) (node (bodySpot m) j (bodyIn ds d))
+BodyAt own i ds d m = (j : ℕ) × NodeStands own i ds d (sizes (take d ds)) (node (bodySpot m) j (bodyIn ds d))
 
 pub stands-body : (own i : ℕ) (ds : List Definition) (d m : ℕ) → d < length ds → own + d ≡ m → BodyAt own i ds d m
 unfolding sizes bodyIn

@@ -20,7 +20,7 @@ use Rattle.table.specs.Node.{bodySpot, followerSpot, sideSpot, besideSpo
 use Rattle.table.specs.Node.Parts.{Part, here, follower, choice-left, choice-right, par-left, par-right}
 use Rattle.table.specs.Node.Parts.{size-positive, depth-positive, Flags, part-flags, part-depth, part-each}
 use Rattle.table.specs.Node.Parts as parts
-use Rattle.table.specs.Node.Homes.{Stands, length-nodesFrom, stands-in, stands-out}
+use Rattle.table.specs.Node.Homes.{NodeStands, length-nodesFrom, stands-in, stands-out}
 use Rattle.table.specs.Node.Homes.{stands-at, stands-part, stands-fits}
 use Rattle.table.specs.Node.Homes.{stands-own, stands-within, within-one, stands-home}
 use Rattle.table.specs.Node.Homes.{sizes-next, sizes-inside, stands-body}
@@ -36,7 +36,7 @@ length-nodesOf t = length-nodesFrom 0 (definitionsAt t) (t .definitions)
 
 -- the node of number n is x, in definition h
 abbrev pub In : Table → ℕ → ℕ → Node → Type 0
-In t h n x = Stands 0 (definitionsAt t) (t .definitions) h n x
+In t h n x = NodeStands 0 (definitionsAt t) (t .definitions) h n x
 
 in-is : (t : Table) {h n : ℕ} {x : Node} → In t h n x → nodeAt t n ≡ x
 unfolding nodeAt nodesOf

@@ -12,7 +12,7 @@ use Rattle.table.specs.Part as part
 use Rattle.table.specs.Part.Numbers.{stands-at, at-number, around-number}
 use Rattle.table.specs.Node.{Node, nodeAt, termOf}
 use Rattle.table.specs.Node.Parts.{Part, here, follower, choice-left, choice-right, par-left, par-right}
-use Rattle.table.specs.Node.Homes.{Stands, first, later}
+use Rattle.table.specs.Node.Homes.{NodeStands, first, later}
 use Rattle.table.specs.Node.Laws.{in-at}
 
 -- a node's term stands so deep in the term that it is of
@@ -35,7 +35,7 @@ deep (par-left y) = let z = deep y in record { depth = z .depth; stands = part.p
 deep (par-right y) =
     let z = deep y in record { depth = z .depth; stands = part.par-right (z .stands); around = z .around }
 
-numbered : {own i h n : ℕ} {ds : List Definition} {x : Node} → Stands own i ds h n x
+numbered : {own i h n : ℕ} {ds : List Definition} {x : Node} → NodeStands own i ds h n x
     → part.Stands ds h (x .spot .prefixes) n (x .term)
 numbered (first y) =
     let z = deep y in let a = z .around in stands-at (omega arith) (omega arith) (part.first (z .stands))

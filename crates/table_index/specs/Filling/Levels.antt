@@ -22,7 +22,7 @@ use Rattle.table.specs.Node.{termOf}
 use Rattle.table.specs.Node.Laws.{body-node, own-node}
 use Rattle.table_index.specs.Layout.{termsAt, setsAt, bodiesAt, levelsAt, widthsAt, widthDigit}
 use Rattle.table_index.specs.Index.{Structured}
-use Rattle.table_index.specs.Filling.{Kept, storedCall, CallCounted, WidthsAsked, WidthsFilled}
+use Rattle.table_index.specs.Filling.{KeptOutside, storedCall, CallCounted, WidthsAsked, WidthsFilled}
 use Rattle.table_index.specs.Filling.{LevelAsked, bodyWidth, BodyDone, LevelDone}
 use Rattle.table_index.specs.Filling.Kinds.{size-some}
 use Rattle.table_index.specs.Filling.Spans.{end-stored, body-whole}
@@ -126,7 +126,7 @@ module _ (t : Table) (w : List ℕ) (d level : ℕ) (a : LevelAsked t w level) (
 pub record LevelSoFar (t : Table) (w v : List ℕ) (level widestSo d : ℕ) : Type 0 where
   pub inside : d ≤ length (t .definitions)
   pub structure : Structured t v
-  pub kept : Kept termsAt setsAt w v
+  pub kept : KeptOutside termsAt setsAt w v
   pub rest : max widestSo (widest (widthWith (storedCall t w level)) level (drop d (t .definitions)))
       ≡ widest (widthWith (storedCall t w level)) level (t .definitions)
 

@@ -20,7 +20,7 @@ use Rattle.table.specs.Fields.{Fields}
 use Rattle.table.specs.Writing.{refNumbers, termNumbers, definitionNumbers, setNumbers, numbersOf}
 use Rattle.table.specs.Node.{Node, nodeAt, termOf, refOf, parameterOf, definitionsAt}
 use Rattle.table.specs.Node.Parts.{Part, here, follower, choice-left, choice-right, par-left, par-right}
-use Rattle.table.specs.Node.Homes.{Stands, first, later}
+use Rattle.table.specs.Node.Homes.{NodeStands, first, later}
 use Rattle.table.specs.Node.Laws.{in-at}
 use Rattle.table_index.specs.Index.{tableIn, tableGot}
 
@@ -44,7 +44,7 @@ part-place (par-right {r = r} {p = p} {q = q} h) =
     let a = length-append (refNumbers r) (termNumbers p ++ termNumbers q) in
     omega (arith, part-place h, length-append (termNumbers p) (termNumbers q))
 
-stands-place : {own i h n : ℕ} {ds : List Definition} {x : Node} → Stands own i ds h n x
+stands-place : {own i h n : ℕ} {ds : List Definition} {x : Node} → NodeStands own i ds h n x
     → x .place + extent (x .term) ≤ i + length (flatMap definitionNumbers ds)
 unfolding flatMap definitionNumbers
 stands-place (first {d = d} {ds = ds} y) =

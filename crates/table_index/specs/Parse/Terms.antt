@@ -23,7 +23,7 @@ use Rattle.table.specs.Writing.{refNumbers, definitionNumbers}
 use Rattle.table.specs.Node.{nodes, noNode, followerSpot, sideSpot, besideSpot, bodySpot, setOf, parameterOf}
 use Rattle.table_index.specs.Layout.{termsAt, bodiesAt, levelsAt, structureOf}
 use Rattle.table_index.specs.Index.{firstRow, wordOf}
-use Rattle.table_index.specs.Parse.{Stops, WordStored, TermStored}
+use Rattle.table_index.specs.Parse.{Refuses, WordStored, TermStored}
 pub mod Stored
 pub mod Reference
 pub mod Kind
@@ -46,7 +46,7 @@ pub record TermFoundBy (p : Parser Term) (sets : List SetDef) (l : List ℕ) (s 
 
 abbrev pub TermReadBy : Parser Term → List SetDef → List ℕ → Spot → ℕ → ℕ → ℕ → List ℕ → List ℕ → TermEnd → Type 0
 TermReadBy p sets l s n i from w w' (NextTerm j m) = TermFoundBy p sets l s n i from w w' j m
-TermReadBy p sets l s n i from w w' (NoTerm r) = Stops (p (tokensAt l from)) r × (length w' ≡ length w)
+TermReadBy p sets l s n i from w w' (NoTerm r) = Refuses (p (tokensAt l from)) r × (length w' ≡ length w)
 
 -- ---- terms without terms in them
 
@@ -144,4 +144,4 @@ pub record DefinitionFound (sets : List SetDef) (l : List ℕ) (d n i : ℕ) (w 
 
 abbrev pub DefinitionRead : List SetDef → List ℕ → ℕ → ℕ → ℕ → List ℕ → List ℕ → TermEnd → Type 0
 DefinitionRead sets l d n i w w' (NextTerm j m) = DefinitionFound sets l d n i w w' j m
-DefinitionRead sets l d n i w w' (NoTerm r) = Stops (definition sets n (tokensAt l i)) r × (length w' ≡ length w)
+DefinitionRead sets l d n i w w' (NoTerm r) = Refuses (definition sets n (tokensAt l i)) r × (length w' ≡ length w)

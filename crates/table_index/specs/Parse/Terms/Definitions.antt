@@ -20,7 +20,7 @@ use Rattle.table.specs.Writing.{definitionNumbers}
 use Rattle.table.specs.Node.{Node, nodes, nodesFrom, noNode, bodySpot}
 use Rattle.table_index.specs.Layout.{termsAt, setsAt, bodiesAt, levelsAt, widthsAt, structureOf}
 use Rattle.table_index.specs.Index.{wordOf, setsIn}
-use Rattle.table_index.specs.Parse.{Stops, SetsReady, DefinitionsFound}
+use Rattle.table_index.specs.Parse.{Refuses, SetsReady, DefinitionsFound}
 use Rattle.table_index.specs.Parse.Terms.{DefinitionFound}
 use Rattle.table_index.specs.Parse.Terms.Stored.{ready-kept, right-node}
 use Rattle.table_index.specs.Parse.Terms.Appended.{sizes-snoc, numbers-snoc, nodes-snoc, sizes-nodes, levels-old}
@@ -186,8 +186,8 @@ module _ (sets : List SetDef) (l : List ℕ) (i : ℕ) (w₀ : List ℕ) where
           within = a .within;
         }
 
-    pub defined-stop : (r : Refusal) → d < count → Stops (definition sets n (tokensAt l p)) r
-        → Stops (definitionsOf sets count 0 (tokensAt l i)) r
+    pub defined-stop : (r : Refusal) → d < count → Refuses (definition sets n (tokensAt l p)) r
+        → Refuses (definitionsOf sets count 0 (tokensAt l i)) r
     defined-stop r h e =
         let c = a .counted in
         all-stop (definition sets) nextTerm (definitionsOf sets) repeats count (a .parsed) (omega arith) e

@@ -26,7 +26,7 @@ use Rattle.table.specs.Grammar.{termOfKind, termWith}
 use Rattle.table.specs.Node.{node, nodes, kindOf, leftSize, refOf, parameterOf}
 use Rattle.table_index.specs.Index.{targetOf, packed, wordOf}
 use Rattle.table_index.specs.Layout.{targets}
-use Rattle.table_index.specs.Parse.{SpotFits, HeadFits, Stops, WordStored, TermRead}
+use Rattle.table_index.specs.Parse.{SpotFits, HeadFits, Refuses, WordStored, TermRead}
 use Rattle.table_index.specs.Parse.Terms.{TermFoundBy, TermReadBy, LeafRead, callRest}
 use Rattle.table_index.specs.Parse.Terms.Stored.{stored-in, stored-one, size-nodes}
 
@@ -47,7 +47,7 @@ module _ {A : Type 0} (p : Parser A) (f : A → Parser Term) (sets : List SetDef
       }
   read-then (NoTerm r) a mid e h = (then-got p f (tokensAt l from) e (h .0), h .1)
 
-  pub read-then-stop : (r : Refusal) → Stops (p (tokensAt l from)) r → length w' ≡ length w
+  pub read-then-stop : (r : Refusal) → Refuses (p (tokensAt l from)) r → length w' ≡ length w
       → TermReadBy (andThen p f) sets l s n i from w w' (NoTerm r)
   read-then-stop r e h = (then-stop p f (tokensAt l from) e, h)
 
@@ -55,7 +55,7 @@ module _ {A : Type 0} (p : Parser A) (f : A → Parser Term) (sets : List SetDef
 
 module _ (sets : List SetDef) (l : List ℕ) (n i : ℕ) where
   pub term-short : (deep : ℕ) (r : Refusal) → length l ≤ i → i ≤ length l → r .number ≡ 3 → r .place ≡ length l
-      → Stops (termWith sets deep n (tokensAt l i)) r
+      → Refuses (termWith sets deep n (tokensAt l i)) r
   unfolding termWith
   term-short zero r a b e f =
       let g : r .place ≡ i = omega arith in
@@ -65,7 +65,7 @@ module _ (sets : List SetDef) (l : List ℕ) (n i : ℕ) where
       rw (e, g) (then-stop _ _ _ (number-short _ l i (omega arith)))
 
   pub term-deep : (deep : ℕ) (r : Refusal) → i < length l → deep ≡ 0 → r .number ≡ 5 → r .place ≡ i
-      → Stops (termWith sets deep n (tokensAt l i)) r
+      → Refuses (termWith sets deep n (tokensAt l i)) r
   unfolding termWith
   term-deep deep r a d e f = rw (d, e, f) (then-stop _ _ _ (number-off _ l i a refl))
 
@@ -74,14 +74,14 @@ module _ (sets : List SetDef) (l : List ℕ) (n i : ℕ) where
   and-false false = refl
 
   pub term-many : (deep : ℕ) (r : Refusal) → i < length l → (deep ≡ 0 → ⊥) → 1024 ≤ n → r .number ≡ 5 → r .place ≡ i
-      → Stops (termWith sets deep n (tokensAt l i)) r
+      → Refuses (termWith sets deep n (tokensAt l i)) r
   unfolding termWith
   term-many zero r a d h e f = absurd (d refl)
   term-many (suc deep) r a d h e f =
       rw (e, f) (then-stop _ _ _ (number-off _ l i a (rw (le-ltb n 1024 h) (and-false (ltb (getD l i 0) 6)))))
 
   pub term-unknown : (deep : ℕ) (r : Refusal) → i < length l → (deep ≡ 0 → ⊥) → 6 ≤ getD l i 0 → r .number ≡ 5
-      → r .place ≡ i → Stops (termWith sets deep n (tokensAt l i)) r
+      → r .place ≡ i → Refuses (termWith sets deep n (tokensAt l i)) r
   unfolding termWith
   term-unknown zero r a d h e f = absurd (d refl)
   term-unknown (suc deep) r a d h e f =
@@ -203,7 +203,7 @@ module _ (sets : List SetDef) (l : List ℕ) (s : Spot) (n i : ℕ) (w w' : List
       (head-word sets (headAt 5 0 d s) n (n + 1) i (call d) refl refl (omega arith) refl) x)
 
 pub call-short : (l : List ℕ) (i : ℕ) (r : Refusal) → i < length l → length l ≤ i + 1 → r .number ≡ 3
-    → r .place ≡ length l → Stops (callRest (tokensAt l (i + 1))) r
+    → r .place ≡ length l → Refuses (callRest (tokensAt l (i + 1))) r
 unfolding callRest
 call-short l i r a b e f =
     let g : r .place ≡ i + 1 = omega arith in

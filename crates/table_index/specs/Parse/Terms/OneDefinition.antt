@@ -22,7 +22,7 @@ use Rattle.table.specs.Grammar.Terms.{term-sound}
 use Rattle.table.specs.Writing.{termNumbers, definitionNumbers}
 use Rattle.table.specs.Node.{bodySpot}
 use Rattle.table_index.specs.Layout.{bodiesAt, levelsAt}
-use Rattle.table_index.specs.Parse.{SpotFits, Stops, SetsReady, TermRead}
+use Rattle.table_index.specs.Parse.{SpotFits, Refuses, SetsReady, TermRead}
 use Rattle.table_index.specs.Parse.Terms.{DefinitionRead}
 use Rattle.table_index.specs.Parse.Terms.Stored.{ready-kept}
 use native.Mathlib.Numerals.{add-one}
@@ -32,14 +32,14 @@ use Rattle.table_index.specs.Parse.Terms.Reference.{follows-place}
 
 module _ (sets : List SetDef) (l : List ℕ) (n i : ℕ) where
   pub definition-short : (r : Refusal) → length l ≤ i → i ≤ length l → r .number ≡ 3 → r .place ≡ length l
-      → Stops (definition sets n (tokensAt l i)) r
+      → Refuses (definition sets n (tokensAt l i)) r
   unfolding definition
   definition-short r a b e f =
       let g : r .place ≡ i = omega arith in
       rw (e, g) (then-stop _ _ _ (number-short _ l i (omega arith)))
 
   pub definition-high : (r : Refusal) → i < length l → 7 < getD l i 0 → r .number ≡ 5 → r .place ≡ i
-      → Stops (definition sets n (tokensAt l i)) r
+      → Refuses (definition sets n (tokensAt l i)) r
   unfolding definition
   definition-high r a b e f = rw (e, f) (then-stop _ _ _ (number-off _ l i a (lt-leb (getD l i 0) 7 b)))
 

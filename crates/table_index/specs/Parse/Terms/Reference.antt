@@ -23,7 +23,7 @@ use Rattle.table.specs.Grammar.Terms.{ref-sound}
 use Rattle.table.specs.Writing.{refNumbers}
 use Rattle.table_index.specs.Layout.{rowsMost, setsAt}
 use Rattle.table_index.specs.Index.{firstRow, kindOfSet, setWord, setMasks, SetsIndexed}
-use Rattle.table_index.specs.Parse.{Stops, ReferenceFound}
+use Rattle.table_index.specs.Parse.{Refuses, ReferenceFound}
 
 -- ---- the place after what was read
 
@@ -47,7 +47,7 @@ follows-place l ns i j f =
 
 module _ (sets : List SetDef) (l : List ℕ) (i : ℕ) where
   pub ref-short : (r : Refusal) → length l ≤ i → i ≤ length l → r .number ≡ 3 → r .place ≡ length l
-      → Stops (setRef sets (tokensAt l i)) r
+      → Refuses (setRef sets (tokensAt l i)) r
   unfolding setRef
   ref-short r a b e f =
       let z : i ≡ length l = omega arith in
@@ -55,7 +55,7 @@ module _ (sets : List SetDef) (l : List ℕ) (i : ℕ) where
       rw (e, g) (then-stop _ _ _ (number-short _ l i z))
 
   pub ref-high : (r : Refusal) → i < length l → length sets ≤ getD l i 0 → r .number ≡ 5 → r .place ≡ i
-      → Stops (setRef sets (tokensAt l i)) r
+      → Refuses (setRef sets (tokensAt l i)) r
   unfolding setRef
   ref-high r a b e f =
       rw (e, f) (then-stop _ _ _ (number-off _ l i a (le-ltb (getD l i 0) (length sets) b)))
@@ -142,13 +142,13 @@ module _ (A : ℕ) (sets : List SetDef) (l w : List ℕ) (i : ℕ) (x : SetsInde
         ref-known sets l i r a b (kind-each s (getD sets s (one [])) (tokensAt l (i + 1)) r one' h)
 
     pub ref-param-short : (r : Refusal) → length l ≤ i + 1 → r .number ≡ 3 → r .place ≡ length l
-        → Stops (setRef sets (tokensAt l i)) r
+        → Refuses (setRef sets (tokensAt l i)) r
     ref-param-short r c e f =
         let g : r .place ≡ i + 1 = omega arith in
         rw (e, g) (ref-more _ (then-stop _ _ _ (number-short _ l (i + 1) (omega arith))))
 
     pub ref-param-high : (r : Refusal) → i + 1 < length l → 3 < getD l (i + 1) 0 → r .number ≡ 5 → r .place ≡ i + 1
-        → Stops (setRef sets (tokensAt l i)) r
+        → Refuses (setRef sets (tokensAt l i)) r
     ref-param-high r c h e f =
         rw (e, f) (ref-more _ (then-stop _ _ _ (number-off _ l (i + 1) c (lt-leb (getD l (i + 1) 0) 3 h))))
 

@@ -26,7 +26,7 @@ use Rattle.table.specs.Writing.{refNumbers, termNumbers}
 use Rattle.table.specs.Node.{node, nodes, kindOf, leftSize, refOf, followerSpot, sideSpot, besideSpot}
 use Rattle.table_index.specs.Layout.{termsAt}
 use Rattle.table_index.specs.Index.{targetOf, packed, wordOf, setsIn}
-use Rattle.table_index.specs.Parse.{SpotFits, HeadFits, Stops, SetsReady, ReferenceFound, TermStored, TermFound}
+use Rattle.table_index.specs.Parse.{SpotFits, HeadFits, Refuses, SetsReady, ReferenceFound, TermStored, TermFound}
 use Rattle.table_index.specs.Parse.{WordStored, TermRead}
 use Rattle.table_index.specs.Parse.Terms.{TermFoundBy, TermReadBy, Joint, before, either, beside, HeadOf, TwoSided}
 use Rattle.table_index.specs.Parse.Terms.{jointTerm, followerOf, sidesOf}
@@ -38,12 +38,12 @@ use Rattle.table_index.specs.Parse.Terms.Kind.{read-then, read-then-stop
 -- ---- terms with terms in them
 
 module _ (sets : List SetDef) (l : List ℕ) (n n₁ from deep : ℕ) (next : n₁ ≡ suc n) (f : Refusal)
-    (x : Stops (termWith sets deep n₁ (tokensAt l from)) f) where
-  pub follower-stop : (r : SetRef) → Stops (followerOf sets deep n r (tokensAt l from)) f
+    (x : Refuses (termWith sets deep n₁ (tokensAt l from)) f) where
+  pub follower-stop : (r : SetRef) → Refuses (followerOf sets deep n r (tokensAt l from)) f
   unfolding followerOf
   follower-stop r = then-stop _ _ _ (rw next at x)
 
-  pub sides-stop : (g : Joint) → Stops (sidesOf sets deep n g (tokensAt l from)) f
+  pub sides-stop : (g : Joint) → Refuses (sidesOf sets deep n g (tokensAt l from)) f
   unfolding sidesOf
   sides-stop g = then-stop _ _ _ (rw next at x)
 
@@ -175,8 +175,8 @@ module _ (sets : List SetDef) (l : List ℕ) (s : Spot) (n i deep : ℕ) (w w' :
       (rw (← e) (h either tt head))
 
   module _ (at : ℕ) (e : at ≡ i + 1) where
-    pub term-no-ref : (r : Refusal) → (getD l i 0 ≡ 2) ⊎ (getD l i 0 ≡ 4) → Stops (setRef sets (tokensAt l at)) r
-        → Stops (termWith sets deep n (tokensAt l i)) r
+    pub term-no-ref : (r : Refusal) → (getD l i 0 ≡ 2) ⊎ (getD l i 0 ≡ 4) → Refuses (setRef sets (tokensAt l at)) r
+        → Refuses (termWith sets deep n (tokensAt l i)) r
     unfolding termOfKind
     term-no-ref r (inl k) h =
         term-kind sets l s n i w deep (deep - 1) 2 w (NoTerm r) inside (omega arith) few k (omega arith)
