@@ -1,22 +1,19 @@
 -- A level that has a body has some width (01, "Hands of a term": every STOP and FAIL counts 1, and so does a call to
 -- its own level; a lower level has some width itself). Assumes nothing.
-use Prim.Native.Nat.{ℕ, zero, suc, _+_, max, _≤_, _<_}
+use Prim.Native.Nat.{ℕ, zero, suc, _≤_, _<_}
 use native.Mathlib.Omega.{arith}
 use native.Mathlib.Decide.{ℕ-discrete}
 use mathlib.Core.Path.{_≡_, refl}
-use mathlib.Core.Bool.{Bool, true, false, cond}
-use mathlib.Core.List.{List, [], _∷_}
-use lib.ListN.{length, getD}
-use lib.Dec.{eqb}
+use mathlib.Core.List.{List}
+use lib.ListN.{length}
 use borrow.Author.Tests.{eq-eqb, ne-eqb}
-use Rattle.numbers.specs.Choice.{cond-cases}
 use Rattle.numbers.specs.Every.{from-at}
 use Rattle.table.specs.Table.{Table, Definition, Term, stop, fail, prefix, choice, par, call, bodyOf}
 use Rattle.table.specs.Context.{Context, outermost, underPrefix, underParallel, Throughout}
 use Rattle.table.specs.References.{levelIn}
 use Rattle.table.specs.References.Laws.{Linked}
 use Rattle.table.specs.Width.{widthWith, widest, levelWidth}
-use Rattle.table.specs.Width.Reach.{level-small}
+use Rattle.table.specs.Width.Reach.{widest-at, level-small}
 use Rattle.table.specs.Equations.{callCount, width-level}
 use Rattle.table.specs.Rules.{Rules}
 use Rattle.table.specs.Rules.Laws.{linked, no-wrong}
@@ -51,18 +48,6 @@ module _ (t : Table) (rules : Rules t) where
       some-term f (levelIn ds d) d k outermost (bodyOf t d)
       (from-at (λ own x. Throughout (Linked ds (x .level) own) outermost (x .body)) _ 0 ds (linked t rules) d d
       (omega arith) h)
-
-  widest-at : (f : Term → ℕ) (l : ℕ) (xs : List Definition) (z : Definition) (d : ℕ) → d < length xs
-      → getD xs d z .level ≡ l
-      → f (getD xs d z .body) ≤ widest f l xs
-  unfolding widest
-  widest-at f l [] z d h e = absurd (omega arith)
-  widest-at f l (x ∷ xs) z zero h e = simp (eq-eqb _ _ e) (omega arith)
-  widest-at f l (x ∷ xs) z (suc d) h e =
-      let more = widest-at f l xs z d (omega arith) e in
-      cond-cases (λ (n : ℕ). f (getD xs d z .body) ≤ n) (eqb (x .level) l) (max (f (x .body)) (widest f l xs))
-      (widest f l xs)
-      (λ _. omega arith) (λ _. more)
 
   level-widest : (f : Term → ℕ) (d : ℕ) → d < length ds → f (bodyOf t d) ≤ widest f (levelIn ds d) ds
   unfolding bodyOf levelIn

@@ -14,6 +14,7 @@ use Rattle.table.specs.declared.terms.Spot.{Spot}
 use Rattle.table.specs.Table.{SetRef, Term, stop, fail, prefix, choice, par, call, size}
 use Rattle.table.specs.Writing.{refNumbers, termNumbers}
 use Rattle.table.specs.Context.{Each}
+use Rattle.table.specs.Context.Laws.{each-here}
 use Rattle.table.specs.Fields.{depthOf}
 pub use Rattle.table.specs.Part.Laws.{size-positive}
 use Rattle.table.specs.Node.{Node, node, nodes, noNode, followerSpot, sideSpot, besideSpot}
@@ -178,16 +179,8 @@ depth-positive (choice p q) = omega arith
 depth-positive (par r p q) = omega arith
 depth-positive (call d) = omega arith
 
-each-self : (X : Term → Type 0) (p : Term) → Each X p → X p
-each-self X stop f = f
-each-self X fail f = f
-each-self X (prefix r p) f = f .0
-each-self X (choice p q) f = f .0
-each-self X (par r p q) f = f .0
-each-self X (call d) f = f
-
 pub part-each : (X : Term → Type 0) {s : Spot} {i k : ℕ} {p : Term} {x : Node} → Each X p → Part s i p k x → X (x .term)
-part-each X f (here {p = p}) = each-self X p f
+part-each X f (here {p = p}) = each-here X p f
 part-each X f (follower h) = part-each X (f .1) h
 part-each X f (choice-left h) = part-each X (f .1) h
 part-each X f (choice-right h) = part-each X (f .2) h

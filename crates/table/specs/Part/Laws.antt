@@ -50,29 +50,29 @@ termIn-here (choice p q) = refl
 termIn-here (par r p q) = refl
 termIn-here (call d) = refl
 
-termIn-stop : (n : ℕ) → termIn stop (suc n) ≡ none
+pub termIn-stop : (n : ℕ) → termIn stop (suc n) ≡ none
 unfolding termIn
 termIn-stop n = rw (eqb·suc-zero n, termIn)
 
-termIn-fail : (n : ℕ) → termIn fail (suc n) ≡ none
+pub termIn-fail : (n : ℕ) → termIn fail (suc n) ≡ none
 unfolding termIn
 termIn-fail n = rw (eqb·suc-zero n, termIn)
 
-termIn-call : (d n : ℕ) → termIn (call d) (suc n) ≡ none
+pub termIn-call : (d n : ℕ) → termIn (call d) (suc n) ≡ none
 unfolding termIn
 termIn-call d n = rw (eqb·suc-zero n, termIn)
 
-termIn-prefix : (r : SetRef) (p : Term) (n : ℕ) → termIn (prefix r p) (suc n) ≡ termIn p n
+pub termIn-prefix : (r : SetRef) (p : Term) (n : ℕ) → termIn (prefix r p) (suc n) ≡ termIn p n
 unfolding termIn
 termIn-prefix r p n = let e : suc n - 1 ≡ n = omega arith in rw (eqb·suc-zero n, termIn) (ap (termIn p) e)
 
-termIn-choice-left : (p q : Term) (n : ℕ) → n < size p → termIn (choice p q) (suc n) ≡ termIn p n
+pub termIn-choice-left : (p q : Term) (n : ℕ) → n < size p → termIn (choice p q) (suc n) ≡ termIn p n
 unfolding termIn
 termIn-choice-left p q n h =
     let e : suc n - 1 ≡ n = omega arith in
     rw (eqb·suc-zero n, e, lt-ltb _ _ h, termIn) (ap (termIn p) e)
 
-termIn-choice-right : (p q : Term) (n : ℕ) → termIn (choice p q) (suc (size p + n)) ≡ termIn q n
+pub termIn-choice-right : (p q : Term) (n : ℕ) → termIn (choice p q) (suc (size p + n)) ≡ termIn q n
 unfolding termIn
 termIn-choice-right p q n =
     let e : suc (size p + n) - 1 ≡ size p + n = omega arith in
@@ -80,13 +80,13 @@ termIn-choice-right p q n =
     let l : size p ≤ size p + n = omega arith in
     rw (eqb·suc-zero (size p + n), e, le-ltb _ _ l, termIn) (ap (termIn q) f)
 
-termIn-par-left : (r : SetRef) (p q : Term) (n : ℕ) → n < size p → termIn (par r p q) (suc n) ≡ termIn p n
+pub termIn-par-left : (r : SetRef) (p q : Term) (n : ℕ) → n < size p → termIn (par r p q) (suc n) ≡ termIn p n
 unfolding termIn
 termIn-par-left r p q n h =
     let e : suc n - 1 ≡ n = omega arith in
     rw (eqb·suc-zero n, e, lt-ltb _ _ h, termIn) (ap (termIn p) e)
 
-termIn-par-right : (r : SetRef) (p q : Term) (n : ℕ) → termIn (par r p q) (suc (size p + n)) ≡ termIn q n
+pub termIn-par-right : (r : SetRef) (p q : Term) (n : ℕ) → termIn (par r p q) (suc (size p + n)) ≡ termIn q n
 unfolding termIn
 termIn-par-right r p q n =
     let e : suc (size p + n) - 1 ≡ size p + n = omega arith in

@@ -13,12 +13,12 @@ use Rattle.table.specs.Part.{Part, here, follower, choice-left, choice-r
 use Rattle.table.specs.Part.{first, later}
 use Rattle.table.specs.Part.Laws.{size-positive, part-fits, part-trans, part-in, part-out, part-prefixes}
 
-defs-first : (d : Definition) (ds : List Definition) (n : ℕ) → n < size (d .body)
+pub defs-first : (d : Definition) (ds : List Definition) (n : ℕ) → n < size (d .body)
     → termOfDefs (d ∷ ds) n ≡ termIn (d .body) n
 unfolding termOfDefs
 defs-first d ds n h = rw (lt-ltb _ _ h, termOfDefs)
 
-defs-later : (d : Definition) (ds : List Definition) (n : ℕ)
+pub defs-later : (d : Definition) (ds : List Definition) (n : ℕ)
     → termOfDefs (d ∷ ds) (size (d .body) + n) ≡ termOfDefs ds n
 unfolding termOfDefs
 defs-later d ds n =

@@ -11,7 +11,7 @@ use mathlib.Core.List.{List, [], _∷_, _++_}
 use mathlib.Core.Option.{Option, none, some}
 use lib.ListN.{length, getD, take, List·getD-append}
 use lib.Seq.{getD-append-add}
-use lib.Dec.{leb, eqb·suc-zero}
+use lib.Dec.{leb}
 use borrow.Author.Tests.{lt-leb}
 use Rattle.table.specs.Table.{SetRef, Term, stop, fail, prefix, choice, par, call, Definition, Table, size, sizes}
 use Rattle.table.specs.Table.{termIn, termOfDefs}
@@ -20,23 +20,12 @@ use Rattle.table.specs.Node.Parts.{size-positive}
 use Rattle.table.specs.Branches.{branchesWith, branchesAt, allBranches}
 use Rattle.table.specs.Refusals.{fewIn, fewFrom, fewTerms, BodyOrFollower, a-body, a-follower, ManyAt}
 use Rattle.table.specs.Refusals.Laws.{length-few}
-use Rattle.table.specs.Refusals.Terms.{termIn-zero, termIn-prefix, termIn-left, termIn-right, termIn-par-left}
-use Rattle.table.specs.Refusals.Terms.{termIn-par-right, defs-left, defs-right}
+use Rattle.table.specs.Part.Laws.{termIn-here, termIn-stop, termIn-fail, termIn-call, termIn-prefix}
+use Rattle.table.specs.Part.Laws.{termIn-choice-left, termIn-choice-right, termIn-par-left, termIn-par-right}
+use Rattle.table.specs.Part.Numbers.{defs-first, defs-later}
 
 not-none : {X : Type 0} {o : Option Term} {q : Term} → o ≡ none → o ≡ some q → X
 not-none e f = absurd (let z : _≡_ {A = ℕ} 0 1 = cc in omega arith)
-
-stop-in : (m : ℕ) → termIn stop (suc m) ≡ none
-unfolding termIn
-stop-in m = rw (eqb·suc-zero m, termIn)
-
-fail-in : (m : ℕ) → termIn fail (suc m) ≡ none
-unfolding termIn
-fail-in m = rw (eqb·suc-zero m, termIn)
-
-call-in : (d m : ℕ) → termIn (call d) (suc m) ≡ none
-unfolding termIn
-call-in d m = rw (eqb·suc-zero m, termIn)
 
 no-term : (m : ℕ) → termOfDefs [] m ≡ none
 unfolding termOfDefs
@@ -49,7 +38,7 @@ same-some e = cc
 not-other : {X : Type 0} (b : Term) {r : SetRef} {q : Term} → (kindOf b ≡ 2 → ⊥) → termIn b 0 ≡ some (prefix r q) → X
 unfolding kindOf
 not-other b k f =
-    let e : b ≡ prefix _ _ = same-some (sym (termIn-zero b) ∙ f) in
+    let e : b ≡ prefix _ _ = same-some (sym (termIn-here b) ∙ f) in
     absurd (k (ap kindOf e))
 
 same-follower : {o : Option Term} {r s : SetRef} {p q : Term} → o ≡ some (prefix r p) → o ≡ some (prefix s q) → p ≡ q
@@ -104,13 +93,13 @@ module _ (calls : ℕ → ℕ) where
   pub follower-in : (b : Term) (n : ℕ) (r : SetRef) (p : Term) → termIn b n ≡ some (prefix r p) → Tested b n p
   unfolding fewIn size kindOf
   follower-in stop zero r p h = not-other stop (λ e. omega arith) h
-  follower-in stop (suc m) r p h = not-none (stop-in m) h
+  follower-in stop (suc m) r p h = not-none (termIn-stop m) h
   follower-in fail zero r p h = not-other fail (λ e. omega arith) h
-  follower-in fail (suc m) r p h = not-none (fail-in m) h
+  follower-in fail (suc m) r p h = not-none (termIn-fail m) h
   follower-in (call d) zero r p h = not-other (call d) (λ e. omega arith) h
-  follower-in (call d) (suc m) r p h = not-none (call-in d m) h
+  follower-in (call d) (suc m) r p h = not-none (termIn-call d m) h
   follower-in (prefix s q) zero r p h =
-      let e = same-follower (termIn-zero (prefix s q)) h in
+      let e = same-follower (termIn-here (prefix s q)) h in
       record {
         within = omega (arith, size-positive q);
         test = ap (λ (x : Term). leb (branchesWith calls x) 256) e;
@@ -120,8 +109,8 @@ module _ (calls : ℕ → ℕ) where
       record { within = omega (arith, t .within); test = t .test }
   follower-in (choice x y) zero r p h = not-other (choice x y) (λ e. omega arith) h
   follower-in (choice x y) (suc m) r p h =
-      sides-in (choice x y) x y refl refl (termIn-left x y) (termIn-right x y) r p (λ k e. follower-in x k r p e)
-      (λ k e. follower-in y k r p e) m h
+      sides-in (choice x y) x y refl refl (termIn-choice-left x y) (termIn-choice-right x y) r p
+      (λ k e. follower-in x k r p e) (λ k e. follower-in y k r p e) m h
   follower-in (par s x y) zero r p h = not-other (par s x y) (λ e. omega arith) h
   follower-in (par s x y) (suc m) r p h =
       sides-in (par s x y) x y refl refl (termIn-par-left s x y) (termIn-par-right s x y) r p
@@ -154,23 +143,23 @@ module _ (calls : ℕ → ℕ) where
           → getD (fewFrom calls ds) (suc k) true ≡ leb (branchesWith calls p) 256)
           → Dec (m < size (d .body)) → getD (fewFrom calls (d ∷ ds)) (suc m) true ≡ leb (branchesWith calls p) 256
       go ih (yes l) =
-          let t = follower-in (d .body) m r p (sym (defs-left d ds m l) ∙ h) in
+          let t = follower-in (d .body) m r p (sym (defs-first d ds m l) ∙ h) in
           first d ds (suc m) (t .within) ∙ t .test
       go ih (no l) =
           let e : m ≡ size (d .body) + (m - size (d .body)) = omega arith in
           beyond d ds (suc m) (suc (m - size (d .body))) (omega arith)
-          ∙ ih (m - size (d .body)) (sym (defs-right d ds (m - size (d .body))) ∙ ap (termOfDefs (d ∷ ds)) (sym e) ∙ h)
+          ∙ ih (m - size (d .body)) (sym (defs-later d ds (m - size (d .body))) ∙ ap (termOfDefs (d ∷ ds)) (sym e) ∙ h)
 
   body-from : (ds : List Definition) (d : ℕ) → d < length ds → (p : Term) → termOfDefs ds (sizes (take d ds)) ≡ some p
       → getD (fewFrom calls ds) (sizes (take d ds)) true ≡ leb (branchesWith calls p) 256
   unfolding sizes
   body-from [] d h p e = absurd (omega arith)
   body-from (x ∷ ds) zero h p e =
-      let i : x .body ≡ p = same-some (sym (defs-left x ds 0 (size-positive (x .body)) ∙ termIn-zero (x .body)) ∙ e) in
+      let i : x .body ≡ p = same-some (sym (defs-first x ds 0 (size-positive (x .body)) ∙ termIn-here (x .body)) ∙ e) in
       first x ds 0 (size-positive (x .body)) ∙ ap (λ (y : Term). leb (branchesWith calls y) 256) i
   body-from (x ∷ ds) (suc d) h p e =
       beyond x ds (size (x .body) + sizes (take d ds)) (sizes (take d ds)) refl
-      ∙ body-from ds d (omega arith) p (sym (defs-right x ds (sizes (take d ds))) ∙ e)
+      ∙ body-from ds d (omega arith) p (sym (defs-later x ds (sizes (take d ds))) ∙ e)
 
   many-from : (ds : List Definition) (n : ℕ) → ManyAt calls ds n → getD (fewFrom calls ds) n true ≡ false
   many-from ds n x = by (x .place)

@@ -1,9 +1,8 @@
 -- Refusal 9's place is a term number (01, "When the monitor declines": "lowest such term"): the term of that number is
 -- a body or a prefix's follower, above 256.
---     termIn-..     `termIn` by cases
---     many-at       where `fewTerms` fails there is such a term (`ManyAt`)
+--     many-at    where `fewTerms` fails there is such a term (`ManyAt`)
 -- Assumes nothing.
-use Prim.Native.Nat.{ℕ, zero, suc, _+_, _-_, _≤_, _<_}
+use Prim.Native.Nat.{ℕ, zero, suc, _+_, _-_, _<_}
 use native.Mathlib.Omega.{arith}
 use native.Mathlib.Decide.{decLt}
 use mathlib.Core.Path.{_≡_, refl, sym, ap, _∙_}
@@ -12,56 +11,16 @@ use mathlib.Core.List.{List, [], _∷_, _++_}
 use mathlib.Core.Option.{some}
 use lib.ListN.{length, getD, List·getD-append}
 use lib.Seq.{getD-append-add}
-use lib.Dec.{leb, eqb·suc-zero}
-use borrow.Author.Tests.{lt-ltb, le-ltb, leb-false}
+use lib.Dec.{leb}
+use borrow.Author.Tests.{leb-false}
 use Rattle.table.specs.Table.{SetRef, Term, stop, fail, prefix, choice, par, call, Definition, Table, size, sizes}
 use Rattle.table.specs.Table.{termIn, termOfDefs}
+use Rattle.table.specs.Part.Laws.{termIn-here, termIn-prefix, termIn-choice-left, termIn-choice-right}
+use Rattle.table.specs.Part.Laws.{termIn-par-left, termIn-par-right}
+use Rattle.table.specs.Part.Numbers.{defs-first, defs-later}
 use Rattle.table.specs.Branches.{branchesWith, branchesAt, allBranches}
 use Rattle.table.specs.Refusals.{fewIn, fewFrom, fewTerms, BodyOrFollower, a-body, a-follower, ManyAt}
 use Rattle.table.specs.Refusals.Laws.{length-few}
-
--- ---- the term that stands n terms into a term
-pub termIn-zero : (p : Term) → termIn p 0 ≡ some p
-unfolding termIn
-termIn-zero stop = refl
-termIn-zero fail = refl
-termIn-zero (prefix r p) = refl
-termIn-zero (choice p q) = refl
-termIn-zero (par r p q) = refl
-termIn-zero (call d) = refl
-
-less-one : (m : ℕ) → suc m - 1 ≡ m
-less-one m = omega arith
-
-pub termIn-prefix : (r : SetRef) (p : Term) (m : ℕ) → termIn (prefix r p) (suc m) ≡ termIn p m
-unfolding termIn
-termIn-prefix r p m = rw (eqb·suc-zero m, less-one m, termIn) refl
-
-pub termIn-left : (p q : Term) (m : ℕ) → m < size p → termIn (choice p q) (suc m) ≡ termIn p m
-unfolding termIn
-termIn-left p q m h =
-    let k : suc m - 1 < size p = omega arith in
-    rw (eqb·suc-zero m, lt-ltb (suc m - 1) (size p) k, termIn) (ap (termIn p) (less-one m))
-
-pub termIn-right : (p q : Term) (m : ℕ) → termIn (choice p q) (suc (size p + m)) ≡ termIn q m
-unfolding termIn
-termIn-right p q m =
-    let e : suc (size p + m) - 1 - size p ≡ m = omega arith in
-    let k : size p ≤ suc (size p + m) - 1 = omega arith in
-    rw (eqb·suc-zero (size p + m), le-ltb (suc (size p + m) - 1) (size p) k, termIn) (ap (termIn q) e)
-
-pub termIn-par-left : (r : SetRef) (p q : Term) (m : ℕ) → m < size p → termIn (par r p q) (suc m) ≡ termIn p m
-unfolding termIn
-termIn-par-left r p q m h =
-    let k : suc m - 1 < size p = omega arith in
-    rw (eqb·suc-zero m, lt-ltb (suc m - 1) (size p) k, termIn) (ap (termIn p) (less-one m))
-
-pub termIn-par-right : (r : SetRef) (p q : Term) (m : ℕ) → termIn (par r p q) (suc (size p + m)) ≡ termIn q m
-unfolding termIn
-termIn-par-right r p q m =
-    let e : suc (size p + m) - 1 - size p ≡ m = omega arith in
-    let k : size p ≤ suc (size p + m) - 1 = omega arith in
-    rw (eqb·suc-zero (size p + m), le-ltb (suc (size p + m) - 1) (size p) k, termIn) (ap (termIn q) e)
 
 -- ---- a follower above 256, n terms into a term and one more
 pub record FollowerAt (calls : ℕ → ℕ) (b : Term) (n : ℕ) : Type 0 where
@@ -131,9 +90,9 @@ module _ (calls : ℕ → ℕ) where
       record {
         term = p;
         set = r;
-        here = termIn-prefix r p 0 ∙ termIn-zero p;
+        here = termIn-prefix r p 0 ∙ termIn-here p;
         many = leb-false (branchesWith calls p) 256 h;
-        before = termIn-zero (prefix r p);
+        before = termIn-here (prefix r p);
       }
   few-at (prefix r p) (suc m) h =
       let x = few-at p m h in
@@ -145,26 +104,14 @@ module _ (calls : ℕ → ℕ) where
         before = termIn-prefix r p m ∙ x .before;
       }
   few-at (choice p q) n h =
-      pair-at (choice p q) p q (termIn-left p q) (termIn-right p q) (λ m e. few-at p m e) (λ m e. few-at q m e) n h
+      pair-at (choice p q) p q (termIn-choice-left p q) (termIn-choice-right p q) (λ m e. few-at p m e)
+      (λ m e. few-at q m e) n h
   few-at (par r p q) n h =
       pair-at (par r p q) p q (termIn-par-left r p q) (termIn-par-right r p q) (λ m e. few-at p m e)
       (λ m e. few-at q m e) n h
   few-at (call d) n h = true-is h
 
 -- ---- over the definitions
-
-pub defs-left : (d : Definition) (ds : List Definition) (n : ℕ) → n < size (d .body)
-    → termOfDefs (d ∷ ds) n ≡ termIn (d .body) n
-unfolding termOfDefs
-defs-left d ds n h = rw (lt-ltb n (size (d .body)) h, termOfDefs) refl
-
-pub defs-right : (d : Definition) (ds : List Definition) (k : ℕ)
-    → termOfDefs (d ∷ ds) (size (d .body) + k) ≡ termOfDefs ds k
-unfolding termOfDefs
-defs-right d ds k =
-    let h : size (d .body) ≤ size (d .body) + k = omega arith in
-    let e : size (d .body) + k - size (d .body) ≡ k = omega arith in
-    rw (le-ltb (size (d .body) + k) (size (d .body)) h, termOfDefs) (ap (termOfDefs ds) e)
 
 module _ (calls : ℕ → ℕ) where
   from-at : (ds : List Definition) (n : ℕ) → getD (fewFrom calls ds) n true ≡ false → ManyAt calls ds n
@@ -181,7 +128,7 @@ module _ (calls : ℕ → ℕ) where
       on-left zero l e =
           record {
             term = d .body;
-            here = defs-left d ds 0 l ∙ termIn-zero (d .body);
+            here = defs-first d ds 0 l ∙ termIn-here (d .body);
             many = leb-false (branchesWith calls (d .body)) 256 e;
             place = a-body 0 (omega arith) (unfold sizes in refl);
           }
@@ -189,20 +136,20 @@ module _ (calls : ℕ → ℕ) where
           let x = few-at calls (d .body) m e in
           record {
             term = x .term;
-            here = defs-left d ds (suc m) l ∙ x .here;
+            here = defs-first d ds (suc m) l ∙ x .here;
             many = x .many;
-            place = a-follower m (x .set) refl (defs-left d ds m (omega arith) ∙ x .before);
+            place = a-follower m (x .set) refl (defs-first d ds m (omega arith) ∙ x .before);
           }
 
       shift : (k n : ℕ) (p : Term) → n ≡ size (d .body) + k → BodyOrFollower ds k p → BodyOrFollower (d ∷ ds) n p
       shift k n p j (a-body i b e) = a-body (suc i) (omega arith) (unfold sizes in (omega arith))
-      shift k n p j (a-follower m r e f) = a-follower (size (d .body) + m) r (omega arith) (defs-right d ds m ∙ f)
+      shift k n p j (a-follower m r e f) = a-follower (size (d .body) + m) r (omega arith) (defs-later d ds m ∙ f)
 
       on-right : (k n : ℕ) → n ≡ size (d .body) + k → ManyAt calls ds k → ManyAt calls (d ∷ ds) n
       on-right k n j x =
           record {
             term = x .term;
-            here = ap (termOfDefs (d ∷ ds)) j ∙ defs-right d ds k ∙ x .here;
+            here = ap (termOfDefs (d ∷ ds)) j ∙ defs-later d ds k ∙ x .here;
             many = x .many;
             place = shift k n (x .term) j (x .place);
           }

@@ -30,7 +30,7 @@ use Rattle.table.specs.Rules.{InBodies, Rules}
 use Rattle.table.specs.Rules.Laws.{linked}
 
 -- a level is at least as wide as each of its bodies
-widest-at : (f : Term → ℕ) (l : ℕ) (ds : List Definition) (z : Definition) (d : ℕ) → d < length ds
+pub widest-at : (f : Term → ℕ) (l : ℕ) (ds : List Definition) (z : Definition) (d : ℕ) → d < length ds
     → getD ds d z .level ≡ l
     → f (getD ds d z .body) ≤ widest f l ds
 unfolding widest

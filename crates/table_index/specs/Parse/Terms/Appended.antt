@@ -1,19 +1,18 @@
 -- Definitions with one appended: their numbers, terms, levels and where their bodies stand.
---     sizes-snoc, sizes-nodes        how many terms they have
+--     sizes-snoc                     how many terms they have
 --     numbers-snoc, nodes-snoc       how many numbers they are written in; their nodes
 --     levels-old, levels-new         the levels of the others, and of the one
 --     roots-old                      the terms before the body of another
 -- Assumes nothing.
 use Prim.Native.Nat.{ℕ, suc, _+_, _<_, _≤_}
 use native.Mathlib.Omega.{arith}
-use mathlib.Core.Path.{_≡_, refl, sym, ap, _∙_}
+use mathlib.Core.Path.{_≡_, sym, ap, _∙_}
 use mathlib.Core.List.{List, [], _∷_, _++_, flatMap, append-assoc, append-nil}
 use lib.ListN.{length, take, length-append, List·getD-append}
 use lib.Seq.{getD-at, take-append-le}
 use Rattle.table.specs.Table.{fail, size, Definition, sizes}
 use Rattle.table.specs.Writing.{definitionNumbers}
 use Rattle.table.specs.Node.{Node, nodes, nodesFrom, bodySpot}
-use Rattle.table_index.specs.Parse.Terms.Stored.{size-nodes}
 use Rattle.table.specs.References.{levelIn}
 
 pub sizes-snoc : (ds : List Definition) (v : Definition) → sizes (ds ++ (v ∷ [])) ≡ sizes ds + size (v .body)
@@ -52,16 +51,6 @@ nodes-snoc own i (d ∷ ds) v =
     (ap (λ (l : List Node). one ++ l) (nodes-snoc (suc own) i' ds v)
     ∙ sym (append-assoc one (nodesFrom (suc own) i' ds)
     (nodes (bodySpot (suc own + length ds)) (suc (i' + length (flatMap definitionNumbers ds))) (v .body))))
-
-pub sizes-nodes : (own i : ℕ) (ds : List Definition) → length (nodesFrom own i ds) ≡ sizes ds
-unfolding nodesFrom sizes
-sizes-nodes own i [] = refl
-sizes-nodes own i (d ∷ ds) =
-    let i' = i + length (definitionNumbers d) in
-    let a = length-append (nodes (bodySpot own) (suc i) (d .body)) (nodesFrom (suc own) i' ds) in
-    let b = size-nodes (bodySpot own) (suc i) (d .body) in
-    let c = sizes-nodes (suc own) i' ds in
-    omega arith
 
 pub levels-old : (ds : List Definition) (v : Definition) (k : ℕ) → k < length ds
     → levelIn (ds ++ (v ∷ [])) k ≡ levelIn ds k

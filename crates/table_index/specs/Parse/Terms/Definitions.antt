@@ -21,9 +21,10 @@ use Rattle.table.specs.Node.{Node, nodes, nodesFrom, noNode, bodySpot}
 use Rattle.table_index.specs.Layout.{termsAt, setsAt, bodiesAt, levelsAt, widthsAt, structureOf}
 use Rattle.table_index.specs.Index.{wordOf, setsIn}
 use Rattle.table_index.specs.Parse.{Refuses, SetsReady, DefinitionsFound}
+use Rattle.table.specs.Node.Homes.{length-nodesFrom}
 use Rattle.table_index.specs.Parse.Terms.{DefinitionFound}
 use Rattle.table_index.specs.Parse.Terms.Stored.{ready-kept, right-node}
-use Rattle.table_index.specs.Parse.Terms.Appended.{sizes-snoc, numbers-snoc, nodes-snoc, sizes-nodes, levels-old}
+use Rattle.table_index.specs.Parse.Terms.Appended.{sizes-snoc, numbers-snoc, nodes-snoc, levels-old}
 use Rattle.table_index.specs.Parse.Terms.Appended.{levels-new, roots-old}
 
 -- one definition moves the number of the next term on
@@ -84,7 +85,7 @@ module _ (sets : List SetDef) (l : List ℕ) (i : ℕ) (w₀ : List ℕ) where
         ∙ ap (λ (k : ℕ). nodesFrom 0 i old ++ nodes (bodySpot d) (suc k) (b .value .body)) (sym (a .ends))
 
     here : length (nodesFrom 0 i old) ≡ n
-    here = sizes-nodes 0 i old ∙ sym (a .terms)
+    here = length-nodesFrom 0 i old ∙ sym (a .terms)
 
     old-node : (k : ℕ) → k < n → getD (nodesFrom 0 i more) k noNode ≡ getD (nodesFrom 0 i old) k noNode
     old-node k h =

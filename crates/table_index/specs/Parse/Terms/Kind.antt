@@ -28,7 +28,8 @@ use Rattle.table_index.specs.Index.{targetOf, packed, wordOf}
 use Rattle.table_index.specs.Layout.{targets}
 use Rattle.table_index.specs.Parse.{SpotFits, HeadFits, Refuses, WordStored, TermRead}
 use Rattle.table_index.specs.Parse.Terms.{TermFoundBy, TermReadBy, LeafRead, callRest}
-use Rattle.table_index.specs.Parse.Terms.Stored.{stored-in, stored-one, size-nodes}
+use Rattle.table.specs.Node.Laws.{length-nodes}
+use Rattle.table_index.specs.Parse.Terms.Stored.{stored-in, stored-one}
 
 -- ---- a parser in two parts
 
@@ -150,7 +151,7 @@ module _ (sets : List SetDef) (l : List ℕ) (h : Head) (i n from next : ℕ) (w
       → WordStored h n (n + 1) w w'
       → TermFoundBy q sets l (h .spot) n i from w w' next (n + 1)
   leaf-found q p parsed' only word e =
-      let sized = sym (size-nodes (h .spot) i p) ∙ ap length only in
+      let sized = sym (length-nodes (h .spot) i p) ∙ ap length only in
       record {
         term = p;
         parsed = parsed';

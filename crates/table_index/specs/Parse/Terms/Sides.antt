@@ -31,7 +31,8 @@ use Rattle.table_index.specs.Parse.{WordStored, TermRead}
 use Rattle.table_index.specs.Parse.Terms.{TermFoundBy, TermReadBy, Joint, before, either, beside, HeadOf, TwoSided}
 use Rattle.table_index.specs.Parse.Terms.{jointTerm, followerOf, sidesOf}
 use Rattle.table_index.specs.Parse.Terms.Stored.{Stored, stored-out, stored-in, stored-one, stored-front}
-use Rattle.table_index.specs.Parse.Terms.Stored.{stored-append, size-nodes, ready-kept, ready-stored}
+use Rattle.table.specs.Node.Laws.{length-nodes}
+use Rattle.table_index.specs.Parse.Terms.Stored.{stored-append, ready-kept, ready-stored}
 use Rattle.table_index.specs.Parse.Terms.Reference.{follows-place, ref-place}
 use Rattle.table_index.specs.Parse.Terms.Kind.{read-then, read-then-stop, term-kind, headAt, head-word}
 
@@ -58,7 +59,7 @@ module _ (sets : List SetDef) (l : List ℕ) (h : Head) (i : ℕ) (inner : Spot)
         → Stored sets n (node (h .spot) i p ∷ nodes inner from (x .term)) w w₂
     first-stored p word =
         let t = stored-out sets inner n₁ from (x .term) w w₁ (x .stored) in
-        let sized = size-nodes inner from (x .term) in
+        let sized = length-nodes inner from (x .term) in
         let c = x .counted in
         let b = x .few in
         let same' = t .same in
@@ -99,8 +100,8 @@ module _ (sets : List SetDef) (l : List ℕ) (h : Head) (i : ℕ) (inner : Spot)
     both-stored p q w₃ b word t =
         let front = node (h .spot) i p ∷ nodes inner from (x .term) in
         let at' = from + length (termNumbers (x .term)) in
-        let sized = size-nodes inner from (x .term) in
-        let sized' = size-nodes inner at' q in
+        let sized = length-nodes inner from (x .term) in
+        let sized' = length-nodes inner at' q in
         let c = x .counted in
         let z : m ≡ n + suc (length (nodes inner from (x .term))) = omega arith in
         let back = stored-out sets inner m j q w₂ w₃ t in
@@ -237,7 +238,7 @@ pub sides-ready : (l w w₁ w₂ : List ℕ) (count : ℕ) (s : Spot) (deep n n�
     → WordStored h n m w₁ w₂ → SetsReady l w₂ count
 sides-ready l w w₁ w₂ count s deep n n₁ i j m h ready few x e =
     let t = stored-out (setsIn l) s n₁ i (x .term) w w₁ (x .stored) in
-    let sized = size-nodes s i (x .term) in
+    let sized = length-nodes s i (x .term) in
     let c = x .counted in
     let f = x .few in
     let a = packed (h .spot) (h .kind) (h .parameter) m (h .target) in

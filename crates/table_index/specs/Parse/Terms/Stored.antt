@@ -7,44 +7,20 @@
 use Prim.Native.Nat.{ℕ, zero, suc, _+_, _-_, _<_, _≤_}
 use native.Mathlib.Omega.{arith}
 use native.Mathlib.Decide.{decLt}
-use mathlib.Core.Path.{_≡_, refl, sym, ap, _∙_}
+use mathlib.Core.Path.{_≡_, sym, ap, _∙_}
 use mathlib.Core.List.{List, [], _∷_, _++_}
 use lib.ListN.{length, getD, length-append, length-set, List·getD-append}
 use lib.Seq.{getD-append-add, getD-set-same, getD-set-other}
 use Rattle.table.specs.declared.terms.Spot.{Spot}
 use Rattle.table.specs.declared.terms.Head.{Head}
-use Rattle.table.specs.Table.{Term, stop, fail, prefix, choice, par, call, SetDef, size}
-use Rattle.table.specs.Writing.{refNumbers, termNumbers}
-use Rattle.table.specs.Node.{Node, nodes, noNode, followerSpot, sideSpot, besideSpot}
+use Rattle.table.specs.Table.{Term, SetDef}
+use Rattle.table.specs.Node.{Node, nodes, noNode}
+use Rattle.table.specs.Node.Laws.{length-nodes}
 use Rattle.table_index.specs.Layout.{termsAt, setsAt, bodiesAt, widthsAt, structureOf}
 use Rattle.table_index.specs.Layout.Laws.{structure-fits}
 use Rattle.table_index.specs.Index.{packed, wordOf, setsIn}
 use Rattle.table_index.specs.Index.Sets.{indexed-kept}
 use Rattle.table_index.specs.Parse.{WordStored, TermStored, SetsReady}
-
--- ---- how many nodes a term has
-
-sum-two : (a b c d : ℕ) → a ≡ b → c ≡ d → a + c ≡ b + d
-sum-two a b c d e f = omega arith
-
-size-two : (xs ys : List Node) (a b : ℕ) → length xs ≡ a → length ys ≡ b → length (xs ++ ys) ≡ a + b
-size-two xs ys a b e f = length-append xs ys ∙ sum-two (length xs) a (length ys) b e f
-
-pub size-nodes : (s : Spot) (i : ℕ) (p : Term) → length (nodes s i p) ≡ size p
-unfolding nodes size
-size-nodes s i stop = refl
-size-nodes s i fail = refl
-size-nodes s i (prefix r p) = ap suc (size-nodes (followerSpot s) (suc i + length (refNumbers r)) p)
-size-nodes s i (choice p q) =
-    let at = suc i + length (termNumbers p) in
-    ap suc (size-two (nodes (sideSpot s) (suc i) p) (nodes (sideSpot s) at q) (size p) (size q)
-    (size-nodes (sideSpot s) (suc i) p) (size-nodes (sideSpot s) at q))
-size-nodes s i (par r p q) =
-    let at = suc i + length (refNumbers r) in
-    let at' = at + length (termNumbers p) in
-    ap suc (size-two (nodes (besideSpot s) at p) (nodes (besideSpot s) at' q) (size p) (size q)
-    (size-nodes (besideSpot s) at p) (size-nodes (besideSpot s) at' q))
-size-nodes s i (call d) = refl
 
 -- ---- nodes in the work area
 
@@ -63,7 +39,7 @@ module _ (sets : List SetDef) where
   pub stored-out : (s : Spot) (n i : ℕ) (p : Term) (w w' : List ℕ) → TermStored sets s n i p w w'
       → Stored sets n (nodes s i p) w w'
   stored-out s n i p w w' t =
-      let e = size-nodes s i p in
+      let e = length-nodes s i p in
       record {
         same = t .same;
         words = λ k h. t .words k (omega arith);
@@ -73,7 +49,7 @@ module _ (sets : List SetDef) where
   pub stored-in : (s : Spot) (n i : ℕ) (p : Term) (w w' : List ℕ) → Stored sets n (nodes s i p) w w'
       → TermStored sets s n i p w w'
   stored-in s n i p w w' t =
-      let e = size-nodes s i p in
+      let e = length-nodes s i p in
       record {
         same = t .same;
         words = λ k h. t .words k (omega arith);
