@@ -24,13 +24,6 @@ use Rattle.monitor_spec.specs.Expected.Steps.{Fed, sift, take-sifts}
 use Rattle.monitor_spec.specs.Stops.{EventStops, unknown, full, exceeded}
 use Rattle.monitor_spec.proofs.Forms.{refused-given, refused-stopped}
 
-pub T-true : (b : Bool) → T b → b ≡ true
-T-true true h = refl
-T-true false h = absurd h
-
-pub true-T : (b : Bool) → b ≡ true → T b
-true-T b e = rw e tt
-
 pub false-T : (b : Bool) → b ≡ false → T b → ⊥
 false-T b e h = rw e at h
 

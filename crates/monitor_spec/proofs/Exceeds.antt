@@ -15,7 +15,7 @@ use Rattle.monitor_spec.specs.Open.{openOf}
 use Rattle.monitor_spec.specs.Open.Laws.{accepted-same}
 use Rattle.monitor_spec.specs.Joined.{residualCount}
 use Rattle.monitor_spec.specs.Refusals.{OpenRefused, wrong-length, bad-table, exceeded}
-use Rattle.monitor_spec.proofs.Endings.{T-true, true-T}
+use Rattle.numbers.specs.Choice.{T-true, true-T}
 use Rattle.monitor_spec.specs.Refusals.Laws.{measured-in, measured-out, is-table-in, is-table-out}
 use Rattle.monitor_spec.proofs.Opens.{refused-low, open-refused}
 

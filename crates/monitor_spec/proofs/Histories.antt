@@ -30,7 +30,8 @@ use Rattle.monitor_spec.specs.History.Laws.{extends, measured, feed-refu
 use Rattle.monitor_spec.specs.History.Laws.{fed-joined, joined-ends, history-joined}
 use Rattle.monitor_spec.specs.History.Begun.{fresh-fed, open-goes, Began, opened-began}
 use Rattle.monitor_spec.specs.History.After.{after-events}
-use Rattle.monitor_spec.proofs.Endings.{T-true, true-T, false-T, none-answer, some-answer, stops-out}
+use Rattle.numbers.specs.Choice.{T-true, true-T}
+use Rattle.monitor_spec.proofs.Endings.{false-T, none-answer, some-answer, stops-out}
 use Rattle.monitor_spec.proofs.Endings.{stops-range}
 
 -- ---- everything of the monitor that the list calls for

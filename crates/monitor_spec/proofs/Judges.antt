@@ -25,7 +25,7 @@ use Rattle.monitor_spec.specs.Expected.Steps.{Fed}
 use Rattle.monitor_spec.specs.History.Laws.{feed-goes}
 use Rattle.monitor_spec.specs.History.Begun.{fresh-fed, open-goes, slots-range}
 use Rattle.monitor_spec.specs.Stops.{StoppedAt, JudgesOne}
-use Rattle.monitor_spec.proofs.Endings.{T-true, true-T}
+use Rattle.numbers.specs.Choice.{T-true, true-T}
 use Rattle.monitor_spec.proofs.Forms.{refused-given, refused-stopped}
 use Rattle.monitor_spec.proofs.Opens.{opens}
 use Rattle.monitor_spec.specs.History.Peaks.{record-greatest}

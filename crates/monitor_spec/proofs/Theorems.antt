@@ -5,12 +5,9 @@ use mathlib.Core.Path.{_≡_, ap, sym, subst, _∙_}
 use mathlib.Core.List.{List, [], _∷_, _++_}
 use mathlib.Core.Bool.{true}
 use mathlib.Core.Option.{some}
-use Rattle.table.specs.Table.{Table}
-use Rattle.table.specs.Judge.{accepted, judgeList}
-use Rattle.table.specs.Judge.Laws.{list-out}
 use Rattle.table.specs.Part.Numbers.{number-at}
-use Rattle.monitor_spec.specs.Regular.{Regular}
 use Rattle.monitor_spec.specs.Regular.Laws.{regular}
+use Rattle.monitor_spec.specs.Refusals.Laws.{accepts}
 use Rattle.monitor_spec.specs.Residual.Traces.{traces-run, traces-definition}
 use Rattle.residuals.specs.Residual.{Residual, residualsOf}
 use Rattle.residuals.specs.Residual.Counts.{residuals-few}
@@ -41,7 +38,7 @@ use Rattle.monitor_spec.specs.Claims.{Judges, Answers, Histories, Offers
 use Rattle.monitor_spec.specs.Claims.{TryIsFeed, TryUnlike, TryRefusedExactly, TryStopsExactly, TryGivesExactly}
 use Rattle.monitor_spec.specs.Claims.{TryBuffers, TryForetells, TryJudges}
 use Rattle.monitor_spec.specs.Claims.{Examples, Cases, Buffers}
-use Rattle.monitor_spec.proofs.Endings.{T-true, true-T}
+use Rattle.numbers.specs.Choice.{T-true, true-T}
 use Rattle.monitor_spec.proofs.Opens as opens
 use Rattle.monitor_spec.proofs.Runs as runs
 use Rattle.monitor_spec.proofs.Settled as settled
@@ -60,9 +57,6 @@ use Rattle.monitor_spec.proofs.Tries as tries
 use Rattle.monitor_spec.proofs.Rows.{marked, further, outcomes-stand}
 
 -- an accepted list is a table that keeps the rules
-accepts : (l ns : List ℕ) (t : Table) → judgeList l ≡ accepted ns t → Regular t
-accepts l ns t says = regular t (list-out l ns t says .rules)
-
 pub residuals-are-traces : ResidualsAreTraces
 unfolding ResidualsAreTraces
 residuals-are-traces t rules H model rs h s = traces-run t (regular t rules) H model rs h s

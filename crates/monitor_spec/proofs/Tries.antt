@@ -6,7 +6,6 @@
 --     foretells, judges                        along a history
 -- Assumes nothing.
 use Prim.Native.Nat.{ℕ, _≤_}
-use native.Mathlib.Omega.{arith}
 use mathlib.Core.Path.{_≡_, refl, ap, sym, subst, _∙_}
 use mathlib.Core.Bool.{Bool, true, false, _&&_}
 use mathlib.Core.List.{List, [], _∷_, _++_}
@@ -34,6 +33,7 @@ use Rattle.monitor_spec.specs.Progress.{LeavesAt, FeedStops, FeedGives}
 use Rattle.monitor_spec.specs.History.{callOn, history, Leaves}
 use Rattle.monitor_spec.specs.History.Laws.{feed-goes}
 use Rattle.monitor_spec.specs.Tried.{Alike, TryRefused, unlike, as-feed, tried, Foretells}
+use Rattle.monitor_spec.specs.Refusals.Laws.{clash}
 use Rattle.monitor_spec.proofs.Forms.{refused-same, refused-given, refused-stopped}
 use Rattle.monitor_spec.proofs.Feeds as feeds
 use Rattle.monitor_spec.proofs.Onward.{feed-stops, feed-gives}
@@ -67,9 +67,6 @@ module _ (m : Monitor) (c d : List ℕ) where
   unfolding furtherMeasured
   lengths = by (furtherMeasured m c d) refl
     where
-      clash : {X : Type 0} {b : Bool} → b ≡ true → b ≡ false → X
-      clash e f = absurd (let z : _≡_ {A = ℕ} 0 1 = cc in omega arith)
-
       by : (b : Bool) → furtherMeasured m c d ≡ b → Lengths
       by true e = same (alike-out e)
       by false e = other (λ h. clash (alike-in h) e)

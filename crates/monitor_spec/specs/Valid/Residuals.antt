@@ -9,7 +9,7 @@ use mathlib.Core.Logic.{_↔_, inl, inr, ⊎-elim}
 use lib.ListN.{length, replicate, length-append, length-replicate}
 use Rattle.table.specs.Table.{Table, enclosing}
 use Rattle.numbers.specs.Every.{All, all-imp}
-use Rattle.numbers.specs.Some.{Any, any-all, any-map, any-flat, flat-any, all-map}
+use Rattle.numbers.specs.Some.{Any, any-all, any-map, any-unmap, any-flat, flat-any, all-map}
 use Rattle.table.specs.Memory.{Memory, digit}
 use Rattle.monitor_spec.specs.Regular.{Regular}
 use Rattle.node_word.specs.Word.{Digits}
@@ -43,11 +43,6 @@ slots-members : (ps qs : List Residual) → ((a : List ℕ) → In a (map slotOf
     → ((a : List ℕ) → In a (map slotOf qs) → In a (map slotOf ps)) → slotsOf ps ≡ slotsOf qs
 unfolding slotsOf
 slots-members ps qs f g = canon-members (map slotOf ps) (map slotOf qs) f g
-
-module _ {A B : Type 0} where
-  map-any : (X : B → Type 0) (f : A → B) (l : List A) → Any X (map f l) → Any (λ a. X (f a)) l
-  map-any X f [] h = h
-  map-any X f (x ∷ l) h = ⊎-elim (λ a. inl a) (λ a. inr (map-any X f l a)) h
 
 module _ (t : Table) where
   -- the slot is read as a residual with X
@@ -128,7 +123,7 @@ module _ (t : Table) where
         let b = any-canon (Reads X) (map slotOf rs) in (
           λ k. any-all (λ r. Reads X (slotOf r)) (Proper t) X
               (λ r p x. subst X (same (x .0) r (sym (x .1) ∙ read-back r p)) (x .2)) rs h
-              (map-any (Reads X) slotOf rs (b .0 (a .0 k))),
+              (any-unmap (Reads X) slotOf rs (b .0 (a .0 k))),
           λ k. a .1 (b .1 (any-map (Reads X) slotOf rs
               (any-all X (Proper t) (λ r. Reads X (slotOf r)) (λ r p x. (r, read-back r p, x)) rs h k))),
         )
@@ -140,7 +135,7 @@ module _ (t : Table) where
         ↔ Any (λ r. Any (λ q. a ≡ slotOf q) (after t e r)) rs
     unfolding afterAll
     in-after e a rs = (
-      λ h. flat-any (λ q. a ≡ slotOf q) (after t e) rs (map-any (λ x. a ≡ x) slotOf (flatMap (after t e) rs) h),
+      λ h. flat-any (λ q. a ≡ slotOf q) (after t e) rs (any-unmap (λ x. a ≡ x) slotOf (flatMap (after t e) rs) h),
       λ h. any-map (λ x. a ≡ x) slotOf (flatMap (after t e) rs) (any-flat (λ q. a ≡ slotOf q) (after t e) rs h),
     )
 
