@@ -1,18 +1,14 @@
 """cspe check: every fault of a drawing, and what looks wrong though it is allowed."""
 
-from notation import foreign
-from notation.assemble import Assembled, parts
-from notation.names import Names
+from notation.assemble import Assembled
 from notation.parse import parse
-from notation.source import Problem, shown
-from notation.syntax import Call, Definition, NamedEvent, NamedSet, Prefix
+from notation.source import shown
+from notation.syntax import Call, Prefix
 
-from .drawings import REFUSED, Loaded, Stop, read
+from .drawings import REFUSED, Loaded, read
 from .explore import Graph
-from .judging import by_the_reader, shown_fault
-from .levels import calls, least, written
-from .library import Monitor
-from .rules import faults
+from .levels import calls, least, unwritten, written
+from .mending import finding, lines
 from .terms import Terms, standing
 from .words import many
 
@@ -50,58 +46,29 @@ def told(problems):
 
 
 def assemble(tree, problems):
-    """The table. Each name in a term that has no meaning is a problem; of others the first.
+    """The table. Problems of names and sets are put behind the others.
 
-    Where a statement has an error, a name may be missing for it: then only words of other notations are told.
+    Where a statement could not be read, what may be for want of it is not told.
     """
-    broken = bool(problems)
-    try:
-        names = Names(tree)
-        for definition in tree.definitions:
-            found = list(unknown(definition.body, names))
-            problems += [problem for problem in found if not broken or problem.at.text in foreign.WORDS]
-        if not problems:
-            return Assembled(tree)
-    except Problem as problem:
-        problems += [] if broken else [problem]
-    return None
-
-
-def unknown(term, names):
-    """The problems of the names in a term."""
-    reference = getattr(term, "reference", None)
-    try:
-        if isinstance(term, Call):
-            names.find(term.name, term.at, Definition)
-        elif reference is not None and isinstance(reference.called, str):
-            names.find(reference.called, reference.at, NamedSet, NamedEvent)
-    except Problem as problem:
-        yield problem
-    for part in parts(term):
-        yield from unknown(part, names)
+    found = list(problems)
+    assembled = Assembled(tree, found)
+    problems += [problem for problem in found[len(problems) :] if not (problems and problem.wants)]
+    return assembled
 
 
 def judge(drawing):
-    terms = Terms(drawing.assembled)
-    found = faults(terms)
-    refusal = Monitor(drawing.table).refusal
-    if refusal is not None and refusal.number == 13:
-        refusal = None
-    if found and refusal is None:
-        raise Stop("the proved reader takes what these rules do not: please report this drawing", REFUSED)
-    if refusal is not None:
-        known = any((fault.number, fault.place) == refusal for fault in found)
-        more = [] if known else [by_the_reader(drawing, refusal)]
-        print("\n".join([*more, *map(shown_fault, found)]))
-        print(f"{drawing.source.name}: {many(len(found) + len(more), 'fault')}")
-        return REFUSED
-    warnings = sorted(warned(drawing, terms), key=lambda pair: (pair[0].line, pair[0].column))
-    for at, message in warnings:
-        print(shown(at, f"warning: {message}"))
-    levels = ", ".join(f"{d.name} {d.level}" for d in drawing.assembled.drawing.definitions if d.level)
+    """The faults; and where the drawing stands, as it is or with the levels that are told, what looks wrong in it."""
+    found = finding(drawing)
+    told, sum_of_it = lines(found)
+    terms = Terms(found.mended.assembled)
+    warnings = [] if found.left else [*warned(found.mended, terms)]
+    warnings += [] if found.faults else higher_levels(terms)
+    warnings = sorted(warnings, key=lambda pair: (pair[0].line, pair[0].column))
     also = f"; {many(len(warnings), 'warning')}" if warnings else ""
-    print(f"{drawing.source.name}: no fault{also}" + (f"; levels: {levels}" if levels else ""))
-    return 0
+    levels = ", ".join(f"{d.name} {d.level}" for d in drawing.assembled.drawing.definitions if d.level)
+    also += f"; levels: {levels}" if levels and not found.faults else ""
+    print("\n".join([*told, *(shown(at, f"warning: {message}") for at, message in warnings), sum_of_it + also]))
+    return REFUSED if found.faults else 0
 
 
 # ---- warnings
@@ -115,7 +82,6 @@ def warned(drawing, terms):
             yield definition.at, f"{definition.name} is never called from {definitions[-1].name}, the start"
         elif id(definition.body) in terms.doomed:
             yield definition.at, f"{definition.name} is doomed: it permits no run, not even one without events"
-    yield from higher_levels(terms, definitions)
     empty = []
     for place in terms.places:
         if isinstance(place.term, Prefix) and place.definition.name in called and not any_event(terms, place):
@@ -135,11 +101,10 @@ def reached(terms, definitions):
     return found
 
 
-def higher_levels(terms, definitions):
+def higher_levels(terms):
     """Levels that are written, and higher than the calls ask."""
-    found = calls(terms)
-    needed = least([Definition(0, d.name, d.body, d.at, d.at) for d in definitions], found)
-    for definition, level in zip(definitions, needed):
+    definitions = terms.assembled.drawing.definitions
+    for definition, level in zip(definitions, least(unwritten(definitions), calls(terms))):
         if written(definition) and definition.level > level:
             yield definition.level_at, f"level {level} would do for {definition.name}"
 

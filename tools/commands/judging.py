@@ -7,9 +7,8 @@
 from . import words
 from .drawings import FAILED, REFUSED, RUNNING
 from .library import Monitor
-from .rules import faults
+from .mending import CROWDED, finding, lines
 from .terms import Terms, standing
-from notation.source import shown
 
 KEPT = 1000  # events that are kept for `explain`
 
@@ -31,10 +30,11 @@ class Judge:
 
     def open(self):
         refusal = self.monitor.refusal
-        if refusal is not None and refusal.number == 13:
+        if refusal is not None and refusal.number == CROWDED:
             self.status, self.refusal = REFUSED, refusal
         elif refusal is not None:
-            raise Refused(table_refused(self.drawing, self.terms, refusal))
+            told, sum_of_it = lines(finding(self.drawing))
+            raise Refused("\n".join([*told, sum_of_it]))
         elif not self.monitor.running():
             self.status = FAILED
 
@@ -61,22 +61,3 @@ class Judge:
 
     def standings(self):
         return [standing(self.terms, nodes) for nodes in self.monitor.residuals()]
-
-
-def shown_fault(fault):
-    head = f"refused {fault.number} ({words.NAMES[fault.number]}): {fault.message}"
-    return f"{shown(fault.at, head)}\n    to mend it: {fault.mend}"
-
-
-def by_the_reader(drawing, refusal):
-    """A refusal that the rules here do not know: where it is in the text."""
-    head = f"refused {refusal.number} ({words.NAMES.get(refusal.number, 'new')})"
-    places = drawing.assembled.where(*refusal)
-    return "\n".join(shown(at, f"{head}: {what}") for at, what in places) or f"{head} at {refusal.place}"
-
-
-def table_refused(drawing, terms, refusal):
-    found = faults(terms)
-    known = any((fault.number, fault.place) == refusal for fault in found)
-    more = [] if known else [by_the_reader(drawing, refusal)]
-    return "\n".join([*more, *map(shown_fault, found)])

@@ -1,9 +1,12 @@
-"""The least levels that the calls of a drawing allow.
+"""The levels that the calls of a drawing allow.
 
     calls       who calls whom, and whether under a parallel
-    least       the least level of each definition; those that are written stay as they are
+    least       the least level of each definition, but none below what is written
+    unwritten   definitions as if no levels were written
+    apart       a level of its own for each definition, but for those that call each other
 """
 
+from dataclasses import replace
 from typing import NamedTuple
 
 from notation.syntax import Call
@@ -34,13 +37,27 @@ def calls(terms):
 
 def least(definitions, found):
     """A list of levels, above MOST_LEVEL where none would do."""
-    levels = [definition.level if written(definition) else 0 for definition in definitions]
+    levels = [definition.level for definition in definitions]
     for _ in range(len(definitions) * (MOST_LEVEL + 2)):
         before = list(levels)
         for call in found:
-            if not written(definitions[call.caller]):
-                needed = levels[call.callee] + (1 if call.parallel else 0)
-                levels[call.caller] = max(levels[call.caller], min(needed, MOST_LEVEL + 1))
+            needed = levels[call.callee] + (1 if call.parallel else 0)
+            levels[call.caller] = max(levels[call.caller], min(needed, MOST_LEVEL + 1))
         if levels == before:
             break
     return levels
+
+
+def unwritten(definitions):
+    return [replace(definition, level=0, level_at=definition.at) for definition in definitions]
+
+
+def apart(definitions, found):
+    """Levels by whom a definition reaches through calls, without a bound. No others give a smaller width: whoever calls
+    a definition then counts its width alone, and not that of others at its level."""
+    reach = [{number} for number in range(len(definitions))]
+    for _ in definitions:
+        for call in found:
+            reach[call.caller] |= reach[call.callee]
+    groups = sorted({(len(reached), tuple(sorted(reached))) for reached in reach})
+    return [groups.index((len(reached), tuple(sorted(reached)))) for reached in reach]

@@ -29,10 +29,12 @@ class Fault(NamedTuple):
     at: Optional[Token]
     message: str
     mend: str
+    levels: bool = False  # whether other levels may mend it
 
 
-def faults(terms):
-    found = Rules(terms)
+def faults(terms, levels=None):
+    """Every fault. `levels`, of each definition, are told as the mend of faults of levels; else the least are."""
+    found = Rules(terms, levels)
     found.bounds()
     found.references()
     if not found.list:
@@ -42,8 +44,9 @@ def faults(terms):
 
 
 class Rules:
-    def __init__(self, terms):
+    def __init__(self, terms, levels=None):
         self.terms = terms
+        self.levels = levels
         self.assembled = terms.assembled
         self.definitions = self.assembled.drawing.definitions
         self.list = []
@@ -51,8 +54,8 @@ class Rules:
         for number in self.assembled.numbers:
             self.begins.append(self.begins[-1] + len(written(number.value)))
 
-    def add(self, number, at_number, at, message, mend):
-        self.list.append(Fault(number, self.begins[at_number], at, message, mend))
+    def add(self, number, at_number, at, message, mend, levels=False):
+        self.list.append(Fault(number, self.begins[at_number], at, message, mend, levels))
 
     # ---- 5: bounds
 
@@ -75,7 +78,7 @@ class Rules:
             if definition.level > MOST_LEVEL:
                 place = self.terms.by_identity[id(definition.body)].first - 1
                 message = f"the level of {definition.name} is {definition.level}, and {MOST_LEVEL} is the highest"
-                self.add(5, place, definition.level_at, message, "give it the least level that its calls allow")
+                self.add(5, place, definition.level_at, message, "give it the least level that its calls allow", True)
         self.term_bounds()
 
     def row_bound(self, size, sets):
@@ -124,12 +127,12 @@ class Rules:
 
     def calls(self):
         found = calls(self.terms)
-        levels = least(self.definitions, found)
+        levels = self.levels or least(self.definitions, found)
         for call in found:
             caller, callee = self.definitions[call.caller], self.definitions[call.callee]
             place = call.place
             if caller.level < callee.level or (call.parallel and caller.level == callee.level):
-                self.add(7, place.first + 1, place.term.at, *level_fault(call, caller, callee, levels))
+                self.add(7, place.first + 1, place.term.at, *level_fault(call, caller, callee, levels), True)
             elif not place.prefixes and call.callee >= call.caller:
                 self.add(7, place.first + 1, place.term.at, *unguarded(caller, callee))
 
@@ -144,7 +147,7 @@ class Rules:
                 width, definition = max(wide, key=lambda pair: pair[0])
                 message = f"{definition.name} can come to {width} terms side by side, and {MOST_WIDTH} is the most"
                 mend = "judge its sides by monitors of their own, or draw several sides as one term"
-                self.list.append(Fault(8, level, definition.at, message, mend))
+                self.list.append(Fault(8, level, definition.at, message, mend, True))
                 return
 
     def width(self, term, level, of_levels):
@@ -193,8 +196,10 @@ def level_fault(call, caller, callee, levels):
     if needed > MOST_LEVEL:
         return message, endless(caller, callee)
     level = needed if levels[call.caller] > MOST_LEVEL else max(needed, levels[call.caller])
-    name = caller.name
-    return message, f"give {name}, the definition that calls it, a higher level: `level {level} {name} = ..`"
+    name, level, change = caller.name, level, "the definition that calls it, a higher level"
+    if level <= caller.level:
+        name, level, change = callee.name, levels[call.callee], "the definition that is called, a lower level"
+    return message, f"give {name}, {change}: `level {level} {name} = ..`"
 
 
 def endless(caller, callee):

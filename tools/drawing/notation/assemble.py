@@ -2,8 +2,9 @@
 
     Assembled   the numbers of a drawing and its bytes
     where       what stands in the text at the place of a refusal
-The reader judges the table. Refused here is only what cannot be written: names without a meaning,
-missing rows, numbers and tables that are too large.
+The reader judges the table. Refused here is only what cannot be written: names without a meaning, missing rows, numbers
+and tables that are too large. With a list of problems, all that are found are put there, and then there is no table;
+without one the first is raised.
 """
 
 from typing import NamedTuple, Optional
@@ -26,9 +27,10 @@ class Number(NamedTuple):
 
 
 class Assembled:
-    def __init__(self, drawing):
+    def __init__(self, drawing, problems=None):
         self.drawing = drawing
-        self.names = Names(drawing)
+        self.names = Names(drawing, problems)
+        self.attempt = self.names.attempt
         self.numbers = []
         self.terms = []  # the token of each term, in reading order
         self.length = 0
@@ -38,10 +40,12 @@ class Assembled:
         for number, (kind, rows) in enumerate(self.sets):
             if kind == 0:
                 self.single.setdefault(events_of(rows[0]), number)
-        self.references = {}  # the set number of each reference, by its identity
-        for definition in drawing.definitions:
-            self.number_sets(definition.body, 1)
-        self.table()
+        self.references = {}  # the set number of each reference, by its identity; None where it has no meaning
+        shallow = [d for d in drawing.definitions if self.attempt(lambda: self.number_sets(d.body, 1), False)]
+        for definition in shallow:
+            self.check_term(definition.body, [])
+        if not problems:
+            self.attempt(self.table)
 
     def bytes(self):
         return b"".join(written(number.value) for number in self.numbers)
@@ -49,13 +53,15 @@ class Assembled:
     # ---- sets
 
     def number_sets(self, term, depth):
-        """Gives the references of a term their set numbers, in reading order."""
+        """Gives the references of a term their set numbers, in reading order. Whether it is not too deep."""
         if depth > MOST_DEPTH:
             raise Problem(f"Terms nest at most {MOST_DEPTH} deep in the notation.", term.at)
         if isinstance(term, (Prefix, Parallel)):
-            self.references[id(term.reference)] = self.set_number(term.reference)
+            reference = term.reference
+            self.references[id(reference)] = self.attempt(lambda: self.set_number(reference))
         for part in parts(term):
             self.number_sets(part, depth + 1)
+        return True
 
     def set_number(self, reference):
         if isinstance(reference.called, Events):
@@ -70,6 +76,39 @@ class Assembled:
             self.single[events_of(pair)] = len(self.sets)
             self.sets.append((0, [pair]))
         return self.single[events_of(pair)]
+
+    # ---- names in terms
+
+    def check_term(self, term, variables):
+        """The names that a term calls or reads; `variables` are those of the prefixes around it, the nearest last."""
+        if isinstance(term, Call):
+            self.attempt(lambda: self.names.find(term.name, term.at, Definition))
+        if isinstance(term, (Prefix, Parallel)):
+            self.check_reference(term.reference, variables)
+        if isinstance(term, Prefix):
+            self.attempt(lambda: self.check_variable(term))
+            variables = variables + [term.variable]
+        for part in parts(term):
+            self.check_term(part, variables)
+
+    def check_variable(self, prefix):
+        if prefix.variable in self.names.meaning:
+            raise Problem(f"`{prefix.variable}` has a meaning already.", prefix.variable_at)
+
+    def check_reference(self, reference, variables):
+        number = self.references[id(reference)]
+        kind = None if number is None else self.sets[number][0]
+        self.attempt(lambda: self.check_parameter(reference, kind, variables))
+
+    def check_parameter(self, reference, kind, variables):
+        name, parameter = reference.called, reference.parameter
+        if kind == 1 and parameter is None:
+            message = f"`{name}` is a family: it takes a parameter, as in `{name}(x)`."
+            raise Problem(message, reference.at)
+        if kind == 0 and parameter is not None:
+            raise Problem(f"`{name}` is one set: it takes no parameter.", parameter.at)
+        if parameter is not None:
+            self.index(parameter, variables)
 
     # ---- numbers
 
@@ -99,36 +138,20 @@ class Assembled:
             self.term(definition.body, [])
 
     def term(self, term, variables):
-        """A term; `variables` are those of the enclosing prefixes, the nearest last."""
+        """A term; `variables` as in `check_term`."""
         self.terms.append(term.at)
         self.emit(KINDS[type(term)], "this term", term.at)
         if isinstance(term, Call):
-            self.names.find(term.name, term.at, Definition)
             self.emit(self.names.number[term.name], "this definition", term.at)
         if isinstance(term, (Prefix, Parallel)):
-            self.reference(term.reference, variables)
+            self.emit(self.references[id(term.reference)], "this set", term.reference.at)
+        parameter = getattr(getattr(term, "reference", None), "parameter", None)
+        if parameter is not None:
+            self.emit(self.index(parameter, variables), "this parameter", parameter.at)
         if isinstance(term, Prefix):
-            self.check_variable(term)
             variables = variables + [term.variable]
         for part in parts(term):
             self.term(part, variables)
-
-    def check_variable(self, prefix):
-        if prefix.variable in self.names.meaning:
-            raise Problem(f"`{prefix.variable}` has a meaning already.", prefix.variable_at)
-
-    def reference(self, reference, variables):
-        number = self.references[id(reference)]
-        self.emit(number, "this set", reference.at)
-        kind = self.sets[number][0]
-        name, parameter = reference.called, reference.parameter
-        if kind == 1 and parameter is None:
-            message = f"`{name}` is a family: it takes a parameter, as in `{name}(x)`."
-            raise Problem(message, reference.at)
-        if kind == 0 and parameter is not None:
-            raise Problem(f"`{name}` is one set: it takes no parameter.", parameter.at)
-        if parameter is not None:
-            self.emit(self.index(parameter, variables), "this parameter", parameter.at)
 
     def index(self, parameter, variables):
         """The index of the enclosing prefix that a parameter names."""

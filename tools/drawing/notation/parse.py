@@ -49,8 +49,11 @@ class Parser(Cursor):
             self.attempt(lambda: self.statement(events, sets, definitions))
         end = self.here()
         if not definitions and not self.problems:
-            raise Problem("A drawing has at least one definition.", end)
+            self.attempt(self.no_definition)
         return Drawing(size, events, sets, definitions, at, end)
+
+    def no_definition(self):
+        raise Problem("A drawing has at least one definition.", self.here())
 
     def attempt(self, read):
         """Reads a statement. Where problems are collected, an error leads on to the next statement."""

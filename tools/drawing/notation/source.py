@@ -49,13 +49,17 @@ class Token(NamedTuple):
 
 
 class Problem(Exception):
-    """What is wrong: a sentence, and a token, or else the name of a file, where there is one."""
+    """What is wrong: a sentence, and a token, or else the name of a file, where there is one.
 
-    def __init__(self, message, at=None, name=None):
+    `wants` says that it may be for want of a statement: where one could not be read, it is not told.
+    """
+
+    def __init__(self, message, at=None, name=None, wants=False):
         super().__init__(message)
         self.message = message
         self.at = at
         self.name = name
+        self.wants = wants
 
     def shown(self):
         if self.at is not None:

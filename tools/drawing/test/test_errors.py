@@ -1,6 +1,6 @@
 """Errors of drawings and of table bytes: what is said, and where.
 
-A row's text has a mark `@` before the token that the error is about; the mark is taken out.
+A row's text has a mark `@` before each token that an error is about; the marks are taken out.
 """
 
 import random
@@ -100,6 +100,17 @@ ROWS = [
     (HEAD + "P = " + "a -> " * MOST_DEPTH + "@STOP", "200 deep"),
 ]
 
+# texts with several errors of names and sets
+SEVERAL = [
+    "alphabet a, @a, b\nevent c = @1\nevent @b = @7\nP = STOP\n@P = STOP",
+    "alphabet 3\nset a = {0, @0, @9, @gone, 2..@1, @3..@4}\nP = STOP",
+    "alphabet 2\nset f = @[{@2}, {}, {@gone}]\nset g = [0: {@5}, @else: {}, 1: {@6}, @1: {}]\nP = STOP",
+    "alphabet 2\nset f = [@gone: {}, 1: {@3}]\nset g = @[0: {}]\nset h = [0: {}, @{}, @0: {}, 1: {}]\nP = STOP",
+    HEAD + "P = @gone -> f(@x) -> @Gone\nQ = @f -> a(@y) -> {@3} -> @a : a -> @P -> @Q -> STOP",
+    HEAD + f"P = {'a -> ' * MOST_DEPTH}@STOP\nQ = {'a -> ' * MOST_DEPTH}@{'a -> ' * 5000}Gone",
+    HEAD + "event Q = 0\n@Q = a -> Q\nP = a -> Q",  # that Q has two meanings is told once
+]
+
 
 def problem(text):
     try:
@@ -109,6 +120,26 @@ def problem(text):
     return None
 
 
+def problems(text):
+    """All that are found."""
+    found = []
+    Assembled(parse(Source("text", text), found), found)
+    return found
+
+
+def place_of(found):
+    return found.at.line, found.at.column
+
+
+def marks(marked):
+    """The places of the marks, when they are taken out."""
+    found = []
+    for line, text in enumerate(marked.split("\n"), 1):
+        parts = text.split("@")
+        found += [(line, len("".join(parts[: at + 1])) + 1) for at in range(len(parts) - 1)]
+    return found
+
+
 class Errors(unittest.TestCase):
     def test_rows(self):
         for marked, message in ROWS:
@@ -116,8 +147,16 @@ class Errors(unittest.TestCase):
             found = problem(before + after)
             self.assertIsNotNone(found, marked)
             self.assertIn(message, found.message, marked)
-            place = (before.count("\n") + 1, len(before.split("\n")[-1]) + 1)
-            self.assertEqual((found.at.line, found.at.column), place, (marked, found.message))
+            self.assertEqual([place_of(found)], marks(marked), (marked, found.message))
+
+    def test_several(self):
+        """With a list of problems all are found, the first that is raised without one among them, and no table made."""
+        for marked in SEVERAL:
+            text = marked.replace("@", "")
+            found = problems(text)
+            self.assertEqual(sorted(map(place_of, found)), marks(marked), marked[:200])
+            raised = problem(text)
+            self.assertIn((place_of(raised), raised.message), [(place_of(one), one.message) for one in found])
 
     def test_shown(self):
         found = problem("alphabet 3\nset a = {0}\n\tP = a -> Quiet -- and so on")
@@ -183,7 +222,8 @@ class Errors(unittest.TestCase):
             for _ in range(random.randint(1, 3)):
                 place = random.randrange(len(text))
                 text = text[:place] + random.choice(pieces) + text[place + random.randint(0, 4) :]
-            found = problem(text)
+            found, several = problem(text), problems(text)
+            self.assertEqual(found is None, not several, text)
             if found is not None:
                 self.assertIn(text.split("\n")[found.at.line - 1], found.shown())
 
