@@ -13,9 +13,10 @@ from .terms import Terms, standing
 from .words import many
 
 ABOUT = """\
-Shows every fault of a drawing, each with its place, the rule that it breaks and how to mend it; levels that the drawing
-does not give are inferred from its calls. Then it warns of what is allowed but looks wrong: a definition that is doomed
-or never called, a term that is never reached, a set that no event can meet.
+Shows every fault of a drawing, each with its place, the rule that it breaks and how to mend it. Where levels are
+missing or wrong it infers them from the calls, judges the drawing with these too, and says in its last line which would
+do. Then it warns of what is allowed but looks wrong: a definition that is doomed or never called, a term that is never
+reached, a set that no event can meet.
 Exit status: 0 no fault, 2 the monitor would refuse it, 3 wrong use. Warnings do not move it."""
 
 LIMIT = 3000  # residual sets that are looked at for what is never reached
@@ -59,7 +60,7 @@ def assemble(tree, problems):
 def judge(drawing):
     """The faults; and where the drawing stands, as it is or with the levels that are told, what looks wrong in it."""
     found = finding(drawing)
-    told, sum_of_it = lines(found)
+    shown_faults, sum_of_it = lines(found)
     terms = Terms(found.mended.assembled)
     warnings = [] if found.left else [*warned(found.mended, terms)]
     warnings += [] if found.faults else higher_levels(terms)
@@ -67,7 +68,8 @@ def judge(drawing):
     also = f"; {many(len(warnings), 'warning')}" if warnings else ""
     levels = ", ".join(f"{d.name} {d.level}" for d in drawing.assembled.drawing.definitions if d.level)
     also += f"; levels: {levels}" if levels and not found.faults else ""
-    print("\n".join([*told, *(shown(at, f"warning: {message}") for at, message in warnings), sum_of_it + also]))
+    shown_warnings = [shown(at, f"warning: {message}") for at, message in warnings]
+    print("\n".join([*shown_faults, *shown_warnings, sum_of_it + also]))
     return REFUSED if found.faults else 0
 
 

@@ -3,21 +3,26 @@
 import shutil
 import subprocess
 import sys
+import textwrap
 from collections import defaultdict
 
 from .drawings import Stop, load
 from .explore import Graph, State
 from .judging import Judge
 from .streams import write_whole
+from .terms import Terms, standing
 from .words import many
 
 ABOUT = """\
 Draws the residual sets that are reached, with the events that lead from one to the next, as text for graphviz (dot), or
-with --text in words; with --svg FILE as a picture, which needs graphviz. A set from which no event leads on is drawn
-with a double line. No more than --limit sets are drawn; where there are more, it says so.
+with --text in words; with --svg FILE as a picture, which needs graphviz. Each column is one event further from the
+start, on the left; a set from which no event leads on is drawn with a double line. A set's tooltip says where in the
+drawing its residuals stand, one to a line. No more than --limit sets are drawn; where there are more, it says so.
 Exit status: 0 drawn, 1 the drawing permits no run, 2 refused, 3 wrong use."""
 
 LIMIT = 100
+LABEL = 30  # letters on a line of an arrow's label
+WAYS = 12  # told of a state
 
 
 def add_options(parser):
@@ -83,7 +88,23 @@ def arrows(drawing, graph):
     found = defaultdict(list)
     for state in graph.states:
         for event, to in state.edges.items():
-            found[state.number, to].append(drawing.name(event))
+            found[state.number, to].append(event)
+    return {pair: told(drawing, events) for pair, events in found.items()}
+
+
+def told(drawing, events):
+    """Names; of events without one that are three and more in succession, as 4 to 7, `4..7`."""
+    groups = []
+    for event in events:
+        plain = event not in drawing.names
+        if plain and groups and groups[-1][0] and groups[-1][2] == event - 1:
+            groups[-1][2] = event
+        else:
+            groups.append([plain, event, event])
+    found = []
+    for _, first, last in groups:
+        wide = last - first > 1
+        found += [f"{first}..{last}"] if wide else [drawing.name(event) for event in range(first, last + 1)]
     return found
 
 
@@ -99,28 +120,69 @@ def text(drawing, graph):
 
 
 def quoted(words):
-    return '"' + words.replace("\\", "\\\\").replace('"', '\\"') + '"'
+    return '"' + words.replace("\\", "\\\\").replace('"', '\\"').replace("\n", "\\n") + '"'
+
+
+def label(events):
+    """Events on an arrow, on lines that are not too long."""
+    return quoted("\n".join(textwrap.wrap(", ".join(events), LABEL, break_long_words=False)))
+
+
+def distances(graph):
+    """Of each state how many events lead there at least."""
+    found = {0: 0}
+    for state in graph.states:
+        for to in state.edges.values():
+            found.setdefault(to, found[state.number] + 1)
+    return found
+
+
+def ways(terms, state):
+    """Where each residual of a state stands: the definitions and their lines and columns."""
+    for nodes in state.residuals[:WAYS]:
+        leaves = standing(terms, nodes).leaves()
+        places = [(leaf.place.definition.name, leaf.place.term.at) for leaf in leaves]
+        yield ", ".join(f"{name} {at.line}:{at.column}" for name, at in places)
+    if len(state.residuals) > WAYS:
+        yield f"and {many(len(state.residuals) - WAYS, 'way')} more"
 
 
 def dot(drawing, graph):
-    lines = [f"digraph {quoted(drawing.source.name)} {{", "    rankdir=LR;"]
+    """Text for graphviz, with a column for each number of events from the start."""
+    terms, column = Terms(drawing.assembled), distances(graph)
+    lines = [f"digraph {quoted(drawing.source.name)} {{", "    rankdir=LR;", "    ranksep=0.8;"]
     lines += ['    node [shape=circle, fontname="sans"];', '    edge [fontname="sans"];']
     lines += ["    start [shape=point];", "    start -> 1;"]
     for state in graph.states:
         shape = "" if state.permitted else ", shape=doublecircle"
-        tip = quoted(many(len(state.residuals), "residual"))
+        tip = quoted("\n".join(ways(terms, state)))
         lines.append(f"    {state.number + 1} [tooltip={tip}{shape}];")
-    missing = False
     for (start, to), events in arrows(drawing, graph).items():
-        lines.append(f"    {start + 1} -> {to + 1} [label={quoted(', '.join(events))}];")
+        lines.append(f"    {arrow(start, to, column)}label={label(events)}];")
+    lines += list(beyond(drawing, graph))
+    return "\n".join([*lines, "}", ""])
+
+
+def arrow(start, to, column):
+    """An arrow back to an earlier column is written forth, with its head behind: so it moves no state out of its column,
+    and graphviz still keeps it clear of others."""
+    if column[to] < column[start]:
+        return f"{to + 1} -> {start + 1} [dir=back, weight=0, "
+    if column[to] == column[start] and to != start:
+        return f"{start + 1} -> {to + 1} [constraint=false, "
+    return f"{start + 1} -> {to + 1} ["
+
+
+def beyond(drawing, graph):
+    """What is left out of the picture."""
+    missing = False
     for state in graph.states:
-        left = [drawing.name(event) for event in state.permitted if event not in state.edges]
+        left = told(drawing, [event for event in state.permitted if event not in state.edges])
         if left:
             missing = True
-            lines.append(f"    {state.number + 1} -> more [label={quoted(', '.join(left))}, style=dashed];")
+            yield f"    {state.number + 1} -> more [label={label(left)}, style=dashed];"
     if missing:
-        lines.append('    more [label="more", shape=box, style=dashed];')
-    return "\n".join([*lines, "}", ""])
+        yield '    more [label="more", shape=box, style=dashed];'
 
 
 def write_svg(name, source):

@@ -1,13 +1,18 @@
 """cspe check, picture and c: what they say of drawings, and what is made of them."""
 
+import itertools
 import os
 import shutil
 import subprocess
 import tempfile
 import unittest
 from pathlib import Path
+from xml.etree import ElementTree
 
 from places import EXAMPLES, ROOT, cspe, text_of
+from commands.drawings import load
+from commands.explore import Graph
+from commands.picture import distances
 
 HEAD = "alphabet go, halt\nset none = {}\n"
 FLAGS = "-Wall -Wextra -pedantic -Werror -fsyntax-only".split()
@@ -39,19 +44,43 @@ class Check(unittest.TestCase):
             "    to mend it: give Q, the definition that calls it, a higher level: `level 1 Q = ..`",
             ":5:5: refused 7 (wrong reference): R calls itself before any event\n    R = R\n        ^",
             "T comes back to S, which would stand beside itself",
-            ": 5 faults\n",
+            ": 5 faults; no levels would do\n",
         )
         self.assertEqual(output.count("to mend it"), 5)
 
     def test_levels_are_inferred(self):
         """Through several definitions: the least levels that will do. So mended, it has no fault."""
         text = HEAD + "P = go -> P\nQ = P ||| P\nR = Q ||| Q\nS = go -> R\n"
-        output = self.checked(text, 2, "`level 1 Q = ..`", "`level 2 R = ..`")
+        last = "; with level 1 at Q, level 2 at R and S there is none\n"
+        output = self.checked(text, 2, "`level 1 Q = ..`", "`level 2 R = ..`", last)
         self.assertNotIn("S = ..", output)
         mended = text.replace("Q = P", "level 1 Q = P").replace("R = Q", "level 2 R = Q")
         self.checked(mended, 2, ":6:11: refused 7 (wrong reference): R has level 2, above S", "`level 2 S = ..`")
         mended = mended.replace("S = go", "level 2 S = go")
         self.checked(mended, 0, "no fault; levels: Q 1, R 2, S 2")
+
+    def test_faults_that_levels_hide(self):
+        """Width and branches with the levels inferred, and what looks wrong then; the last line says what is left."""
+        lanes = "P = go -> P\nQ = P ||| P ||| P ||| P ||| P\n"
+        self.checked(
+            HEAD + lanes + "R = Q ||| Q\n",
+            2,
+            ":5:1: refused 8 (too many hands), once the levels are mended: R can come to 10 terms side by side",
+            ": 8 faults; with level 1 at Q, level 2 at R, 1 of them stays\n",
+        )
+        self.checked(
+            HEAD + "P = go -> P [] go -> go -> P [] halt -> P\nQ = P ||| P ||| P ||| P ||| P ||| P\n",
+            2,
+            ":4:31: refused 9 (too many openings), once the levels are mended: this term begins in 729 ways",
+            ": 7 faults; with level 1 at Q, 1 of them stays\n",
+        )
+        self.checked(
+            HEAD + "P = go -> P [] none -> P\nQ = P ||| P\n",
+            2,
+            ":3:16: warning: no event is in this set",
+            ": 2 faults; with level 1 at Q there is none; 1 warning\n",
+        )
+        self.checked(HEAD + lanes.replace("P = go -> P", "P = go -> (P ||| P)"), 2, "; no levels would do\n")
 
     def test_warnings(self):
         self.checked(
@@ -88,6 +117,23 @@ class Check(unittest.TestCase):
             "`Gone` is not the name of a definition",
             ": 3 errors\n",
         )
+        self.checked(
+            "alphabet go, go\nset a = {gone, 7}\nset f = [{go}]\nP = f -> a(x) -> STOP\nP = y : a -> f(z) -> Q\n",
+            2,
+            ":1:14: error: `go` is the name of an event already",
+            ":2:10: error: `gone` is not the name of an event; is `go` meant?",
+            ":2:16: error: Event 7 is not in the alphabet",
+            ":3:9: error: The family `f` has 1 rows; the alphabet has 2 events",
+            ":4:5: error: `f` is a family: it takes a parameter",
+            ":4:12: error: `a` is one set: it takes no parameter",
+            ":5:1: error: `P` is the name of a definition already",
+            ":5:16: error: `z` is not the variable of a prefix",
+            ":5:22: error: `Q` is not the name of a definition",
+            ": 9 errors\n",
+        )
+        output = self.checked("alphabet\nset a = {go}\nset a = {5}\nP = a -> Q\nQ = ->\n", 2, ": 3 errors\n")
+        self.assertNotIn("is not", output)  # for want of what could not be read
+        self.checked("alphabet 3\n", 2, ":2:1: error: A drawing has at least one definition", ": 1 error\n")
         both = ("the terminating action is left out", "sequence", ": 2 errors\n")
         self.checked(HEAD + "P = go -> SKIP\nQ = P ; P\n", 2, *both)
         self.checked(HEAD + "P = STOP || STOP\n", 2, "interleaving `P ||| Q`")
@@ -96,12 +142,34 @@ class Check(unittest.TestCase):
 
 class Picture(unittest.TestCase):
     def test_dot(self):
+        """Arrows forth as they are, those back with their head behind; the end of a run; where a set stands."""
         status, output, errors = cspe("picture", "interlock")
         self.assertEqual((status, errors), (0, ""))
-        for line in ('1 -> 2 [label="shut"];', '2 -> 1 [label="open"];', '2 -> 3 [label="down"];', "start -> 1;"):
-            self.assertIn(f"    {line}\n", output)
+        for line in (
+            "rankdir=LR;",
+            "start -> 1;",
+            '1 -> 2 [label="shut"];',
+            '1 -> 2 [dir=back, weight=0, label="open"];',
+            '2 -> 3 [label="down"];',
+            '2 -> 3 [dir=back, weight=0, label="up"];',
+            '3 [tooltip="Door 9:16, Press 10:17, Locked 14:38"];',
+        ):
+            self.assertEqual(output.count(f"    {line}\n"), 1, line)
         self.assertTrue(output.endswith("}\n"))
-        self.assertIn("doublecircle", cspe("picture", "two_keys")[1])
+        ends = [line for line in cspe("picture", "two_keys")[1].splitlines() if line.endswith("shape=doublecircle];")]
+        self.assertEqual([line.split()[0] for line in ends], ["10", "11"])
+
+    def test_labels(self):
+        """Events of one arrow together, numbers in succession as a range, long labels on several lines; loops."""
+        names = ", ".join(f"a_long_name_{i}" for i in range(6))
+        with text_of(f"alphabet {names}\nP = {{{names}}} -> P\n") as own:
+            output = cspe("picture", own)[1]
+        lines = "a_long_name_0, a_long_name_1,\\na_long_name_2, a_long_name_3,\\na_long_name_4, a_long_name_5"
+        self.assertIn(f'    1 -> 1 [label="{lines}"];\n', output)
+        with text_of("alphabet 9\nevent go = 4\nQ = STOP\nP = {0, 1, 3..8} -> Q [] {2} -> go -> Q\n") as own:
+            output = cspe("picture", own)[1]
+        self.assertIn('    1 -> 2 [label="0, 1, 3, go, 5..8"];\n', output)
+        self.assertIn('    3 -> 2 [constraint=false, label="go"];\n', output)  # both are one event from the start
 
     def test_text(self):
         expected = "   1 -- 0 --> 2\n   2 -- 1 --> 1\n2 residual sets; 1 is the start\n"
@@ -137,6 +205,25 @@ class Picture(unittest.TestCase):
             self.assertEqual(status, 3)
             self.assertIn("--svg needs graphviz", errors)
             self.assertFalse(out.exists())
+
+    @unittest.skipUnless(shutil.which("dot"), "graphviz is not here")
+    def test_columns(self):
+        """Where graphviz is: each example's picture has its sets from left to right, by their distance from the start."""
+        for name in [file.stem for file in sorted(EXAMPLES.glob("*.csp"))]:
+            with tempfile.TemporaryDirectory() as folder:
+                out = Path(folder) / "own.svg"
+                self.assertEqual(cspe("picture", name, "--svg", out), (0, "", ""))
+                found = ElementTree.parse(out).getroot()
+            place = {}
+            for node in found.iter("{http://www.w3.org/2000/svg}g"):
+                if node.get("class") == "node" and node[0].text != "start":
+                    place[int(node[0].text)] = float(node.find(".//{*}ellipse").get("cx"))
+            graph = Graph(load(name).table, 100)
+            self.assertEqual(sorted(place), [state.number + 1 for state in graph.states], name)
+            column = distances(graph)
+            for first, second in itertools.combinations(column, 2):
+                apart = column[second] - column[first], round(place[second + 1] - place[first + 1])
+                self.assertEqual(apart[0] > 0, apart[1] > 0, (name, first, second))
 
     def test_no_run(self):
         self.assertEqual(cspe("picture", "worked/k5")[:2], (1, "failed at 0: this drawing permits no run at all\n"))

@@ -1,5 +1,6 @@
 """The rules of `check`, and what a residual waits for, beside the proved library."""
 
+import itertools
 import random
 import unittest
 
@@ -7,6 +8,7 @@ from places import EXAMPLES
 from made import drawing
 from commands.drawings import Loaded
 from commands.library import Monitor, most_events
+from commands.mending import finding, with_levels
 from commands.rules import faults
 from commands.terms import Terms, standing
 from notation.assemble import Assembled
@@ -81,6 +83,49 @@ class Rules(unittest.TestCase):
     def test_examples_stand(self):
         for file in EXAMPLES.rglob("*.csp"):
             self.assertEqual(both(file.read_text()), ([], None), file)
+
+
+# a drawing whose levels are missing or wrong; those that would do, what is left with them, and whether none would do
+LEVELS = [
+    ("A = {0} -> A\nB = A ||| A\nC = B ||| B", {"B": 1, "C": 2}, [], False),
+    ("level 2 A = {0} -> A\nB = {0} -> A\nlevel 1 C = B", {"B": 2, "C": 2}, [], False),
+    ("level 9 A = {0} -> A\nB = {0} -> A", {"A": 0}, [], False),
+    ("A = {0} -> A\nB = A ||| A ||| A ||| A ||| A\nC = B ||| B", {"B": 1, "C": 2}, [8], False),
+    (f"A = {' [] '.join(['{0} -> A'] * 9)}\nB = A ||| A ||| A", {"B": 1}, [9], False),
+    ("A = {0} -> A\nB = A ||| A\nC = C", {"B": 1}, [7], False),
+    # level 1 at W and N would make Top 12 wide, so W goes out of N's way
+    (f"A = {{0}} -> A\nW = A{' ||| A' * 5}\nN = A ||| A\nTop = N ||| N", {"W": 1, "N": 2, "Top": 3}, [], False),
+    ("A = {0} -> (A ||| A)\nB = A ||| A", {}, [7], True),
+    ("level 1 A = {0} -> B\nlevel 1 B = {0} -> (A ||| STOP)\n", {}, [7], True),
+    (f"P = {SIDES}", {}, [8], True),
+]
+
+
+class Levels(unittest.TestCase):
+    def test_rows(self):
+        for text, levels, left, hopeless in LEVELS:
+            found = finding(loaded(f"alphabet 1\n{text}\n"))
+            self.assertEqual((found.levels, found.hopeless), (levels, hopeless), text)
+            self.assertEqual(sorted({fault.number for fault in found.left}), left, text)
+
+    def test_random(self):
+        """Levels are found wherever there are any: with all others, tried one by one, the reader refuses it too."""
+        random.seed(23)
+        mended = hopeless = 0
+        for _ in range(700):
+            found = finding(loaded(drawing(random)))
+            if not any(fault.levels for fault in found.faults):
+                self.assertEqual(found.levels, {})
+            elif not found.hopeless:
+                mended += 1
+                self.assertFalse(any(fault.levels for fault in found.left), found.drawing.source.text)
+            elif hopeless < 20:
+                hopeless += 1
+                count = len(found.drawing.assembled.drawing.definitions)
+                for levels in itertools.product(range(count), repeat=count):
+                    self.assertIsNotNone(Monitor(with_levels(found.drawing, levels).table).refusal)
+        self.assertGreater(mended, 30)
+        self.assertGreater(hopeless, 5)
 
 
 class Waiting(unittest.TestCase):
