@@ -34,12 +34,12 @@ def examples():
 
 def found_file(name):
     for file in (Path(name), EXAMPLES / f"{name}.csp"):
-        if file.is_file():
+        if name and file.exists() and not file.is_dir():  # a pipe of the shell, as <(..), will do
             return file
-    if Path(name).is_dir():
+    if name and Path(name).is_dir():
         raise Stop(f"{name} is a directory; a drawing is a file")
     close = difflib.get_close_matches(name, examples(), 1)
-    raise Stop(f"there is no drawing {name}" + (f"; is {close[0]} meant?" if close else ""))
+    raise Stop(f"there is no drawing {name or 'without a name'}" + (f"; is {close[0]} meant?" if close else ""))
 
 
 def read(name):

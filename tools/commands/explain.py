@@ -1,5 +1,7 @@
 """cspe explain: why events failed or were refused, and where in the drawing."""
 
+from collections import Counter
+
 from .drawings import FAILED, load
 from .judging import Judge
 from .streams import pieces
@@ -14,6 +16,7 @@ Exit status: 0 running, 1 failed, 2 refused, 3 wrong use."""
 
 WAYS = 12  # shown, but with --all
 EVENTS = 8  # shown before the one that failed
+FAR = 70  # columns, behind which words do not stand beside a caret
 
 
 def add_options(parser):
@@ -62,12 +65,43 @@ def stands(drawing, judge, everything):
     lines = [f"{drawing.source.name} stands here {when}:" if len(found) == 1 else
              f"{drawing.source.name} may stand in {len(found)} ways {when}:"]
     shown = found if everything else found[:WAYS]
-    for number, residual in enumerate(shown, 1):
-        lines += ["", *([f"  way {number}"] if len(found) > 1 else [])]
-        lines += residual_lines(drawing, residual, event, judge.terms.doomed)
+    told = [residual_lines(drawing, residual, event, judge.terms.doomed) for residual in found]
+    common = shared(told) if len(found) > 1 else []
+    lines += part("in each of them", common)
+    for number, leaves in enumerate(told[: len(shown)], 1):
+        lines += part(f"way {number}" if len(found) > 1 else None, without(leaves, common))
+    if all(len(leaves) == len(common) for leaves in told):
+        lines += ["", "  the ways differ only in which side of a parallel stands where"]
     if len(shown) < len(found):
         lines += ["", f"  and {many(len(found) - len(shown), 'way')} more; --all shows them"]
+    if event is not None and not any(event in leaf.events for residual in found for leaf in residual.leaves()):
+        lines += ["", f"  none of them waits for {drawing.name(event)}"]
     return lines
+
+
+def part(head, leaves):
+    """Some leaves below their head; nothing where there are none."""
+    shown = [line for leaf in leaves for line in leaf]
+    return ["", *([f"  {head}"] if head else []), *shown] if shown else []
+
+
+def shared(told):
+    """The leaves that each way has."""
+    common = Counter(told[0])
+    for leaves in told[1:]:
+        common &= Counter(leaves)
+    return [leaf for leaf in dict.fromkeys(told[0]) for _ in range(common[leaf])]
+
+
+def without(leaves, common):
+    left = Counter(common)
+    found = []
+    for leaf in leaves:
+        if left[leaf]:
+            left[leaf] -= 1
+        else:
+            found.append(leaf)
+    return found
 
 
 def doomed_start(judge):
@@ -76,34 +110,52 @@ def doomed_start(judge):
 
 
 def residual_lines(drawing, residual, event, doomed):
-    """A line of the drawing for each leaf, with a caret and what it waits for."""
-    lines = []
-    for leaf in residual.leaves():
-        lines += source_lines(leaf.place.term.at, said_of(drawing, residual, leaf, event, doomed))
-    return lines
+    """Of each leaf its line of the drawing, and one with a caret and what it waits for."""
+    return [
+        source_lines(leaf.place.term.at, said_of(drawing, residual, leaf, event, doomed)) for leaf in residual.leaves()
+    ]
 
 
 def source_lines(at, what):
+    """A line of the drawing, a caret below a token, and words beside it; where that is far right, below it."""
     text = at.source.lines[at.line - 1].rstrip("\r").replace("\t", " ")
     margin = f"  {at.line:>5} | "
-    caret = "^" * max(1, len(at.text))
-    return [margin + text, f"{'|':>{len(margin) - 1}} {' ' * (at.column - 1)}{caret} {at.line}:{at.column} {what}"]
+    below = f"{'|':>{len(margin) - 1}} "
+    caret = f"{' ' * (at.column - 1)}{'^' * max(1, len(at.text))}"
+    first, *more = [f"{at.line}:{at.column} {what[0]}", *what[1:]]
+    if len(caret) > FAR:
+        return (margin + text, below + caret, *(f"{below}{words}" for words in [first, *more]))
+    beside = " " * (len(caret) + 1)
+    return (margin + text, f"{below}{caret} {first}", *(f"{below}{beside}{words}" for words in more))
 
 
 def said_of(drawing, residual, leaf, event, doomed):
+    """What a leaf waits for; and of one that waits for the event that failed, why that is not enough."""
     name = leaf.place.definition.name
     if isinstance(leaf.place.term, Stop):
-        return f"{name} is at its end: STOP takes no event"
+        return [f"{name} is at its end: STOP takes no event"]
     waits = f"{name} waits for {drawing.listed(leaf.events, 'an event of an empty set')}{remembered(drawing, leaf)}"
     if event is None or event not in leaf.events:
-        return waits
+        return [waits]
     if id(leaf.place.term.follower) in doomed:
-        return f"{waits}; behind {drawing.name(event)} all ways are FAIL"
+        return [waits, f"behind {drawing.name(event)} all ways are FAIL"]
     gates = [gate for gate in gates_of(residual, leaf, event) if not gate.taking(event, doomed)]
     if gates:
         at = gates[-1].place.term.at
-        return f"{waits}; {drawing.name(event)} needs both sides of the parallel at {at.line}:{at.column}"
-    return waits
+        needs = f"{drawing.name(event)} needs both sides of the parallel at {at.line}:{at.column}"
+        return [waits, f"{needs}; {other_side(gates[-1], leaf)} not take it"]
+    return [waits]
+
+
+def other_side(gate, leaf):
+    """Who stands across a parallel from a leaf, with the verb; of the leaf's own definition with its place."""
+    other = next(side for side in gate.sides if leaf not in side.leaves())
+    names = []
+    for one in other.leaves():
+        name, at = one.place.definition.name, one.place.term.at
+        names.append(f"{name} at {at.line}:{at.column}" if name == leaf.place.definition.name else name)
+    names = list(dict.fromkeys(names))
+    return f"{' and '.join(names)} {'does' if len(names) == 1 else 'do'}"
 
 
 def gates_of(node, leaf, event):

@@ -5,8 +5,8 @@
 """
 
 from . import words
-from .drawings import FAILED, REFUSED, RUNNING
-from .library import Monitor
+from .drawings import FAILED, REFUSED, RUNNING, Stop
+from .library import Monitor, library
 from .mending import CROWDED, finding, lines
 from .terms import Terms, standing
 
@@ -21,8 +21,11 @@ class Judge:
     def __init__(self, drawing, slots=None):
         self.drawing = drawing
         self.terms = Terms(drawing.assembled)
+        most = library().slots
+        if slots is not None and not 1 <= slots <= most:
+            raise Stop(f"--slots is 1 to {most}")
         self.monitor = Monitor(drawing.table, slots)
-        self.slots = self.monitor.library.slots if slots is None else slots
+        self.slots = most if slots is None else slots
         self.status, self.event, self.refusal = RUNNING, None, None
         self.place = 0  # of the event that failed, counted from 1
         self.last = []  # the last events taken

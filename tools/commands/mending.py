@@ -114,10 +114,10 @@ def too_wide(terms):
 
 
 def lines(found):
-    """Every fault, and the line that sums up."""
+    """Every fault, with `then` those that the levels hide, and the line that sums up."""
     further = found.further()
     told = [shown_fault(fault) for fault in found.faults]
-    told += [shown_fault(fault, ", once the levels are mended") for fault in further]
+    told += [shown_fault(fault, "then ") for fault in further]
     count = many(len(found.faults) + len(further), "fault") if found.faults else "no fault"
     return told, f"{found.drawing.source.name}: {count}{outlook(found)}"
 
@@ -141,5 +141,5 @@ def named(levels):
 
 
 def shown_fault(fault, when=""):
-    head = f"refused {fault.number} ({words.NAMES.get(fault.number, 'new')}){when}: {fault.message}"
+    head = f"{when}refused {fault.number} ({words.NAMES.get(fault.number, 'new')}): {fault.message}"
     return f"{shown(fault.at, head) if fault.at else head}\n    to mend it: {fault.mend}"

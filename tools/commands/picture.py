@@ -164,8 +164,8 @@ def dot(drawing, graph):
 
 
 def arrow(start, to, column):
-    """An arrow back to an earlier column is written forth, with its head behind: so it moves no state out of its column,
-    and graphviz still keeps it clear of others."""
+    """An arrow back to an earlier column is written forth, with its head behind: so it moves no state out of its
+    column, and graphviz still keeps it clear of others."""
     if column[to] < column[start]:
         return f"{to + 1} -> {start + 1} [dir=back, weight=0, "
     if column[to] == column[start] and to != start:

@@ -2,8 +2,11 @@
 """The command line: drawings to table bytes and back. `--help` says how it is called."""
 
 import argparse
+import errno
 import os
+import shutil
 import sys
+import tempfile
 
 from notation.assemble import Assembled
 from notation.disassemble import tree
@@ -37,9 +40,11 @@ def main(arguments):
     except Unusable as error:
         print(f"drawing: {error}", file=sys.stderr)
         return 2
-    except BrokenPipeError:
-        # whoever read our output has enough; nothing more is written at the end
+    except OSError as error:
+        # standard output took not all of it: nothing more is written there at the end
         os.dup2(os.open(os.devnull, os.O_WRONLY), sys.stdout.fileno())
+        why = "nobody reads it any more" if error.errno == errno.EPIPE else error.strerror
+        print(f"drawing: {error.filename or 'standard output is not whole'}: {why}", file=sys.stderr)
         return 2
     return 0
 
@@ -118,10 +123,25 @@ def put(data, options):
         sys.stdout.buffer.write(data)
         return
     try:
-        with open(options.output, "wb") as file:
-            file.write(data)
+        write_whole(options.output, data)
     except OSError as error:
         raise Unusable(f"cannot write {options.output}: {error.strerror}") from None
+
+
+def write_whole(name, data):
+    """Writes a file beside its place and moves it there: what stood there is kept where that fails."""
+    if os.path.exists(name) and not os.path.isfile(name):
+        with open(name, "wb") as file:
+            file.write(data)
+        return
+    place = tempfile.mkdtemp(dir=os.path.dirname(name) or ".")
+    try:
+        made = os.path.join(place, "made")
+        with open(made, "wb") as file:
+            file.write(data)
+        os.replace(made, name)
+    finally:
+        shutil.rmtree(place, ignore_errors=True)
 
 
 def events_of(assembled, options):

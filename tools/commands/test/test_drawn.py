@@ -65,13 +65,13 @@ class Check(unittest.TestCase):
         self.checked(
             HEAD + lanes + "R = Q ||| Q\n",
             2,
-            ":5:1: refused 8 (too many hands), once the levels are mended: R can come to 10 terms side by side",
+            ":5:1: then refused 8 (too many hands): R can come to 10 terms side by side",
             ": 8 faults; with level 1 at Q, level 2 at R, 1 of them stays\n",
         )
         self.checked(
             HEAD + "P = go -> P [] go -> go -> P [] halt -> P\nQ = P ||| P ||| P ||| P ||| P ||| P\n",
             2,
-            ":4:31: refused 9 (too many openings), once the levels are mended: this term begins in 729 ways",
+            ":4:31: then refused 9 (too many openings): this term begins in 729 ways",
             ": 7 faults; with level 1 at Q, 1 of them stays\n",
         )
         self.checked(
@@ -208,7 +208,7 @@ class Picture(unittest.TestCase):
 
     @unittest.skipUnless(shutil.which("dot"), "graphviz is not here")
     def test_columns(self):
-        """Where graphviz is: each example's picture has its sets from left to right, by their distance from the start."""
+        """Where graphviz is: each example's picture has its sets from left to right, by their distance."""
         for name in [file.stem for file in sorted(EXAMPLES.glob("*.csp"))]:
             with tempfile.TemporaryDirectory() as folder:
                 out = Path(folder) / "own.svg"

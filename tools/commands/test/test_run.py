@@ -1,6 +1,8 @@
 """cspe run, explain and step: verdicts in words, live streams, and what is said of wrong input."""
 
 import os
+import random
+import re
 import shutil
 import subprocess
 import sys
@@ -9,8 +11,12 @@ import unittest
 from pathlib import Path
 
 from places import CSPE, EXAMPLES, ROOT, cspe, text_of
+from commands.drawings import load
+from commands.explain import stands
+from commands.judging import Judge
 
 PACKING = "packing_line"
+SHARED = ["in each of them", "Left w", "Right w", "way 1", "Grader w", "way 2", "Grader w"]
 
 
 class Run(unittest.TestCase):
@@ -99,6 +105,20 @@ class WrongUse(unittest.TestCase):
             self.bad(2, "is empty", "check", file)
             file.write_bytes(b"alphabet 1\n\xff")
             self.bad(2, ":2:1: error: Byte FF is not UTF-8 here.", "run", file)
+            file.write_bytes(b"alphabet 1\nP = \x1b[2J\0")
+            self.bad(2, "    P = ?[2J?\n        ^", "run", file)  # no control signs on a terminal
+        self.bad(3, "there is no drawing without a name", "check", "")
+        self.bad(3, "`` is not the name of an event", "run", PACKING, "")
+        for slots in ("0", "-1", "257"):
+            self.bad(3, "--slots is 1 to 256", "run", "--slots", slots, PACKING)
+        self.bad(3, "invalid int value", "explain", "--slots", "x", PACKING)
+        self.bad(3, "cannot write tools: Is a directory", "c", PACKING, "-o", "tools")
+
+    def test_pipe_of_the_shell(self):
+        """A drawing may be what a command writes, in bash `<(..)`."""
+        command = f"{CSPE} check <(cat {EXAMPLES}/table_b.csp)"
+        found = subprocess.run(["bash", "-c", command], capture_output=True, text=True, check=False)
+        self.assertEqual((found.returncode, found.stdout[-10:], found.stderr), (0, ": no fault\n"[-10:], ""))
 
     def test_help(self):
         self.assertEqual(cspe("--help")[0], 0)
@@ -121,19 +141,17 @@ class WrongUse(unittest.TestCase):
         self.assertIn("the library is not built; `rt staticlib monitor_c` proves and builds it", found.stderr)
 
     def test_full_disk_and_closed_pipe(self):
-        with open("/dev/full", "w") as full:
-            found = subprocess.run(
-                [CSPE, "run", PACKING], stdout=full, stderr=subprocess.PIPE, text=True, check=False, cwd=ROOT
-            )
-        self.assertEqual(found.returncode, 3)
-        self.assertIn("standard output is not whole: No space left on device", found.stderr)
+        said = {"stdin": subprocess.DEVNULL, "stderr": subprocess.PIPE, "text": True, "check": False, "cwd": ROOT}
+        for command in ("run", "explain", "step", "check", "picture", "c", "--help"):
+            with open("/dev/full", "w") as full:
+                found = subprocess.run([CSPE, command, PACKING], stdout=full, **said)
+            self.assertEqual(found.returncode, 3, command)
+            self.assertEqual(found.stderr, "cspe: standard output is not whole: No space left on device\n", command)
         self.bad(3, "cannot write /dev/full: No space left on device", "c", "table_b", "-o", "/dev/full")
         reader, writer = os.pipe()
         os.close(reader)
         try:
-            found = subprocess.run(
-                [CSPE, "run", PACKING], stdout=writer, stderr=subprocess.PIPE, text=True, check=False, cwd=ROOT
-            )
+            found = subprocess.run([CSPE, "run", PACKING], stdout=writer, **said)
         finally:
             os.close(writer)
         self.assertEqual(found.returncode, 3)
@@ -158,7 +176,8 @@ class Explain(unittest.TestCase):
             "         4  right    <- not permitted\n",
             "     10 | Grader = stamp -> Stamped [] crack -> reject -> Grader\n"
             "        |                                       ^^^^^^ 10:39 Grader waits for reject\n",
-            "^^^^^ 15:9 Right waits for right; right needs both sides of the parallel at 18:23\n",
+            "^^^^^ 15:9 Right waits for right\n"
+            "        |               right needs both sides of the parallel at 18:23; Grader does not take it\n",
         ):
             self.assertIn(words, output)
 
@@ -166,11 +185,36 @@ class Explain(unittest.TestCase):
         """Each residual is a way; what a variable stands for; FAIL behind an event."""
         output = cspe("explain", "sent_lane", "send_1", "arrive_2")[1]
         self.assertIn("may stand in 2 ways just before it", output)
-        self.assertIn("Egg waits for arrive_1 (x is send_1)\n", output)
+        self.assertEqual(output.count("Egg waits for arrive_1 (x is send_1)\n"), 1)
+        self.assertIn("the ways differ only in which side of a parallel stands where", output)
+        output = cspe("explain", PACKING, "stamp", "left", "left")[1]
+        self.assertEqual(re.findall("in each of them|way .|Left w|Right w|Grader w", output), SHARED)
         output = cspe("explain", "interlock", "shut", "open", "down")[1]
-        self.assertIn("Unlocked waits for down; behind down all ways are FAIL\n", output)
+        self.assertIn("Unlocked waits for down\n        |" + 35 * " " + "behind down all ways are FAIL\n", output)
         output = cspe("explain", "worked/k5")[1]
         self.assertIn("K5, the start, is doomed", output)
+
+    def test_each_failure_has_its_reason(self):
+        """Over random runs of the packing line: nobody waits for the event, or a line says what kept whoever does."""
+        random.seed(24)
+        drawing = load(PACKING)
+        reasons = set()
+        for _ in range(60):
+            judge = Judge(drawing)
+            while judge.status == 0:
+                judge.take([random.randrange(7)] if random.random() < 0.2 else [random.choice(judge.monitor.offer())])
+            told = "\n".join(stands(drawing, judge, False))
+            name = drawing.name(judge.event)
+            found = re.findall(f"none of them waits for {name}|{name} needs both sides of .*; .* not take it", told)
+            self.assertGreaterEqual(len(found), 1, told)
+            reasons.add(found[0])
+        self.assertGreater(len(reasons), 6)
+
+    def test_same_definition(self):
+        """Across a parallel stands the same definition: it is told by its place; far right, words stand below."""
+        output = cspe("explain", "two_keys", "pick_1", "key_a", "release_1")[1]
+        self.assertIn("release_1 needs both sides of the parallel at 9:53; Release at 9:68 does not take it\n", output)
+        self.assertIn(f"        |{'^^^^^':>73}\n        | 9:68 Release waits for key_b\n", output)
 
     def test_many_ways(self):
         with text_of("alphabet 1\nP = " + " [] ".join(["{0} -> STOP"] * 20)) as own:

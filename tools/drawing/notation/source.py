@@ -70,6 +70,7 @@ class Problem(Exception):
 def shown(at, message):
     """A message at a token: file, line and column, then the line and a caret below the token."""
     line = at.source.lines[at.line - 1].rstrip("\r")
+    line = "".join(c if c.isprintable() or c == "\t" else "?" for c in line)  # no control signs on a terminal
     before = "".join("\t" if c == "\t" else " " for c in line[: at.column - 1])
     caret = "^" * max(1, len(at.text))
     return f"{at.source.name}:{at.line}:{at.column}: {message}\n    {line}\n    {before}{caret}"

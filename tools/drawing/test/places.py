@@ -49,7 +49,8 @@ def run(*arguments, stdin=b""):
     return status, streams[1].buffer.getvalue(), streams[2].buffer.getvalue().decode()
 
 
-def called(*arguments, stdin=b""):
-    command = [sys.executable, str(DRAWING), *map(str, arguments)]
-    found = subprocess.run(command, input=stdin, capture_output=True, check=False)
+def called(*arguments, stdin=b"", stdout=subprocess.PIPE, before=()):
+    """`before` are words before the command."""
+    command = [*before, sys.executable, "-B", str(DRAWING), *map(str, arguments)]
+    found = subprocess.run(command, input=stdin, stdout=stdout, stderr=subprocess.PIPE, check=False)
     return found.returncode, found.stdout, found.stderr.decode()

@@ -1,5 +1,6 @@
 """The command line: output, exit status, and the place of a refusal in the text."""
 
+import os
 import tempfile
 import unittest
 from pathlib import Path
@@ -97,6 +98,27 @@ class Commands(unittest.TestCase):
             self.assertEqual([words[2:].split(": ")[0] for words in lines], places, text)
         self.bad(1, "not at a place", "where", B, "refused", "7", "16")
         self.bad(1, "not at a place", "where", B, "refused", "11", "0")
+
+    def test_full_disk_and_closed_pipe(self):
+        """A message and no trace of the program; a file that cannot be written whole is as before."""
+        for words in (["assemble", B], ["disassemble", "--hex", "-"], ["where", B, "refused", "5", "0"]):
+            with open("/dev/full", "wb") as full:
+                found = called(*words, stdin=TABLE_B.encode(), stdout=full)
+            self.assertEqual(found[0], 2)
+            self.assertEqual(found[2], "drawing: standard output is not whole: No space left on device\n")
+        reader, writer = os.pipe()
+        os.close(reader)
+        found = called("assemble", B, stdout=writer)
+        os.close(writer)
+        self.assertEqual((found[0], found[2]), (2, "drawing: standard output is not whole: nobody reads it any more\n"))
+        self.bad(2, "cannot write /dev/full: No space left on device", "assemble", B, "-o", "/dev/full")
+        with tempfile.TemporaryDirectory() as folder:
+            out = Path(folder) / "table"
+            out.write_bytes(b"kept")
+            small = ["bash", "-c", 'ulimit -f 0; trap "" XFSZ; exec "$@"', "bash"]
+            found = called("assemble", B, "-o", out, before=small)
+            self.assertEqual(found, (2, b"", f"drawing: cannot write {out}: File too large\n"))
+            self.assertEqual(([*Path(folder).iterdir()], out.read_bytes()), ([out], b"kept"))
 
     def test_wrong_use(self):
         self.bad(2, "required", *[])
