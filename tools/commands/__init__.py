@@ -5,7 +5,8 @@
     terms       where a term of the table stands in the drawing; what a residual waits for
     explore     the residual sets that are reached
     rules       the rules of a table, every fault with its place and how to mend it
-    levels      the least levels that the calls of a drawing allow
+    levels      the levels that the calls of a drawing allow
+    mending     the faults of a drawing beside the proved reader, and the levels that would mend them
     streams     events from arguments, files and live streams; output that is whole or not at all
     words       verdicts and refusals in words
 
