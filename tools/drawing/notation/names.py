@@ -69,7 +69,8 @@ class Names:
         if not isinstance(named, kinds) and again:
             return again[0]  # that it has two meanings is told already
         if not isinstance(named, kinds):
-            raise Problem(f"`{name}` is the name of {WHAT[type(named)]}, not of {wanted}.", at)
+            hint = f"; an event is taken as in `{name} -> P`" if kinds == (Definition,) else ""
+            raise Problem(f"`{name}` is the name of {WHAT[type(named)]}, not of {wanted}{hint}.", at)
         return named
 
     def outside(self, number, at):

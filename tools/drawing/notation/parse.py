@@ -1,5 +1,6 @@
 """Text to tree. README.md has the grammar; each function below reads one of its rules."""
 
+from . import foreign
 from .cursor import Cursor
 from .source import Problem
 from .syntax import (
@@ -150,14 +151,28 @@ class Parser(Cursor):
         elif not self.sees("name"):
             raise self.problem("A statement is expected (`event`, `set`, `level` or a definition)")
         at = self.name("a definition")
+        if not self.sees("="):
+            self.brought(at)
         self.expect("=", "`=` is expected after the definition's name")
         body = self.term()
         after = self.here()
         if after.kind == ")":
             raise Problem("This `)` has no `(`.", after)
         if not after.first:
+            self.brought(self.tokens[self.next - 1])
             raise self.problem("`->`, `[]`, `|[`, `|||` or the end of the line is expected")
         return Definition(level, at.text, body, at, level_at or at)
+
+    def brought(self, at):
+        """Answers a word of another notation, an input `a?x`, and a definition with parameters."""
+        if foreign.word(at.text):
+            raise Problem(foreign.word(at.text), at)
+        if self.sees("?"):
+            message = "An input as `a?x` is not here: name the set of its events, as in `x : set -> P`."
+            raise Problem(message, self.here())
+        if self.sees("(") and at.kind == "name":
+            message = "A definition has no parameters: write one for each value, as `P_1` and `P_2`."
+            raise Problem(message, self.here())
 
     # ---- sets
 

@@ -17,9 +17,6 @@ WORDS = ("alphabet", "event", "set", "level", "else", "STOP", "FAIL")
 # Longer signs first. `[]` is the choice, also where nothing else is meant.
 SIGNS = ("|||", "|[", "]|", "[]", "->", "..", "=", "{", "}", "[", "]", "(", ")", ",", ":", "^", "?")
 
-# Signs of other notations that begin with a sign of this one.
-FOREIGN_FIRST = ("[|", "[[", "{|")
-
 PATTERN = re.compile(
     r"(?P<space>[ \t\r]+|--[^\n]*)"
     r"|(?P<line>\n)"
@@ -97,7 +94,8 @@ def tokens(source, problems=None):
     text = source.text
     while place < len(text):
         match = PATTERN.match(text, place)
-        if match is None or text.startswith(FOREIGN_FIRST, place):
+        brought = text.startswith(foreign.FIRST, place) and not text.startswith("{--", place)
+        if match is None or brought:
             sign, message = strange(text, place)
             problem = Problem(message, Token(source, "unknown", sign, line, place - start + 1, first))
             if problems is None:

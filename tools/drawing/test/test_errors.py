@@ -20,6 +20,10 @@ ROWS = [
     # tokens
     (HEAD + "P = a @; STOP", "is no sign of the notation"),
     (HEAD + "P = @# STOP", "is no sign of the notation"),
+    (HEAD + "P = a @| STOP", "a choice is written"),
+    (HEAD + "P = a @\u2192 STOP", "a prefix is written"),
+    (HEAD + "P @:= STOP", "a definition is written"),
+    (HEAD + "@{- all -}\nP = STOP", "a comment begins with `--`"),
     ("alphabet @65536", "at most 65,535"),
     ("alphabet @" + "9" * 5000, "at most 65,535"),
     # statements
@@ -38,6 +42,12 @@ ROWS = [
     ("alphabet 3\nset a @{0}", "`=` is expected"),
     ("alphabet 3\nset a = @0", "A set `{..}` or a family"),
     ("alphabet 3\nevent e = @f", "A number is expected"),
+    (HEAD + "P@(n) = STOP", "A definition has no parameters"),
+    (HEAD + "level 1 P@(n) = STOP", "A definition has no parameters"),
+    ("alphabet 3\n@channel c : {0}\nP = STOP", "events are declared by `alphabet`"),
+    (HEAD + "P = @if x then STOP else STOP", "`if` is not here"),
+    (HEAD + "P = a@?x -> P", "as in `x : set -> P`"),
+    (HEAD + "P = a -> @stop", "STOP ends a run"),
     # names
     ("alphabet a, b, @a\nP = STOP", "`a` is the name of an event already (line 1)"),
     (HEAD + "set @a = {1}\nP = STOP", "`a` is the name of a set already (line 2)"),
@@ -166,6 +176,9 @@ class Errors(unittest.TestCase):
             "    \tP = a -> Quiet -- and so on\n"
             "    \t         ^^^^^",
         )
+
+    def test_comment_in_a_set(self):
+        self.assertIsNone(problem("alphabet 2\nset a = {-- both\n0, 1}\nP = a -> STOP"))
 
     def test_long_table(self):
         """16,384 bytes stand, one more is an error at the number that passes them."""
