@@ -2,7 +2,7 @@
 
 A document shows a command and what it prints as `$ COMMAND` and lines below it. A command without its output, in a list
 of commands or in a sentence, is either in RUN, and ends well here, or in GATE: it proves or measures, or another test
-runs it.
+runs it. The commands of tools/reference have a test beside tools/drawing; those of tools/bench measure for long.
 """
 
 import re
@@ -12,7 +12,8 @@ import unittest
 from documents import blocks, folder, steps, take, taken
 from places import ROOT
 
-DOCUMENTS = "README.md docs/GUIDE.md docs/USING.md examples/README.md tools/drawing/README.md".split()
+DOCUMENTS = "README.md docs/GUIDE.md docs/USING.md examples/README.md".split()
+DOCUMENTS += [f"tools/{name}/README.md" for name in ("drawing", "commands", "stack")]
 
 # beginnings of commands, in blocks and between backquotes
 COMMAND = re.compile(r"^(?:tools/|python3 tools/|\.ci/run|rt |cc |target/|cargo )")
@@ -92,8 +93,13 @@ LEAST = {"README.md": 4, "docs/GUIDE.md": 20, "docs/USING.md": 1, "tools/drawing
 # commands with their output that are not run here: they prove
 NOT_HERE = {"README.md": ("rt check line_monitor",)}
 
+STACK = "cc -std=c11 -O2 -Iinclude -o target/stack tools/stack/main.c target/staticlib/libmonitor_c.a -lpthread"
+
 # a command as a document has it, and how it is run here (None: just so)
 RUN = {
+    STACK: STACK.replace("-o target/stack", "-o stack"),
+    "target/stack": "./stack",
+    "tools/cspe COMMAND DRAWING ..": "tools/cspe run table_b",
     "tools/cspe": "tools/cspe --help",
     "tools/cspe --help": None,
     "tools/cspe c": "tools/cspe c table_b",
