@@ -2,6 +2,7 @@
 
 import itertools
 import random
+import re
 import unittest
 
 from places import EXAMPLES
@@ -101,6 +102,13 @@ LEVELS = [
 ]
 
 
+def mended_by_hand(text, levels):
+    """A text with these levels written into it."""
+    for name, level in levels.items():
+        text = re.sub(rf"(?m)^(level \d+ )?{name} = ", f"level {level} {name} = ", text)
+    return text
+
+
 class Levels(unittest.TestCase):
     def test_rows(self):
         for text, levels, left, hopeless in LEVELS:
@@ -119,6 +127,8 @@ class Levels(unittest.TestCase):
             elif not found.hopeless:
                 mended += 1
                 self.assertFalse(any(fault.levels for fault in found.left), found.drawing.source.text)
+                text = mended_by_hand(found.drawing.source.text, found.levels)
+                self.assertEqual(both(text)[0], [(fault.number, fault.place) for fault in found.left], text)
             elif hopeless < 20:
                 hopeless += 1
                 count = len(found.drawing.assembled.drawing.definitions)
