@@ -62,12 +62,14 @@ def judge(drawing):
     found = finding(drawing)
     shown_faults, sum_of_it = lines(found)
     terms = Terms(found.mended.assembled)
-    warnings = [] if found.left else [*warned(found.mended, terms)]
+    graph = None if found.left else Graph(found.mended.table, LIMIT)
+    warnings = [] if found.left else [*warned(found.mended, terms, graph)]
     warnings += [] if found.faults else higher_levels(terms)
     warnings = sorted(warnings, key=lambda pair: (pair[0].line, pair[0].column))
     also = f"; {many(len(warnings), 'warning')}" if warnings else ""
     levels = ", ".join(f"{d.name} {d.level}" for d in drawing.assembled.drawing.definitions if d.level)
     also += f"; levels: {levels}" if levels and not found.faults else ""
+    also += unsought(graph) if graph else ""
     shown_warnings = [shown(at, f"warning: {message}") for at, message in warnings]
     print("\n".join([*shown_faults, *shown_warnings, sum_of_it + also]))
     return REFUSED if found.faults else 0
@@ -76,7 +78,16 @@ def judge(drawing):
 # ---- warnings
 
 
-def warned(drawing, terms):
+def unsought(graph):
+    """What the warnings leave out."""
+    if graph.whole:
+        return ""
+    slots = f"an event needs more than {graph.monitor.library.slots} slots"
+    why = slots if graph.crowded else f"there are more than {graph.limit:,} residual sets"
+    return f"; {why}, so what is never reached was not sought"
+
+
+def warned(drawing, terms, graph):
     definitions = drawing.assembled.drawing.definitions
     called = reached(terms, definitions)
     for definition in definitions:
@@ -89,7 +100,7 @@ def warned(drawing, terms):
         if isinstance(place.term, Prefix) and place.definition.name in called and not any_event(terms, place):
             empty.append(place.number)
             yield place.term.at, "no event is in this set, so what follows is never reached"
-    yield from never(drawing, terms, called, empty)
+    yield from never(terms, graph, called, empty)
 
 
 def reached(terms, definitions):
@@ -115,9 +126,8 @@ def any_event(terms, place):
     return any(row for _, row in terms.rows(place)[1])
 
 
-def never(drawing, terms, called, empty):
+def never(terms, graph, called, empty):
     """Prefixes that no reached residual stands at, or whose events never come there."""
-    graph = Graph(drawing.table, LIMIT)
     if not graph.whole or not graph.states:
         return
     held, taken = set(), set()

@@ -1,5 +1,7 @@
 """cspe check, picture and c: what they say of drawings, and what is made of them."""
 
+import contextlib
+import io
 import itertools
 import os
 import shutil
@@ -7,9 +9,11 @@ import subprocess
 import tempfile
 import unittest
 from pathlib import Path
+from unittest import mock
 from xml.etree import ElementTree
 
 from places import EXAMPLES, ROOT, cspe, text_of
+from commands import check
 from commands.drawings import load
 from commands.explore import Graph
 from commands.picture import distances
@@ -95,6 +99,15 @@ class Check(unittest.TestCase):
             ":8:7: warning: level 0 would do for Start",
             "no fault; 7 warnings",
         )
+
+    def test_what_was_not_sought(self):
+        """Beyond a number of residual sets, or of slots, nothing is said to be never reached; and that is told."""
+        out = io.StringIO()
+        with mock.patch.object(check, "LIMIT", 5), contextlib.redirect_stdout(out):
+            self.assertEqual(check.judge(load("packing_line")), 0)
+        self.assertIn("there are more than 5 residual sets, so what is never reached was not sought\n", out.getvalue())
+        ways = " [] ".join(["go -> Q"] * 17)
+        self.checked(HEAD + f"Q = {ways}\nlevel 1 P = go -> (Q ||| halt -> Q)\n", 0, "more than 256 slots, so what")
 
     def test_every_error(self):
         """Errors of the text: those of each statement, in order, with an answer to signs of other notations."""
