@@ -45,7 +45,7 @@ def run(options):
     graph = Graph(drawing.table, options.limit)
     if options.merge and graph.whole:
         graph.states = merged(graph.states)
-    for line in left_out(graph):
+    for line in left_out(graph, options.merge):
         print(f"cspe: {line}", file=sys.stderr)
     if options.svg:
         write_svg(options.svg, dot(drawing, graph))
@@ -54,7 +54,9 @@ def run(options):
     return 0
 
 
-def left_out(graph):
+def left_out(graph, merge):
+    if merge and not graph.whole:
+        yield "only a whole picture is merged: this one is not"
     if graph.crowded:
         yield f"an event that needs more than {many(graph.monitor.library.slots, 'slot')} is left out"
     elif not graph.whole:
@@ -112,11 +114,22 @@ def text(drawing, graph):
     lines = []
     for (start, to), events in arrows(drawing, graph).items():
         lines.append(f"{start + 1:>4} -- {', '.join(events)} --> {to + 1}")
+    for number, events in beyond(drawing, graph):
+        lines.append(f"{number + 1:>4} -- {', '.join(events)} --> more")
     ends = [str(state.number + 1) for state in graph.states if not state.permitted]
-    lines.append(f"{many(len(graph.states), 'residual set')}; 1 is the start")
+    more = "" if graph.whole else ", and there are more"
+    lines.append(f"{many(len(graph.states), 'residual set')}{more}; 1 is the start")
     if ends:
         lines.append(f"no event leads on from {', '.join(ends)}")
     return "\n".join(lines) + "\n"
+
+
+def beyond(drawing, graph):
+    """States and those of their events that lead out of what is drawn."""
+    for state in graph.states:
+        left = [event for event in state.permitted if event not in state.edges]
+        if left:
+            yield state.number, told(drawing, left)
 
 
 def quoted(words):
@@ -151,15 +164,17 @@ def dot(drawing, graph):
     """Text for graphviz, with a column for each number of events from the start."""
     terms, column = Terms(drawing.assembled), distances(graph)
     lines = [f"digraph {quoted(drawing.source.name)} {{", "    rankdir=LR;", "    ranksep=0.8;"]
-    lines += ['    node [shape=circle, fontname="sans"];', '    edge [fontname="sans"];']
-    lines += ["    start [shape=point];", "    start -> 1;"]
+    lines += ['    node [shape=circle, width=0.6, fixedsize=true, fontname="sans"];', '    edge [fontname="sans"];']
+    lines += ["    start [shape=point, width=0.06];", "    start -> 1;"]
     for state in graph.states:
         shape = "" if state.permitted else ", shape=doublecircle"
         tip = quoted("\n".join(ways(terms, state)))
         lines.append(f"    {state.number + 1} [tooltip={tip}{shape}];")
     for (start, to), events in arrows(drawing, graph).items():
         lines.append(f"    {arrow(start, to, column)}label={label(events)}];")
-    lines += list(beyond(drawing, graph))
+    left = list(beyond(drawing, graph))
+    lines += [f"    {number + 1} -> more [label={label(events)}, style=dashed];" for number, events in left]
+    lines += ['    more [label="more", shape=box, style=dashed];'] if left else []
     return "\n".join([*lines, "}", ""])
 
 
@@ -171,18 +186,6 @@ def arrow(start, to, column):
     if column[to] == column[start] and to != start:
         return f"{start + 1} -> {to + 1} [constraint=false, "
     return f"{start + 1} -> {to + 1} ["
-
-
-def beyond(drawing, graph):
-    """What is left out of the picture."""
-    missing = False
-    for state in graph.states:
-        left = told(drawing, [event for event in state.permitted if event not in state.edges])
-        if left:
-            missing = True
-            yield f"    {state.number + 1} -> more [label={label(left)}, style=dashed];"
-    if missing:
-        yield '    more [label="more", shape=box, style=dashed];'
 
 
 def write_svg(name, source):

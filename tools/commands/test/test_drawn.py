@@ -198,7 +198,11 @@ class Picture(unittest.TestCase):
         status, output, errors = cspe("picture", "--limit", "5", "packing_line")
         self.assertEqual(status, 0)
         self.assertIn("more than 5 residual sets", errors)
-        self.assertIn("-> more [label=", output)
+        self.assertIn('    5 -> more [label="stamp, crack", style=dashed];\n', output)
+        self.assertIn('    more [label="more", shape=box, style=dashed];\n', output)
+        _, output, errors = cspe("picture", "--text", "--merge", "--limit", "5", "packing_line")
+        self.assertIn("   5 -- stamp, crack --> more\n5 residual sets, and there are more; 1 is the start\n", output)
+        self.assertIn("only a whole picture is merged", errors)
         self.assertEqual(cspe("picture", "--limit", "0", "packing_line")[0], 3)
 
     def test_svg(self):
