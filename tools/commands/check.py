@@ -1,11 +1,9 @@
 """cspe check: every fault of a drawing, and what looks wrong though it is allowed."""
 
-from notation.assemble import Assembled
-from notation.parse import parse
 from notation.source import shown
 from notation.syntax import Call, Prefix
 
-from .drawings import REFUSED, Loaded, read
+from .drawings import REFUSED, Errors, load
 from .explore import Graph
 from .levels import calls, least, unwritten, written
 from .mending import finding, lines
@@ -27,34 +25,11 @@ def add_options(parser):
 
 
 def run(options):
-    source = read(options.drawing)
-    problems = []
-    tree = parse(source, problems)
-    assembled = assemble(tree, problems)
-    if problems:
-        problems = told(problems)
-        print("\n".join(problem.shown() for problem in problems))
-        print(f"{source.name}: {many(len(problems), 'error')}")
+    try:
+        return judge(load(options.drawing))
+    except Errors as errors:
+        print(errors)
         return REFUSED
-    return judge(Loaded(source, assembled))
-
-
-def told(problems):
-    """In the order of the text; of a line that has a sign of another notation only those signs."""
-    strange = {problem.at.line for problem in problems if problem.at.kind == "unknown"}
-    kept = [problem for problem in problems if problem.at.kind == "unknown" or problem.at.line not in strange]
-    return sorted(kept, key=lambda problem: (problem.at.line, problem.at.column))
-
-
-def assemble(tree, problems):
-    """The table. Problems of names and sets are put behind the others.
-
-    Where a statement could not be read, what may be for want of it is not told.
-    """
-    found = list(problems)
-    assembled = Assembled(tree, found)
-    problems += [problem for problem in found[len(problems) :] if not (problems and problem.wants)]
-    return assembled
 
 
 def judge(drawing):

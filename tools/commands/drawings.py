@@ -1,6 +1,7 @@
 """A drawing, its table and its events by name; errors with an exit status.
 
     Stop        an error for the user: a text, and the exit status
+    Errors      every error of a drawing's text
     load        the drawing of a file, of an example's name, or of standard input
     Loaded      its table's bytes; events by name and number, both ways
 """
@@ -14,6 +15,8 @@ from notation.assemble import Assembled
 from notation.parse import parse
 from notation.source import Problem, Source, Token, near
 from notation.syntax import NamedEvent
+
+from .words import many
 
 INSTALLED = TOOLS / "examples"
 EXAMPLES = INSTALLED if INSTALLED.is_dir() else ROOT / "examples"
@@ -69,9 +72,27 @@ def shown_file(file):
     return str(whole.relative_to(here)) if whole.is_relative_to(here) else str(file)
 
 
+class Errors(Exception):
+    """In the order of the text; of a line that has a sign of another notation only those signs."""
+
+    def __init__(self, source, problems):
+        strange = {problem.at.line for problem in problems if problem.at.kind == "unknown"}
+        kept = [problem for problem in problems if problem.at.kind == "unknown" or problem.at.line not in strange]
+        kept.sort(key=lambda problem: (problem.at.line, problem.at.column))
+        lines = [problem.shown() for problem in kept]
+        super().__init__("\n".join([*lines, f"{source.name}: {many(len(kept), 'error')}"]))
+
+
 def load(name):
     source = read(name)
-    return Loaded(source, Assembled(parse(source)))
+    problems = []
+    tree = parse(source, problems)
+    unread = bool(problems)
+    assembled = Assembled(tree, problems)
+    if problems:
+        # where a statement could not be read, what may be for want of it is not told
+        raise Errors(source, [problem for problem in problems if not (unread and problem.wants)])
+    return Loaded(source, assembled)
 
 
 class Loaded:

@@ -107,6 +107,9 @@ class WrongUse(unittest.TestCase):
             self.bad(2, ":2:1: error: Byte FF is not UTF-8 here.", "run", file)
             file.write_bytes(b"alphabet 1\nP = \x1b[2J\0")
             self.bad(2, "    P = ?[2J?\n        ^", "run", file)  # no control signs on a terminal
+        with text_of("alphabet a, a\nP = b -> Q\n") as file:
+            for command in ("run", "explain", "step", "picture", "c"):
+                self.bad(2, "own.csp: 3 errors\n", command, file)
         self.bad(3, "there is no drawing without a name", "check", "")
         self.bad(3, "`` is not the name of an event", "run", PACKING, "")
         for slots in ("0", "-1", "257"):
