@@ -8,9 +8,9 @@ from pathlib import Path
 from places import EXAMPLES, ROOT
 
 
-def tried(*arguments):
+def tried(*arguments, stdout=subprocess.PIPE):
     command = [str(ROOT / "tools" / "try"), *map(str, arguments)]
-    found = subprocess.run(command, capture_output=True, text=True, check=False)
+    found = subprocess.run(command, stdout=stdout, stderr=subprocess.PIPE, text=True, check=False)
     return found.returncode, found.stdout, found.stderr
 
 
@@ -64,6 +64,13 @@ class Try(unittest.TestCase):
         for line in output.splitlines():
             self.assertRegex(line, r"^[a-z0-9_/]+ +[A-Z].*\.$")
         self.assertEqual(tried("--help")[0], 0)
+
+    def test_full_disk(self):
+        for option in ("--list", "--help"):
+            with open("/dev/full", "w") as full:
+                status, _, errors = tried(option, stdout=full)
+            said = "tools/try: standard output is not whole: No space left on device\n"
+            self.assertEqual((status, errors), (2, said))
 
     def test_wrong_use(self):
         self.assertEqual(tried("none")[0], 2)
