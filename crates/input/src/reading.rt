@@ -26,7 +26,7 @@ impl Part {
     }
 }
 
-// A read failed. Only `after_read` makes one: no other code can say so.
+// A read failed. Only `after_read` makes one.
 pub struct Failure {
     failed: bool,
 }
