@@ -14,7 +14,7 @@
  * same time.
  *
  * Stack. 42 KiB were measured on most tables, and 58 KiB where eight leaves of a residual move together and each has
- * several results (tools/stack). A start in wash hours (cspe_timed_feed) has an array of 32 KiB more: 75 and 91 KiB
+ * several results (tools/stack). A start in wash hours (cspe_timed_feed) has an array of 32 KiB more: 76 and 91 KiB
  * were measured. No proof bounds it; a thread with 128 KiB has room.
  *
  * What is returned. Each function but cspe_view returns the refusal's number, 0 where there is none (enum

@@ -14,8 +14,8 @@
 #include <string.h>
 
 #include "cspe_monitor.h"
-/* the tables, which `tools/cspe c` writes: table B; drawing K8 (prefix {0} to STOP, twice, side by side); and drawing K7
-   (prefix {0} to STOP, or prefix {0} to prefix {1} to STOP) */
+/* the tables, which `tools/cspe c` writes: table B; drawing K7 (prefix {0} to STOP, or prefix {0} to prefix {1} to
+   STOP); drawing K8 (prefix {0} to STOP, twice, side by side) */
 #include "k7.h"
 #include "k8.h"
 #include "table_b.h"

@@ -68,7 +68,8 @@ unfolding flatMap size sizes bodyOf bodyNumber termIn termOfDefs termAt prefixes
     areasMeasured workMeasured slotCount even choose chunks flatten fill
     every allZero ascendsFrom ascends verdictFits peakFits recordFits areaFits consistent through
     presentSlots nextSlots nextVerdict freshState stateAfter counted holding taking eventRefused takeEvent
-    endingOf feedOf measuring judging entrance agreeing entranceOn entering refusing freshMonitor openAccepted openOf drawn opening
+    endingOf feedOf measuring judging entrance agreeing entranceOn entering refusing freshMonitor openAccepted openOf
+    drawn opening
 marked = refl
 
 pub further : casesHold (cases ++ peakCases)
@@ -88,7 +89,8 @@ unfolding flatMap size sizes bodyOf bodyNumber termIn termOfDefs termAt prefixes
     areasMeasured workMeasured slotCount even choose chunks flatten fill
     every allZero ascendsFrom ascends verdictFits peakFits recordFits areaFits consistent through
     presentSlots nextSlots nextVerdict freshState stateAfter counted holding taking eventRefused takeEvent
-    endingOf feedOf measuring judging entrance agreeing entranceOn entering refusing freshMonitor openAccepted openOf drawn opening
+    endingOf feedOf measuring judging entrance agreeing entranceOn entering refusing freshMonitor openAccepted openOf
+    drawn opening
     standing callOn history recordIn fed afterCalls afterFirst
 further = refl
 
@@ -109,6 +111,7 @@ unfolding flatMap size sizes bodyOf bodyNumber termIn termOfDefs termAt prefixes
     areasMeasured workMeasured slotCount even choose chunks flatten fill
     every allZero ascendsFrom ascends verdictFits peakFits recordFits areaFits consistent through
     presentSlots nextSlots nextVerdict freshState stateAfter counted holding taking eventRefused takeEvent
-    endingOf feedOf measuring judging entrance agreeing entranceOn entering refusing freshMonitor openAccepted openOf drawn opening
+    endingOf feedOf measuring judging entrance agreeing entranceOn entering refusing freshMonitor openAccepted openOf
+    drawn opening
     bitOf bitsFrom wordBits wordFrom allBits offerBits offering offerOf partBy viewPart wordsIn viewOf deep
 outcomes-stand = (refl, refl, refl)

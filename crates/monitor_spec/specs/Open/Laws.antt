@@ -50,11 +50,11 @@ module _ (l a b es w : List ℕ) where
   pub open-shut : (n p : ℕ) (v : List ℕ) → entrance (lent a b w) l w ≡ shut n p v
       → openOf l a b es w ≡ refusing a b n p v
   unfolding openOf
-  open-shut n p v e = entering-shut (refusing a b) (λ t. openAccepted t a es w) _ n p v e
+  open-shut n p v e = entering-shut _ _ _ n p v e
 
   pub open-admits : (t : Table) → entrance (lent a b w) l w ≡ admits t → openOf l a b es w ≡ openAccepted t a es w
   unfolding openOf
-  open-admits t e = entering-admits (refusing a b) (λ t. openAccepted t a es w) _ t e
+  open-admits t e = entering-admits _ _ _ t e
 
   -- ---- the whole outcome
 
