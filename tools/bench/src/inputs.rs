@@ -66,7 +66,7 @@ mod tests {
     use super::*;
     use crate::monitor::*;
     use crate::naive::Naive;
-    use crate::plain::Plain;
+    use crate::plain::{Automaton, Once, Plain};
 
     fn fed(monitor: &dyn Monitor, input: &Input, events: &[&[u8]]) -> (Answer, Vec<u64>) {
         let mut areas = [vec![0; input.slots * SLOT], vec![0; input.slots * SLOT]];
@@ -90,7 +90,9 @@ mod tests {
                 Way::Cycle { lead, cycle } => {
                     let some = &cycle[..cycle.len().min(200)];
                     let plain = fed(&Plain, &input, &[lead, some]);
-                    assert!(plain == fed(&Naive, &input, &[lead, some]), "{}", input.name);
+                    for other in [&Naive as &dyn Monitor, &Once, &Automaton] {
+                        assert!(plain == fed(other, &input, &[lead, some]), "{}", input.name);
+                    }
                     let (before, held) = fed(&Plain, &input, &[lead, cycle]);
                     let (after, again) = fed(&Plain, &input, &[lead, cycle, cycle]);
                     let half = held.len() / 2;
@@ -103,7 +105,9 @@ mod tests {
                 }
                 Way::Fresh(events) => {
                     let plain = fed(&Plain, &input, &[events]);
-                    assert!(plain == fed(&Naive, &input, &[events]), "{}", input.name);
+                    for other in [&Naive as &dyn Monitor, &Once, &Automaton] {
+                        assert!(plain == fed(other, &input, &[events]), "{}", input.name);
+                    }
                 }
             }
         }

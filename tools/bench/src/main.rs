@@ -2,13 +2,13 @@
 
 use bench::monitor::Monitor;
 use bench::naive::Naive;
-use bench::plain::Plain;
+use bench::plain::{Automaton, Once, Plain};
 use bench::proved::Proved;
 use std::process::ExitCode;
 
 fn main() -> ExitCode {
     let args: Vec<String> = std::env::args().skip(1).collect();
-    let monitors: [&dyn Monitor; 3] = [&Plain, &Proved, &Naive];
+    let monitors: [&dyn Monitor; 5] = [&Plain, &Proved, &Once, &Automaton, &Naive];
     match bench::report::run(&monitors, &args) {
         Ok(()) => ExitCode::SUCCESS,
         Err(error) => {

@@ -7,7 +7,11 @@
 //     state       refusal 10
 //     slots       slots in an area, ascending
 //     step        from one set of residuals to the next
+// Two more are plain but for how they go through a call's events:
+//     Once        settles each follower once in a call
+//     automaton   looks up what becomes of a set of residuals that was met in the call
 
+mod automaton;
 mod index;
 mod judge;
 mod parse;
@@ -20,6 +24,9 @@ use index::Index;
 use slots::Slots;
 use step::{resolve, Scratch, Step};
 
+// How the events of a call are gone through: of an index, from a record and its areas.
+type Run = fn(Index, Record, &mut [u64], &mut [u64], &[u8]) -> Answer;
+
 pub struct Plain;
 
 impl Monitor for Plain {
@@ -28,11 +35,43 @@ impl Monitor for Plain {
     }
 
     fn open(&self, list: &[u16], lent: Lent, events: &[u8]) -> Answer {
-        open(list, lent, events)
+        open(list, lent, events, fed)
     }
 
     fn feed(&self, list: &[u16], record: Record, lent: Lent, events: &[u8]) -> Answer {
-        feed(list, record, lent, events)
+        feed(list, record, lent, events, fed)
+    }
+}
+
+pub struct Once;
+
+impl Monitor for Once {
+    fn name(&self) -> &str {
+        "once"
+    }
+
+    fn open(&self, list: &[u16], lent: Lent, events: &[u8]) -> Answer {
+        open(list, lent, events, fed_once)
+    }
+
+    fn feed(&self, list: &[u16], record: Record, lent: Lent, events: &[u8]) -> Answer {
+        feed(list, record, lent, events, fed_once)
+    }
+}
+
+pub struct Automaton;
+
+impl Monitor for Automaton {
+    fn name(&self) -> &str {
+        "automaton"
+    }
+
+    fn open(&self, list: &[u16], lent: Lent, events: &[u8]) -> Answer {
+        open(list, lent, events, automaton::fed)
+    }
+
+    fn feed(&self, list: &[u16], record: Record, lent: Lent, events: &[u8]) -> Answer {
+        feed(list, record, lent, events, automaton::fed)
     }
 }
 
@@ -46,7 +85,7 @@ fn measured(a: usize, b: usize, work: &mut [u64]) -> Option<&mut [u64; WORK]> {
     work.try_into().ok().filter(|_| fits)
 }
 
-pub fn open(list: &[u16], Lent { area0, area1, work }: Lent, events: &[u8]) -> Answer {
+fn open(list: &[u16], Lent { area0, area1, work }: Lent, events: &[u8], run: Run) -> Answer {
     let Some(work) = measured(area0.len(), area1.len(), work) else {
         return Answer::Refused(refusal(1, 0));
     };
@@ -55,7 +94,7 @@ pub fn open(list: &[u16], Lent { area0, area1, work }: Lent, events: &[u8]) -> A
         Ok(()) => {
             let index = Index::of(work);
             match settled(index, area0, area1) {
-                Some(record) => fed(index, record, area0, area1, events),
+                Some(record) => run(index, record, area0, area1, events),
                 None => Answer::Refused(refusal(13, 0)),
             }
         }
@@ -82,7 +121,7 @@ fn settled(index: Index, area0: &mut [u64], area1: &mut [u64]) -> Option<Record>
     Some(Record { taken: 0, count, peak: count, failed: (count == 0).then_some(0) })
 }
 
-pub fn feed(list: &[u16], record: Record, lent: Lent, events: &[u8]) -> Answer {
+fn feed(list: &[u16], record: Record, lent: Lent, events: &[u8], run: Run) -> Answer {
     let Lent { area0, area1, work } = lent;
     let Some(work) = measured(area0.len(), area1.len(), work) else {
         return Answer::Refused(refusal(1, 0));
@@ -92,7 +131,7 @@ pub fn feed(list: &[u16], record: Record, lent: Lent, events: &[u8]) -> Answer {
         Ok(()) => {
             let index = Index::of(work);
             if state::agrees(index, record, area0, area1) {
-                fed(index, record, area0, area1, events)
+                run(index, record, area0, area1, events)
             } else {
                 Answer::Refused(refusal(10, 0))
             }
@@ -102,16 +141,38 @@ pub fn feed(list: &[u16], record: Record, lent: Lent, events: &[u8]) -> Answer {
     answer
 }
 
-// Event by event: 11, 12, 13.
+// Event by event.
 fn fed(
+    index: Index,
+    record: Record,
+    area0: &mut [u64],
+    area1: &mut [u64],
+    events: &[u8],
+) -> Answer {
+    fed_with(index, record, area0, area1, events, &mut Scratch::new())
+}
+
+// The same, with the results of followers kept from event to event.
+fn fed_once(
+    index: Index,
+    record: Record,
+    area0: &mut [u64],
+    area1: &mut [u64],
+    events: &[u8],
+) -> Answer {
+    fed_with(index, record, area0, area1, events, &mut Scratch::keeping())
+}
+
+// 11, 12, 13.
+fn fed_with(
     index: Index,
     mut record: Record,
     area0: &mut [u64],
     area1: &mut [u64],
     events: &[u8],
+    scratch: &mut Scratch,
 ) -> Answer {
     let alphabet = index.alphabet();
-    let mut scratch = Scratch::new();
     let (mut present, mut other) =
         if record.taken % 2 == 0 { (area0, area1) } else { (area1, area0) };
     for (place, &event) in events.iter().enumerate() {
@@ -123,23 +184,29 @@ fn fed(
         }
         let used = record.count as usize * SLOT;
         let slots = Slots::of(other);
-        let mut step = Step { index, event: event as u64, slots, scratch: &mut scratch };
+        let mut step = Step { index, event: event as u64, slots, scratch };
         let fits = step.all(&present[..used]);
         let count = step.slots.count;
         if !fits {
             clear(other, count);
             return Answer::Stopped(refusal(13, place), record);
         }
-        record.taken += 1;
-        record.count = count as u64;
-        record.peak = record.peak.max(record.count);
-        if record.count == 0 && record.failed.is_none() {
-            record.failed = Some(record.taken);
-        }
+        record = after(record, count as u64);
         clear(present, used / SLOT);
         std::mem::swap(&mut present, &mut other);
     }
     Answer::Given(record)
+}
+
+// The record after an event, with so many residuals.
+fn after(mut record: Record, count: u64) -> Record {
+    record.taken += 1;
+    record.count = count;
+    record.peak = record.peak.max(count);
+    if count == 0 && record.failed.is_none() {
+        record.failed = Some(record.taken);
+    }
+    record
 }
 
 // Zeroes so many slots.

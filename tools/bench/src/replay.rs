@@ -122,15 +122,17 @@ impl Replay<'_> {
 #[cfg(test)]
 mod tests {
     use super::*;
-    use crate::plain::Plain;
+    use crate::plain::{Automaton, Once, Plain};
     use reference::monitor::histories;
 
     #[test]
     fn plain_answers_as_the_reference() {
         for seed in 1..4 {
             let text = histories::file(seed, 4_000).expect("known answers");
-            let calls = replay(&Plain, &text).unwrap_or_else(|wrong| panic!("{wrong}"));
-            assert!(calls > 10_000, "{calls}");
+            for monitor in [&Plain as &dyn Monitor, &Once, &Automaton] {
+                let calls = replay(monitor, &text).unwrap_or_else(|wrong| panic!("{wrong}"));
+                assert!(calls > 10_000, "{calls}");
+            }
         }
     }
 }

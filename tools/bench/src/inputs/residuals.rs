@@ -20,6 +20,13 @@ pub fn inputs() -> Vec<Input> {
             vec![0, 0, 0, 0],
         ),
         cycle(
+            "ever different",
+            "four lanes that remember, over {}; about ninety residuals, four leaves each, in ever other sets",
+            marked_lanes(),
+            vec![],
+            ever_different(),
+        ),
+        cycle(
             "remembered",
             "A = 64; each event one of a row by an event up to four back; one residual, one leaf",
             remembered(MARKS),
@@ -67,6 +74,59 @@ fn phases() -> Vec<u16> {
     }
     definitions.push(definition(0, balanced(starts)));
     Table { alphabet: 1, sets, definitions }.list()
+}
+
+const LANES: u16 = 4;
+// The events of one step of a lane.
+const STEP: u16 = 16;
+
+// Four times x of the first 16 events -> one of the next 16 -> 32 and x -> and again.
+fn marked_lanes() -> Vec<u16> {
+    let again = |v: u16| if v < STEP { vec![2 * STEP + v] } else { vec![] };
+    let sets = vec![
+        Set::Plain((0..STEP).collect()),
+        Set::Plain((STEP..2 * STEP).collect()),
+        Set::Rows((0..3 * STEP).map(again).collect()),
+        Set::Plain(vec![]),
+    ];
+    let lane = prefix(plain(0), prefix(plain(1), prefix(by(2, 1), Term::Call(0))));
+    let lanes = beside(plain(3), (0..LANES).map(|_| Term::Call(0)).collect());
+    Table { alphabet: 3 * STEP, sets, definitions: vec![definition(0, lane), definition(1, lanes)] }
+        .list()
+}
+
+// Two lanes wait for their second step and one for its last; then six times a second step, a last
+// and a first one: which lane took which event is open, and up to 192 residuals say so. Then all
+// lanes come back to where they began.
+fn ever_different() -> Vec<u8> {
+    let mut random = Random::new(5);
+    let mut events = Vec::new();
+    let steps = [&[0, 0, 0, 1][..], &[1, 2, 0].repeat(6), &[1, 1, 2, 2, 2]].concat();
+    for _ in 0..100 {
+        // the first events of lanes after their first step, and after their second
+        let (mut first, mut second): (Vec<u8>, Vec<u8>) = (Vec::new(), Vec::new());
+        for &step in &steps {
+            let mark = loop {
+                let mark = random.below(STEP.into()) as u8;
+                if step > 0 || !first.contains(&mark) && !second.contains(&mark) {
+                    break mark;
+                }
+            };
+            let mark = match step {
+                0 => {
+                    first.push(mark);
+                    mark
+                }
+                1 => {
+                    second.extend(first.pop());
+                    mark
+                }
+                _ => second.pop().expect("a lane after its second step"),
+            };
+            events.push(step * STEP as u8 + mark);
+        }
+    }
+    events
 }
 
 // A choice of these, nested as little as can be.

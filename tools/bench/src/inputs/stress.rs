@@ -28,6 +28,13 @@ pub fn inputs() -> Vec<Input> {
             vec![],
             vec![0, 0],
         ),
+        cycle(
+            "stress: equal openings",
+            "the same, through eight definitions, each twice the one before",
+            doubled(),
+            vec![],
+            vec![0, 0],
+        ),
     ];
     inputs.extend(fresh());
     inputs
@@ -87,6 +94,16 @@ fn fresh() -> [Input; 6] {
             &[0],
         ),
     ]
+}
+
+// def 0 = {0} -> call 8, def i = call i - 1 choice call i - 1, def 9 (level 1) = eight times call 0
+// over {0}
+fn doubled() -> Vec<u16> {
+    let mut table = "0A 00 02 00 05 08".to_string();
+    for i in 0..8 {
+        table += &format!(" 00 {}", chosen(2, &format!("05 {i:02X}")));
+    }
+    list_of(&[&format!("{ONE_SET} {table} 01 {}", beside(8, "05 00"))])
 }
 
 // def 0 = 200 STOPs; defs 1 to 5 = 30 nested FAIL choice, then the one before; def 6 = a hundred

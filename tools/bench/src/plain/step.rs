@@ -3,11 +3,14 @@
 // results are the product of the moving leaves' results, which are without repeats.
 //     Step        the step of a set
 //     Tree        one residual before an event: which of its nodes' trees take it
-//     Scratch     words for one residual at a time, kept over the events of a call
+//     Scratch     words for one residual at a time, kept over the events of a call; where it keeps
+//                 results, they are those of each follower and memory, settled once
 
 use super::index::*;
 use super::slots::Slots;
 use crate::monitor::SLOT;
+use std::collections::HashMap;
+use std::hash::{BuildHasherDefault, Hasher};
 
 // The nodes of term n's i-th residual, at a place of a slot; the place after them.
 pub fn resolve(
@@ -41,11 +44,31 @@ pub fn resolve(
 }
 
 // Results of a residual's leaves whose followers have several branches: leaf by leaf, 512 words
-// for each of its reach, which sum to 8. A result is the number of its nodes, and these.
+// for each of its reach, which sum to 8. A result is the number of its nodes, and these. Where
+// results are kept they stand in `arena` one after the other, and are all dropped where it has many.
 pub struct Scratch {
-    arena: [u64; 4_096],
+    arena: Arena,
+    kept: HashMap<(usize, u64), Leaf, BuildHasherDefault<Mixer>>,
+    used: usize,
     leaves: [Leaf; SLOT],
     out: [u64; SLOT],
+}
+
+enum Arena {
+    One([u64; 4_096]),
+    Many(Vec<u64>),
+}
+
+// Where kept results are dropped.
+const MANY: usize = 1 << 20;
+
+impl Arena {
+    fn words(&mut self) -> &mut [u64] {
+        match self {
+            Arena::One(words) => words,
+            Arena::Many(words) => words,
+        }
+    }
 }
 
 // Where a leaf's results stand, how many words each takes, and how many there are.
@@ -58,8 +81,59 @@ struct Leaf {
 
 impl Scratch {
     pub fn new() -> Self {
-        let leaf = Leaf { start: 0, width: 0, count: 0 };
-        Scratch { arena: [0; 4_096], leaves: [leaf; SLOT], out: [0; SLOT] }
+        Scratch::of(Arena::One([0; 4_096]))
+    }
+
+    pub fn keeping() -> Self {
+        Scratch::of(Arena::Many(vec![0; 4_096]))
+    }
+
+    fn of(arena: Arena) -> Self {
+        let leaves = [Leaf { start: 0, width: 0, count: 0 }; SLOT];
+        Scratch { arena, kept: HashMap::default(), used: 0, leaves, out: [0; SLOT] }
+    }
+
+    fn keeps(&self) -> bool {
+        matches!(self.arena, Arena::Many(_))
+    }
+
+    // Room for what one residual's leaves may come to.
+    fn make_room(&mut self) {
+        if let Arena::Many(words) = &mut self.arena {
+            if self.used > MANY {
+                self.used = 0;
+                self.kept.clear();
+            }
+            if words.len() < self.used + 4_096 {
+                words.resize(2 * words.len() + 4_096, 0);
+            }
+        }
+    }
+}
+
+// A hash of words, of few instructions.
+#[derive(Default)]
+pub struct Mixer(u64);
+
+impl Hasher for Mixer {
+    fn write(&mut self, bytes: &[u8]) {
+        for word in bytes.chunks(8) {
+            let mut padded = [0; 8];
+            padded[..word.len()].copy_from_slice(word);
+            self.write_u64(u64::from_ne_bytes(padded));
+        }
+    }
+
+    fn write_u64(&mut self, word: u64) {
+        self.0 = (self.0.rotate_left(5) ^ word).wrapping_mul(0x517c_c1b7_2722_0a95);
+    }
+
+    fn write_usize(&mut self, word: usize) {
+        self.write_u64(word as u64);
+    }
+
+    fn finish(&self) -> u64 {
+        self.0 ^ self.0 >> 32
     }
 }
 
@@ -151,7 +225,13 @@ impl Step<'_, '_> {
             return true;
         }
         let (follower, memory) = self.follower(word);
-        (0..self.index.branches(follower)).all(|i| {
+        let branches = self.index.branches(follower);
+        if branches > 1 && self.scratch.keeps() {
+            self.scratch.make_room();
+            let leaf = self.once(follower, memory);
+            return self.each_alone(leaf);
+        }
+        (0..branches).all(|i| {
             let out = &mut self.scratch.out;
             out[0] = resolve(self.index, follower, memory, i, out, 1) as u64 - 1;
             self.slots.insert(out)
@@ -164,10 +244,15 @@ impl Step<'_, '_> {
     }
 
     fn resolve_leaves(&mut self, tree: &Tree) {
+        self.scratch.make_room();
         let mut start = 0;
         for k in 1..=tree.len() {
             if tree.several >> k & 1 == 1 {
                 let (follower, memory) = self.follower(tree.nodes[k]);
+                if self.scratch.keeps() {
+                    self.scratch.leaves[k] = self.once(follower, memory);
+                    continue;
+                }
                 let width = 2 * self.index.reach(follower) as usize;
                 let count = self.distinct(follower, memory, start, width);
                 self.scratch.leaves[k] = Leaf { start, width, count };
@@ -176,9 +261,34 @@ impl Step<'_, '_> {
         }
     }
 
+    // A follower's results, settled where they are not kept yet.
+    fn once(&mut self, follower: usize, memory: u64) -> Leaf {
+        if let Some(leaf) = self.scratch.kept.get(&(follower, memory)) {
+            return *leaf;
+        }
+        let start = self.scratch.used;
+        let width = 2 * self.index.reach(follower) as usize;
+        let count = self.distinct(follower, memory, start, width);
+        let leaf = Leaf { start, width, count };
+        self.scratch.used += count * width;
+        self.scratch.kept.insert((follower, memory), leaf);
+        leaf
+    }
+
+    // Each result of a residual's only leaf.
+    fn each_alone(&mut self, leaf: Leaf) -> bool {
+        let Leaf { start, width, count } = leaf;
+        (0..count).all(|j| {
+            let result = &self.scratch.arena.words()[start + j * width..][..width];
+            let nodes = result[0] as usize;
+            self.scratch.out[..=nodes].copy_from_slice(&result[..=nodes]);
+            self.slots.insert(&self.scratch.out)
+        })
+    }
+
     // A follower's results without repeats; their number.
     fn distinct(&mut self, follower: usize, memory: u64, start: usize, width: usize) -> usize {
-        let kept = &mut self.scratch.arena[start..];
+        let kept = &mut self.scratch.arena.words()[start..];
         let mut count = 0;
         for i in 0..self.index.branches(follower) {
             let (before, at) = kept.split_at_mut(count * width);
@@ -237,7 +347,7 @@ impl Step<'_, '_> {
     fn each(&mut self, tree: &Tree, k: usize, modes: u64, at: usize) -> bool {
         let Leaf { start, width, count } = self.scratch.leaves[k];
         (0..count).all(|j| {
-            let result = &self.scratch.arena[start + j * width..][..width];
+            let result = &self.scratch.arena.words()[start + j * width..][..width];
             let nodes = result[0] as usize;
             self.scratch.out[at..at + nodes].copy_from_slice(&result[1..=nodes]);
             self.results(tree, k + 1, modes, at + nodes)
