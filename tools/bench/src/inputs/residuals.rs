@@ -91,8 +91,12 @@ fn marked_lanes() -> Vec<u16> {
     ];
     let lane = prefix(plain(0), prefix(plain(1), prefix(by(2, 1), Term::Call(0))));
     let lanes = beside(plain(3), (0..LANES).map(|_| Term::Call(0)).collect());
-    Table { alphabet: 3 * STEP, sets, definitions: vec![definition(0, lane), definition(1, lanes)] }
-        .list()
+    Table {
+        alphabet: 3 * STEP,
+        sets,
+        definitions: vec![definition(0, lane), definition(1, lanes)],
+    }
+    .list()
 }
 
 // Two lanes wait for their second step and one for its last; then six times a second step, a last

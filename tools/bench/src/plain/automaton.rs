@@ -43,12 +43,8 @@ pub fn fed(
 ) -> Answer {
     let alphabet = index.alphabet() as usize;
     let mut scratch = Scratch::keeping();
-    let mut sets = Sets {
-        alphabet,
-        numbers: HashMap::default(),
-        words: Vec::new(),
-        next: Vec::new(),
-    };
+    let mut sets =
+        Sets { alphabet, numbers: HashMap::default(), words: Vec::new(), next: Vec::new() };
     // the record whose set the areas hold
     let mut laid = record;
     let mut at = sets.number(present(record, area0, area1).0.held(record));
