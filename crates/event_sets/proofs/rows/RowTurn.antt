@@ -50,7 +50,6 @@ module _ (l : List ℕ) (A at : ℕ) where
     pub low-bits : low ≡ firstWord (maskOf events)
     pub high-bits : high ≡ secondWord (maskOf events)
     pub under : maskOf events < 2 ^ least
-    pub least-few : least ≤ A
     pub few : j ≤ count
     pub within : p ≤ length l
 
@@ -77,7 +76,6 @@ module _ (l : List ℕ) (A at : ℕ) where
         low-bits = refl;
         high-bits = refl;
         under = omega arith;
-        least-few = omega arith;
         few = omega arith;
         within = omega arith;
       }
@@ -152,7 +150,6 @@ module _ {l : List ℕ} {A at count low high least j p : ℕ} (h : Head l A at c
         low-bits = more-first e m g o ∙ ap firstWord (sym (mask-snoc (h .events) e));
         high-bits = more-second e n s o ∙ ap secondWord (sym (mask-snoc (h .events) e));
         under = rw (mask-snoc (h .events) e) (mask-under (maskOf (h .events)) least e (h .under) o);
-        least-few = omega arith;
         few = omega arith;
         within = omega arith;
       }
