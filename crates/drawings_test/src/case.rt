@@ -4,7 +4,7 @@
 use crate::slots::slots_right;
 use crate::trial::Kept;
 use crate::trial::Stored;
-use crate::trial::Told;
+use crate::trial::StoredLine;
 use crate::trial::line_right;
 use cases::Outcome;
 use cases::after;
@@ -107,8 +107,8 @@ fn answer_count(l: Lent) -> usize {
     if l.slots == 256 { 10 } else { 3 }
 }
 
-fn line_of(answer: &[u64; 10]) -> Told {
-    Told {
+fn line_of(answer: &[u64; 10]) -> StoredLine {
+    StoredLine {
         kind: answer[0],
         a: answer[1],
         b: answer[2],
@@ -118,7 +118,7 @@ fn line_of(answer: &[u64; 10]) -> Told {
 fn answer_of(answer: &[u64; 10]) -> Stored {
     Stored {
         whole: line_of(answer),
-        pieces: Told {
+        pieces: StoredLine {
             kind: answer[3],
             a: answer[4],
             b: answer[5],

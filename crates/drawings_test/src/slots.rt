@@ -1,6 +1,6 @@
 // An input with fewer slots than the program has: by Read and Open themselves.
 //     slots_right      held to its stored line
-use crate::trial::Told;
+use crate::trial::StoredLine;
 use crate::trial::same;
 use crate::trial::same_refusal;
 use cases::fill_numbers;
@@ -15,7 +15,7 @@ fn answer_right(
     area1: &mut [u64],
     events: &[u8],
     work: &mut [u64],
-    s: Told,
+    s: StoredLine,
 ) -> bool {
     match monitor::open(list, area0, area1, events, work) {
         Answer::Given(last) => same(line::conclude(last), s),
@@ -30,7 +30,7 @@ fn read_right(
     area0: &mut [u64],
     area1: &mut [u64],
     work: &mut [u64],
-    s: Told,
+    s: StoredLine,
 ) -> bool {
     let mut list = [0u16; 16384];
     fill_numbers(&mut list);
@@ -51,7 +51,7 @@ fn parts_right(
     area0: &mut [u64],
     area1: &mut [u64],
     work: &mut [u64],
-    s: Told,
+    s: StoredLine,
 ) -> bool {
     fill_words(area0);
     fill_words(area1);
@@ -65,7 +65,7 @@ fn parts_right(
 }
 
 // With areas of so many slots, at most 256.
-pub fn slots_right(input: &[u8], slots: usize, s: Told) -> bool {
+pub fn slots_right(input: &[u8], slots: usize, s: StoredLine) -> bool {
     if 256 < slots {
         return false;
     }

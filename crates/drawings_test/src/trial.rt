@@ -16,7 +16,7 @@ ghost use Prim.Native.Nat.{_≤_, _<_};
 ghost use lib.ListN.{length};
 
 // A stored line: 0 for running, 1 for failed, 2 for refused, and its two numbers.
-pub struct Told {
+pub struct StoredLine {
     pub kind: u64,
     pub a: u64,
     pub b: u64,
@@ -32,12 +32,12 @@ pub struct Kept {
 
 // The line at once and in pieces, and what `open` keeps.
 pub struct Stored {
-    pub whole: Told,
-    pub pieces: Told,
+    pub whole: StoredLine,
+    pub pieces: StoredLine,
     pub kept: Kept,
 }
 
-fn is_stored(kind: u64, a: u64, b: u64, s: Told) -> bool {
+fn is_stored(kind: u64, a: u64, b: u64, s: StoredLine) -> bool {
     if kind != s.kind {
         return false;
     }
@@ -47,7 +47,7 @@ fn is_stored(kind: u64, a: u64, b: u64, s: Told) -> bool {
     b == s.b
 }
 
-pub fn same(line: Line, s: Told) -> bool {
+pub fn same(line: Line, s: StoredLine) -> bool {
     match line {
         Line::Running(taken, count) => is_stored(0, taken, count, s),
         Line::Failed(place, taken) => is_stored(1, place, taken, s),
@@ -55,7 +55,7 @@ pub fn same(line: Line, s: Told) -> bool {
     }
 }
 
-pub fn same_refusal(r: Refusal, s: Told) -> bool {
+pub fn same_refusal(r: Refusal, s: StoredLine) -> bool {
     is_stored(2, r.number as u64, r.place as u64, s)
 }
 
@@ -144,7 +144,7 @@ fn whole_right(
     area0: &mut [u64],
     area1: &mut [u64],
     work: &mut [u64],
-    s: Told,
+    s: StoredLine,
 ) -> bool {
     fill(list, area0, area1, work);
     same(line::line(input, list, area0, area1, work), s)
@@ -158,7 +158,7 @@ fn open_right(
     area0: &mut [u64],
     area1: &mut [u64],
     work: &mut [u64],
-    s: Told,
+    s: StoredLine,
 ) -> bool {
     let n = front_end(input.len());
     match line::open(&input[..n], list, area0, area1, work) {
@@ -186,7 +186,7 @@ fn pieces_right(
     area0: &mut [u64],
     area1: &mut [u64],
     work: &mut [u64],
-    s: Told,
+    s: StoredLine,
 ) -> bool {
     fill(list, area0, area1, work);
     open_right(input, piece, list, area0, area1, work, s)

@@ -1,2 +1,2 @@
 -- What the program's functions promise. Assumes nothing.
-pub mod Told
+pub mod Report

@@ -8,7 +8,7 @@ mod pieces;
 mod print;
 
 use input::Filled;
-use pieces::Told;
+use pieces::Report;
 
 fn main() {
     let mut front = [0u8; 16387];
@@ -17,7 +17,7 @@ fn main() {
         return;
     };
     match pieces::run(&front, part) {
-        Told::Line(line) => print::say(line),
-        Told::Broken => input::fail(),
+        Report::Line(line) => print::say(line),
+        Report::Broken => input::fail(),
     }
 }

@@ -1,7 +1,7 @@
 // An input: its front, and then pieces as they are read.
-//     Told     what is said of it
-//     run      its front, then all the rest
-// `specs/Told.antt` has what each function promises.
+//     Report     what is said of it
+//     run        its front, then all the rest
+// `specs/Report.antt` has what each function promises.
 ghost use Prim.Native.Nat.{_≤_, _<_};
 ghost use mathlib.Core.Path.{_≡_};
 ghost use mathlib.Core.Bool.{false};
@@ -13,7 +13,7 @@ ghost use Rattle.line.specs.Answers.{resumeSaid};
 ghost use Rattle.line.specs.declared.answer.Course.the-variants.{Going};
 ghost use Rattle.line_spec.specs.Judged.{pieceEnd};
 ghost use Rattle.input.specs.Reading.{Parts};
-ghost use Rattle.line_monitor.specs.Told.{Says, Followed, FrontFed};
+ghost use Rattle.line_monitor.specs.Report.{Says, Followed, FrontFed};
 use format::Line;
 use input::Filled;
 use input::Part;
@@ -22,7 +22,7 @@ use line::Opened;
 use state::State;
 
 // The line of an input, or that it could not be read. A monitor that goes on is neither.
-pub enum Told {
+pub enum Report {
     Line(Line),
     Broken,
 }
@@ -58,7 +58,7 @@ fn follow(
     area1: &mut [u64],
     piece: &mut [u8],
     work: &mut [u64],
-) -> Told
+) -> Report
     requires { ⌜ 0 < length (now piece) ⌝ }
     ensures { λ r.
         ⌜ Followed (length (now (piece .entry)))
@@ -68,11 +68,11 @@ fn follow(
     let mut last = state;
     loop {
         let Filled::Bytes(part) = input::fill(piece) else {
-            return Told::Broken;
+            return Report::Broken;
         };
         match turn(list, last, area0, area1, piece, part, work) {
             Course::Going(next) => last = next,
-            Course::Over(line) => return Told::Line(line),
+            Course::Over(line) => return Report::Line(line),
         }
     }
 }
@@ -86,7 +86,7 @@ fn feed_front(
     events: &[u8],
     last: bool,
     work: &mut [u64],
-) -> Told
+) -> Report
     ensures { λ r.
         ⌜ FrontFed last (resumeOf (now (list .entry))
         (monitorOf state (now (area0 .entry)) (now (area1 .entry)))
@@ -97,7 +97,7 @@ fn feed_front(
             let mut piece = io::large_buffer();
             follow(list, next, area0, area1, &mut piece, work)
         }
-        Course::Over(line) => Told::Line(line),
+        Course::Over(line) => Report::Line(line),
     }
 }
 
@@ -109,7 +109,7 @@ fn open_front(
     area0: &mut [u64],
     area1: &mut [u64],
     work: &mut [u64],
-) -> Told
+) -> Report
     requires { ⌜ Lengths (now list) (now area0) (now area1) (now work) ⌝ }
     requires { ⌜ (last ≡ false → 16387 ≤ length (now front)) ⌝ }
     ensures { λ r. ⌜ Says last (now (front .entry)) r ⌝ }
@@ -124,12 +124,12 @@ fn open_front(
             last,
             work,
         ),
-        Opened::Refused(refusal) => Told::Line(format::refused(refusal)),
+        Opened::Refused(refusal) => Report::Line(format::refused(refusal)),
     }
 }
 
 // What is said of an input whose front was filled so.
-pub fn run(front: &[u8], part: Part) -> Told
+pub fn run(front: &[u8], part: Part) -> Report
     requires { ⌜ (length (now front) ≡ 16387) × Parts (length (now front)) part ⌝ }
     ensures { λ r. ⌜ Says (part .last) (take (part .count) (now (front .entry))) r ⌝ }
 {

@@ -1,9 +1,9 @@
 -- What the office's program tells of a lot book, and the text that it then prints (ours; 02, W2 has the sheet).
---     TellOutcome, said    what is told, with the text's bytes
---     tellOf               of the bytes that were read, and whether they are all of the book
---     Fits                 a sheet's bytes stand in the text
---     ReadInto             a book and the buffer that it was read into
---     ToldWay              what is told of a book, by what it is
+--     TellOutcome, tellSaid    what is told, with the text's bytes
+--     tellOf                   of the bytes that were read, and whether they are all of the book
+--     Fits                     a sheet's bytes stand in the text
+--     ReadInto                 a book and the buffer that it was read into
+--     ToldWay                  what is told of a book, by what it is
 -- The laws are in `Told/Laws.antt`. Assumes nothing.
 use Prim.Native.Nat.{ℕ, _≤_, _<_}
 use mathlib.Core.Path.{_≡_}
@@ -24,8 +24,8 @@ pub record TellOutcome : Type 0 where
   pub told : Told
   pub text : List ℕ
 
-abbrev pub said : Told → List ℕ → TellOutcome
-said x text = record { told = x; text = text }
+abbrev pub tellSaid : Told → List ℕ → TellOutcome
+tellSaid x text = record { told = x; text = text }
 
 -- "14 bad book, placed at the record's index"; else "15 total over 2^64-1" (1 is not met: claim ToldExactly)
 unfoldable pub refusedAs : ℕ → ℕ → Told
@@ -33,13 +33,13 @@ refusedAs n at = cond (eqb n 14) (BadRecord at) TotalOver
 
 -- "the byte count given", or the refusal
 unfoldable pub tellBook : Outcome → TellOutcome
-tellBook (given n text) = said (Sheet n) text
-tellBook (refused n at text) = said (refusedAs n at) text
+tellBook (given n text) = tellSaid (Sheet n) text
+tellBook (refused n at text) = tellSaid (refusedAs n at) text
 
 -- the whole book, or bytes that fill the buffer and so are more than a book may have
 unfoldable pub tellOf : Bool → List ℕ → List ℕ → TellOutcome
 tellOf true book text = tellBook (sheetOf book text)
-tellOf false bytes text = said TooLong text
+tellOf false bytes text = tellSaid TooLong text
 
 -- the promise that `say` asks for
 abbrev pub Fits : Told → List ℕ → Type 0

@@ -6,7 +6,7 @@ ghost use mathlib.Core.Path.{_≡_};
 ghost use mathlib.Core.Bool.{true};
 ghost use lib.ListN.{length, take};
 ghost use Rattle.input.specs.Reading.{Parts};
-ghost use Rattle.lot_sheet.specs.Told.{said, refusedAs, tellOf};
+ghost use Rattle.lot_sheet.specs.Told.{tellSaid, refusedAs, tellOf};
 use input::Part;
 use sheet::Sheet;
 use table::Refusal;
@@ -33,7 +33,7 @@ fn refused(refusal: Refusal) -> Told
 // A whole book.
 fn tell_book(book: &[u8], text: &mut [u8]) -> Told
     ensures { λ r.
-        ⌜ said r (now (text .exit)) ≡ tellOf true (now (book .entry)) (now (text .entry)) ⌝ }
+        ⌜ tellSaid r (now (text .exit)) ≡ tellOf true (now (book .entry)) (now (text .entry)) ⌝ }
 {
     match sheet::sheet(book, text) {
         Sheet::Given(n) => Told::Sheet(n),
@@ -46,7 +46,7 @@ pub fn tell(book: &[u8], part: Part, text: &mut [u8]) -> Told
     requires { ⌜ (length (now book) ≡ 65537) × Parts (length (now book)) part ⌝ }
     requires { ⌜ length (now text) ≡ 802865 ⌝ }
     ensures { λ r.
-        ⌜ said r (now (text .exit))
+        ⌜ tellSaid r (now (text .exit))
         ≡ tellOf (part .last) (take (part .count) (now (book .entry))) (now (text .entry)) ⌝ }
 {
     if part.last() {

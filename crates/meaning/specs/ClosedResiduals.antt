@@ -1,8 +1,8 @@
 -- Residuals of closed terms (01, "Residuals", with the events put in for the memory; ours).
---     pairs                       a parallel over every pair
---     resolveWith, resolveCall    a term resolved, where a call resolves as given; a body, through so many calls
---     resolve, afterEvent         a term of a table resolved; what is left of a resolved term after an event
---     run, residuals              after a list of events, from a list of residuals and from a term
+--     pairs                        a parallel over every pair
+--     resolveWith, resolveCall     a term resolved, where a call resolves as given; a body, through so many calls
+--     resolveClosed, afterEvent    a term of a table resolved; what is left of a resolved term after an event
+--     run, residuals               after a list of events, from a list of residuals and from a term
 -- A residual may be listed twice. The laws are in `ClosedResiduals/Resolved.antt` and `ClosedResidualsHold.antt`.
 -- Assumes nothing.
 use Prim.Native.Nat.{ℕ, zero, suc}
@@ -30,15 +30,15 @@ resolveCall t zero d = []
 resolveCall t (suc n) d = resolveWith (resolveCall t n) (body t d)
 
 -- "call the settled body"
-unfoldable pub resolve : Table → Term → List Term
-resolve t P = resolveWith (resolveCall t (bodyCount t)) P
+unfoldable pub resolveClosed : Table → Term → List Term
+resolveClosed t P = resolveWith (resolveCall t (bodyCount t)) P
 
 -- "After e: STOP gives nothing; a prefix whose set holds e settles its follower ..., otherwise nothing. A pair whose
 -- set holds e gives every pair of the sides' results, otherwise one side's results with the other side kept."
 unfoldable pub afterEvent : Table → ℕ → Term → List Term
 afterEvent t e stop = []
 afterEvent t e fail = []
-afterEvent t e (prefix S P) = cond (member t S e) (resolve t (sub 0 e P)) []
+afterEvent t e (prefix S P) = cond (member t S e) (resolveClosed t (sub 0 e P)) []
 afterEvent t e (choice P Q) = []
 afterEvent t e (par S P Q) =
     cond
@@ -53,7 +53,7 @@ run t rs [] = rs
 run t rs (e ∷ s) = run t (flatMap (afterEvent t e) rs) s
 
 unfoldable pub residuals : Table → Term → List ℕ → List Term
-residuals t P s = run t (resolve t P) s
+residuals t P s = run t (resolveClosed t P) s
 
 abbrev pub Inhabited : List Term → Type 0
 Inhabited [] = ⊥

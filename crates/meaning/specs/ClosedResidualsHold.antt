@@ -16,9 +16,9 @@ use Rattle.meaning.specs.Figure1.{SetRef, Term, stop, fail, prefix, choi
 use Rattle.meaning.specs.Figure1.{GuardedTable, WellFormed}
 use Rattle.meaning.specs.Holds.{m-both, m-left, m-right, Holds, h-prefix, h-par}
 use Rattle.meaning.specs.Theorem3.{guarded-sub}
-use Rattle.meaning.specs.ClosedResiduals.{pairs, resolve, afterEvent, run, residuals, Inhabited}
-use Rattle.meaning.specs.ClosedResiduals.Resolved.{any-pairs, all-pairs, Resolved, Into, resolve-into}
-use Rattle.meaning.specs.ClosedResiduals.Resolved.{resolve-out, resolve-resolved, resolved-holds, resolve-formed}
+use Rattle.meaning.specs.ClosedResiduals.{pairs, resolveClosed, afterEvent, run, residuals, Inhabited}
+use Rattle.meaning.specs.ClosedResiduals.Resolved.{any-pairs, all-pairs, Resolved, Into, closed-into}
+use Rattle.meaning.specs.ClosedResiduals.Resolved.{closed-out, closed-resolved, resolved-holds, closed-formed}
 pub use Rattle.meaning.specs.ClosedResiduals.Resolved.{Has}
 
 -- ---- of an answer by a test
@@ -57,10 +57,10 @@ module _ (t : Table) where
   after-into e stop = tt
   after-into e fail = tt
   after-into e (prefix S P) =
-      let rs : List Term = resolve t (sub 0 e P) in
+      let rs : List Term = resolveClosed t (sub 0 e P) in
       all-cond (Before e (prefix S P)) (member t S e) rs []
       (λ i. all-imp (Into t (sub 0 e P)) (Before e (prefix S P)) (λ r g s h. h-prefix i (g s h)) rs
-      (resolve-into t (sub 0 e P)))
+      (closed-into t (sub 0 e P)))
       (λ o. tt)
   after-into e (choice P Q) = tt
   after-into e (par S P Q) =
@@ -80,8 +80,8 @@ module _ (t : Table) where
     abbrev pub Ready : Term → Type 0
     Ready R = Resolved R × WellFormed t R
 
-    resolve-ready : (P : Term) → WellFormed t P → All Ready (resolve t P)
-    resolve-ready P g = all-and Resolved (WellFormed t) (resolve t P) (resolve-resolved t P) (resolve-formed t w P g)
+    closed-ready : (P : Term) → WellFormed t P → All Ready (resolveClosed t P)
+    closed-ready P g = all-and Resolved (WellFormed t) (resolveClosed t P) (closed-resolved t P) (closed-formed t w P g)
 
     -- ---- and all of it
 
@@ -90,8 +90,8 @@ module _ (t : Table) where
     after-out e stop g s h = elim h [ ]
     after-out e fail g s h = absurd (g .0)
     after-out e (prefix S P) g s (h-prefix i h) =
-        any-cond-true (Has t s) (member t S e) (resolve t (sub 0 e P)) [] i
-        (resolve-out t w (sub 0 e P) (guarded-sub _ _ 0 e P (g .1)) s h)
+        any-cond-true (Has t s) (member t S e) (resolveClosed t (sub 0 e P)) [] i
+        (closed-out t w (sub 0 e P) (guarded-sub _ _ 0 e P (g .1)) s h)
     after-out e (choice P Q) g s h = absurd (g .0)
     after-out e (par S P Q) g s (h-par {r = a} {s = b} (m-both {r = a′} {s = b′} i m) h k) =
         let ps : List Term = afterEvent t e P in
@@ -120,8 +120,8 @@ module _ (t : Table) where
     after-ready e stop g = tt
     after-ready e fail g = tt
     after-ready e (prefix S P) g =
-        all-cond Ready (member t S e) (resolve t (sub 0 e P)) []
-        (λ i. resolve-ready (sub 0 e P) (guarded-sub _ _ 0 e P (g .1)))
+        all-cond Ready (member t S e) (resolveClosed t (sub 0 e P)) []
+        (λ i. closed-ready (sub 0 e P) (guarded-sub _ _ 0 e P (g .1)))
         (λ o. tt)
     after-ready e (choice P Q) g = tt
     after-ready e (par S P Q) g =
@@ -171,7 +171,7 @@ module _ (t : Table) where
     pub residuals-hold : (P : Term) → WellFormed t P → (s : List ℕ) → Holds t P s ↔ Inhabited (residuals t P s)
     unfolding residuals
     residuals-hold P g s =
-        let rs : List Term = resolve t P in
-        let b = run-holds s rs (resolve-ready P g) in
-        let into = all-imp (Into t P) (λ r. Has t s r → Holds t P s) (λ r f. f s) rs (resolve-into t P) in
-        (λ h. b .0 (resolve-out t w P g s h), λ i. any-out (Has t s) (Holds t P s) rs into (b .1 i))
+        let rs : List Term = resolveClosed t P in
+        let b = run-holds s rs (closed-ready P g) in
+        let into = all-imp (Into t P) (λ r. Has t s r → Holds t P s) (λ r f. f s) rs (closed-into t P) in
+        (λ h. b .0 (closed-out t w P g s h), λ i. any-out (Has t s) (Holds t P s) rs into (b .1 i))

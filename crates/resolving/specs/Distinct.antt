@@ -21,7 +21,7 @@ use Rattle.table.specs.Branches.{branches}
 use Rattle.table.specs.Node.{termOf}
 use Rattle.residuals.specs.Residual.{resolve}
 use Rattle.residuals.specs.Slots.{nodes}
-use Rattle.slots.specs.Slots.{stored}
+use Rattle.slots.specs.Insertion.{stored}
 use Rattle.resolving.specs.Lawful.{Below}
 use Rattle.resolving.specs.Residual.{nth, resolvedInto}
 pub mod Laws

@@ -13,7 +13,7 @@ use Rattle.table.specs.Table.{Table}
 use Rattle.residuals.specs.Residual.{Residual, afterAll}
 use Rattle.residuals.specs.Slots.{slotsOf}
 use Rattle.slots.specs.declared.slots.Held.the-variants.{Count, Exceeded}
-use Rattle.slots.specs.Holding.{leaves, putAll}
+use Rattle.slots.specs.Holding.{heldAs, putAll}
 use Rattle.slots.specs.Canon.{fill, SameMembers}
 use Rattle.set_step.specs.Stepped.{gathered, Source}
 use Rattle.set_step.specs.Successors.{SlotsHold}
@@ -26,7 +26,7 @@ StepHolds =
     → (most : ℕ) (xs : List (List ℕ)) → SameMembers xs (gathered t e src (length rs) 0)
     → length (slotsOf (afterAll t e rs)) ≤ most
     → putAll (replicate (most * 16) 0) 0 xs
-    ≡ leaves (Count (length (slotsOf (afterAll t e rs)))) (fill most (slotsOf (afterAll t e rs)))
+    ≡ heldAs (Count (length (slotsOf (afterAll t e rs)))) (fill most (slotsOf (afterAll t e rs)))
 
 -- 01, "When the monitor declines": "crowded", exactly where they are more
 unfoldable pub StepExceeds : Type 0

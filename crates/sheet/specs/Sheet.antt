@@ -1,7 +1,7 @@
 -- The lot sheet (02, W2): what making a sheet answers and leaves in the output, on every input.
 --     linesOf, sheetText, sheetSize    the lines of some records, with the last line;  how many bytes they are
 --     Outcome, sheetOf                 the answer and the output after it
---     said                             the answer of `sheet` and the output, as an outcome
+--     sheetOutcome                     the answer of `sheet` and the output, as an outcome
 -- The laws are in `Sheet/Laws.antt` and, of the loop that writes, `Sheet/Writing.antt`. Assumes nothing.
 use Prim.Native.Nat.{ℕ, _+_, _*_, _≤_}
 use mathlib.Core.Path.{_≡_}
@@ -51,9 +51,9 @@ outcomeOf (bad i) out = refused 14 i out
 unfoldable pub sheetOf : List ℕ → List ℕ → Outcome
 sheetOf book out = outcomeOf (bookOf book) out
 
-abbrev pub said : Sheet → List ℕ → Outcome
-said (Given n) out = given n out
-said (Refused r) out = refused (r .number) (r .place) out
+abbrev pub sheetOutcome : Sheet → List ℕ → Outcome
+sheetOutcome (Given n) out = given n out
+sheetOutcome (Refused r) out = refused (r .number) (r .place) out
 
 -- ours: what `write` asks: a good book, its sum, and room for its lines
 pub record Writable (book out : List ℕ) (sum : ℕ) : Type 0 where

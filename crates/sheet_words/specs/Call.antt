@@ -1,8 +1,8 @@
 -- `cspe_sheet`: what it returns and what stands in the output afterwards (02, W2).
---     SheetCall, said    the number returned, the value and the output
---     Told               a number and a value are those of an answer
---     sheetCall          of the bytes lent
---     SheetWay           the same by the operation's outcome
+--     SheetCall, sheetSaid    the number returned, the value and the output
+--     SheetTold               a number and a value are those of an answer
+--     sheetCall               of the bytes lent
+--     SheetWay                the same by the operation's outcome
 -- The laws are in `Call/Laws.antt`. Assumes nothing.
 use Prim.Native.Nat.{ℕ}
 use mathlib.Core.Path.{_≡_}
@@ -18,8 +18,8 @@ pub record SheetCall : Type 0 where
   pub value : ℕ
   pub output : List ℕ
 
-abbrev pub said : ℕ → ℕ → List ℕ → SheetCall
-said n v out = record { number = n; value = v; output = out }
+abbrev pub sheetSaid : ℕ → ℕ → List ℕ → SheetCall
+sheetSaid n v out = record { number = n; value = v; output = out }
 
 -- ---- an answer
 
@@ -34,7 +34,7 @@ valueOf (Given n) = n
 valueOf (Refused q) = q .place
 
 -- the promise of `tell_sheet`
-pub record Told (x : Sheet) (n v : ℕ) : Type 0 where
+pub record SheetTold (x : Sheet) (n v : ℕ) : Type 0 where
   pub number : n ≡ numberOf x
   pub value : v ≡ valueOf x
 
@@ -46,8 +46,8 @@ isGiven (given n out) = true
 isGiven (refused n at out) = false
 
 unfoldable pub callOf : Outcome → SheetCall
-callOf (given n out) = said 0 n out
-callOf (refused n at out) = said n at out
+callOf (given n out) = sheetSaid 0 n out
+callOf (refused n at out) = sheetSaid n at out
 
 -- book, output
 unfoldable pub sheetCall : List ℕ → List ℕ → SheetCall

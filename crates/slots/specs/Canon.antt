@@ -1,10 +1,10 @@
 -- Slots in their order (01, "Residuals": "An area holds slots ascending by first differing word, then zeros").
---     Order, compareWords     the order "by first differing word"
---     insertSorted, canon     one slot put in its place; a list of slots ascending, each once
---     Precedes, Sorted        that order as a relation; strictly ascending
---     fill                    an area of n slots that holds some, and then zeros
---     Sixteen, Slots          a list of sixteen words; a list of such
---     In, SameMembers         a slot is one of several; two lists have the same slots
+--     Order, compareWords    the order "by first differing word"
+--     insertSorted, canon    one slot put in its place; a list of slots ascending, each once
+--     Precedes, Sorted       that order as a relation; strictly ascending
+--     fill                   an area of n slots that holds some, and then zeros
+--     Sixteen, AllSixteen    a list of sixteen words; a list of such
+--     In, SameMembers        a slot is one of several; two lists have the same slots
 -- The laws are in `Canon/`: `Comparison` (the order), `Canonical` (what comes out is ascending, and depends on the
 -- members only), `Members`, `Areas`, `Places` and `Laws` (areas). Assumes nothing.
 use Prim.Native.Nat.{ℕ, _-_, _*_, _<_}
@@ -60,8 +60,8 @@ fill n ss = flatten ss ++ replicate ((n - length ss) * 16) 0
 abbrev pub Sixteen : List ℕ → Type 0
 Sixteen s = length s ≡ 16
 
-abbrev pub Slots : List (List ℕ) → Type 0
-Slots = All Sixteen
+abbrev pub AllSixteen : List (List ℕ) → Type 0
+AllSixteen = All Sixteen
 
 -- ---- members
 

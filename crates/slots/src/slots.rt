@@ -1,11 +1,11 @@
 // Slots in an area (01, "Residuals": "An area holds slots ascending by first differing word"):
 // where a slot belongs among those held, and holding one more. The definitions are in
-// `specs/Slots.antt`.
+// `specs/Insertion.antt`.
 ghost use mathlib.Core.Path.{_≡_};
 ghost use Prim.Native.Nat.{ℕ, _+_, _-_, _*_, _≤_};
 ghost use lib.ListN.{length};
-ghost use Rattle.slots.specs.Slots.{order, isAbove, middleOf, narrowed, seek, placeIn};
-ghost use Rattle.slots.specs.Slots.{gapped, stored, insertAnswer, insertWords};
+ghost use Rattle.slots.specs.Insertion.{order, isAbove, middleOf, narrowed, seek, placeIn};
+ghost use Rattle.slots.specs.Insertion.{gapped, stored, insertAnswer, insertWords};
 ghost use Rattle.slots.specs.Holding.{putOne, Gave};
 
 // Where a slot belongs among those held, ascending: it is held already, or its place.

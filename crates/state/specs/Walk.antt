@@ -1,10 +1,10 @@
 -- A slot's node words read from the last with a count of trees (ours): what the code keeps of the trees that
 -- `forest` spells (`specs/Valid.antt` of crate monitor_spec).
---     withLeaf, paired    a leaf in front; the first two trees under a parallel
---     wordFits            a known term, with a memory that it allows
---     planted, walked     a node word in front; all of a list of node words
---     isWhole             one tree, of a reach that is not too large
---     Few                 so few trees that no sum is too large
+--     withLeaf, paired       a leaf in front; the first two trees under a parallel
+--     wordFits               a known term, with a memory that it allows
+--     planted, plantedAll    a node word in front; all of a list of node words
+--     isWhole                one tree, of a reach that is not too large
+--     Few                    so few trees that no sum is too large
 -- The laws are in `Walk/`: `Laws`, by cases; `Words`, of what words spell; `Spelling`, that the walk agrees with
 -- `forest`; `Validity`, that it decides which slots are valid. Assumes nothing.
 use Prim.Native.Nat.{ℕ, _+_, _-_, _*_, _≤_}
@@ -55,9 +55,9 @@ planted t w f =
       | false ↦ Broken
     ]
 
-unfoldable pub walked : Table → List ℕ → Forest
-walked t [] = Trees 0 0
-walked t (w ∷ ws) = planted t w (walked t ws)
+unfoldable pub plantedAll : Table → List ℕ → Forest
+plantedAll t [] = Trees 0 0
+plantedAll t (w ∷ ws) = planted t w (plantedAll t ws)
 
 unfoldable pub isWhole : Forest → Bool
 isWhole Broken = false

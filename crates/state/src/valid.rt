@@ -12,7 +12,7 @@ ghost use Rattle.slots.specs.Canon.{compareWords};
 ghost use Rattle.monitor_spec.specs.Valid.{digitFits, memoryFits, isBelow, validSlot};
 ghost use Rattle.monitor_spec.specs.Consistent.{allZero};
 ghost use Rattle.state.specs.Walk.{Few, withLeaf, paired, isWhole};
-ghost use Rattle.state.specs.Walk.{wordFits, planted, walked};
+ghost use Rattle.state.specs.Walk.{wordFits, planted, plantedAll};
 use node_word::digit;
 use node_word::term_of;
 
@@ -143,7 +143,7 @@ fn walk(list: &[u16], work: &[u64], slot: &[u64], n: usize) -> Forest
     requires { ⌜ Indexed (now list) (now work) ⌝ }
     requires { ⌜ (length (now slot) ≡ 16) × (n ≤ 15) ⌝ }
     ensures { λ r.
-        ⌜ r ≡ walked (tableIn (now (list .entry))) (take n (drop 1 (now (slot .entry)))) ⌝ }
+        ⌜ r ≡ plantedAll (tableIn (now (list .entry))) (take n (drop 1 (now (slot .entry)))) ⌝ }
 {
     let mut forest = Forest::Trees(0, 0);
     let mut i = n;

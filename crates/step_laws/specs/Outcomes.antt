@@ -18,7 +18,7 @@ use Rattle.monitor_spec.specs.Proper.{Proper}
 use Rattle.monitor_spec.specs.Valid.{held}
 use Rattle.monitor_spec.specs.Valid.Residuals.{slots-after}
 use Rattle.slots.specs.declared.slots.Held.the-variants.{Count, Exceeded}
-use Rattle.slots.specs.Holding.{leaves, putAll}
+use Rattle.slots.specs.Holding.{heldAs, putAll}
 use Rattle.slots.specs.Canon.{canon, SameMembers}
 use Rattle.slots.specs.Canon.Areas.{fill-none}
 use Rattle.slots.specs.Canon.Laws.{put-canon, put-exceeded-canon}
@@ -49,7 +49,7 @@ module _ (t : Table) (rules : Rules t) where
     source = rw same-length (step-source t rules rs proper n room e small)
 
     pub step-holds : (cap : ℕ) → length (slotsOf (afterAll t e rs)) ≤ cap → putAll (fill cap []) 0 xs
-        ≡ leaves (Count (length (slotsOf (afterAll t e rs)))) (fill cap (slotsOf (afterAll t e rs)))
+        ≡ heldAs (Count (length (slotsOf (afterAll t e rs)))) (fill cap (slotsOf (afterAll t e rs)))
     step-holds cap k =
         rw (fill-none cap, ← same-slots)
         (stepped t e (fill n (slotsOf rs)) hs (holds-slots t rules rs proper n) source cap xs (rw same-length m)
@@ -81,7 +81,7 @@ module _ (t : Table) (rules : Rules t) where
     first-slots = rw first-is
 
     pub definition-holds : (cap : ℕ) → length (slotsOf settled) ≤ cap → putAll (fill cap []) 0 (initial t d)
-        ≡ leaves (Count (length (slotsOf settled))) (fill cap (slotsOf settled))
+        ≡ heldAs (Count (length (slotsOf settled))) (fill cap (slotsOf settled))
     definition-holds cap h =
         rw (← first-slots)
         (put-canon cap (initial t d) (sixteen-words (resolveDef t (bodyCount t) d) first-short) (rw first-slots h))

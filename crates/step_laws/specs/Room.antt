@@ -24,7 +24,7 @@ use Rattle.monitor_spec.specs.Meaning.{Sound}
 use Rattle.residuals.specs.Slots.{nodes}
 use Rattle.monitor_spec.specs.Valid.{reachSum}
 use Rattle.monitor_spec.specs.Proper.{Fitting, Proper}
-use Rattle.monitor_spec.specs.Proper.Laws.{after-kept}
+use Rattle.monitor_spec.specs.Proper.Laws.{after-fitting}
 use Rattle.monitor_spec.specs.Proper.Nodes.{nodes-reach, nodes-most}
 use Rattle.step_laws.specs.Trees.{valid-proper}
 use Rattle.step_laws.specs.Areas.{SlotAt, slot-count, slot-tree}
@@ -53,7 +53,7 @@ module _ (t : Table) (rules : Rules t) (e : ℕ) (small : e < t .alphabet) where
       all-imp (λ q. Sound t q × Fitting t (reachSum t r) q) (λ q. suc (length (nodes q)) ≤ 2 * reachSum t r)
       (λ q h. let a = nodes-reach t (regular t rules) q (h .0) in let b = h .1 .1 in omega arith) (after t e r)
       (all-and (Sound t) (Fitting t (reachSum t r)) (after t e r) (after-sound t (regular t rules) e r s)
-      (after-kept t (regular t rules) e small r s f))
+      (after-fitting t (regular t rules) e small r s f))
 
   leaf-longest : (n : ℕ) (m : Memory) → Proper t (leaf n m)
       → suc (longest (map nodes (leafResults t e (pack n m)))) ≤ 2 * reachSum t (leaf n m)

@@ -65,12 +65,12 @@ pub record Left : Type 0 where
   pub got : TimedOutcome
   pub expected : TimedOutcome
 
-abbrev leaves : TimedOutcome → TimedAnswer → List ℕ → List ℕ → List ℕ → Left
-leaves o r x y w = record { got = o; expected = record { answer = r; area0 = x; area1 = y; work = w } }
+abbrev timedLeaves : TimedOutcome → TimedAnswer → List ℕ → List ℕ → List ℕ → Left
+timedLeaves o r x y w = record { got = o; expected = record { answer = r; area0 = x; area1 = y; work = w } }
 
 -- table B, the wash table l, a timetable: what stands after the events, with one slot
 abbrev goes : List ℕ → List ℕ → TimedMonitor → List ℕ → List ℕ → TimedAnswer → List ℕ → List ℕ → Left
-goes l ws m es ms r x y = leaves (timedOf tableB l ws m es ms (sevens 8192)) r x y (zeros 8192)
+goes l ws m es ms r x y = timedLeaves (timedOf tableB l ws m es ms (sevens 8192)) r x y (zeros 8192)
 
 -- what stands after an odd number of events on `rinse`
 abbrev rinsed : List ℕ → List ℕ → List ℕ → TimedState → Left
@@ -105,7 +105,7 @@ started-rows =
     ∷ goes rinse hour fresh (1 ∷ 1 ∷ []) (0 ∷ 59 ∷ []) (given (started (peaked 2 0 1 (failedAt 1)) 59)) (zeros 16)
     (zeros 16)
     -- the largest count since the last start: 2 before it, 1 after it
-    ∷ leaves (timedOf twofold rinse hour (mon notStarted (zeros 32) (zeros 32)) (0 ∷ 1 ∷ []) (0 ∷ 60 ∷ [])
+    ∷ timedLeaves (timedOf twofold rinse hour (mon notStarted (zeros 32) (zeros 32)) (0 ∷ 1 ∷ []) (0 ∷ 60 ∷ [])
     (sevens 8192))
     (given (first 60)) (zeros 32) (oneNode 0 ++ zeros 16) (zeros 8192)
     -- no event: nothing changes
@@ -153,14 +153,15 @@ refused-rows =
     ∷ goes rinse (60 ∷ 120 ∷ 119 ∷ 130 ∷ []) (after 60) [] [] (refused 16 0) (zeros 16) (oneNode (word 1 0))
     -- "after both tables, the everyday one first"
     ∷ goes (more rinse) (60 ∷ []) fresh [] [] (refused 6 11) (zeros 16) (zeros 16)
-    ∷ leaves (timedOf (more tableB) (more rinse) (60 ∷ []) fresh [] [] (sevens 8192)) (refused 6 16) (zeros 16)
+    ∷ timedLeaves (timedOf (more tableB) (more rinse) (60 ∷ []) fresh [] [] (sevens 8192)) (refused 6 16) (zeros 16)
     (zeros 16) (zeros 8192)
     -- 1, before both: a minute is missing; lent lengths. All is kept
-    ∷ leaves (timedOf (more tableB) rinse hour (after 59) (0 ∷ 1 ∷ []) (59 ∷ []) (sevens 8192)) (refused 1 0) (zeros 16)
+    ∷ timedLeaves (timedOf (more tableB) rinse hour (after 59) (0 ∷ 1 ∷ []) (59 ∷ []) (sevens 8192)) (refused 1 0)
+    (zeros 16)
     (oneNode (word 1 0)) (sevens 8192)
-    ∷ leaves (timedOf (more tableB) rinse hour (after 59) [] [] (sevens 8191)) (refused 1 0) (zeros 16)
+    ∷ timedLeaves (timedOf (more tableB) rinse hour (after 59) [] [] (sevens 8191)) (refused 1 0) (zeros 16)
     (oneNode (word 1 0)) (sevens 8191)
-    ∷ leaves (timedOf tableB rinse hour (mon notStarted (sevens 16) (sevens 32)) [] [] (sevens 8192)) (refused 1 0)
+    ∷ timedLeaves (timedOf tableB rinse hour (mon notStarted (sevens 16) (sevens 32)) [] [] (sevens 8192)) (refused 1 0)
     (sevens 16) (sevens 32) (sevens 8192)
     ∷ []
 

@@ -1,7 +1,7 @@
 -- `cspe_timed_feed`: what it returns and what stands in the lent words afterwards (02, W5). The record is seven lent
 -- words (`Words`).
 --     timedNumber, timedPlace, timedAfter    an answer in words
---     Told                                   the promise of `tell_timed`
+--     TimedTold                              the promise of `tell_timed`
 --     timedCall                              of all that is lent
 --     TimedWay                               the same by the operation's answer: every word of each way
 -- The laws are in `Call/Laws.antt`. Assumes nothing.
@@ -43,7 +43,7 @@ timedAfter r (refused n p) = r
 timedAfter r (stopped n p s) = timedWords s
 
 -- the promise of `tell_timed`: of an answer, where the words lent are r
-pub record Told (x : TimedAnswer) (r : List ℕ) (n p : ℕ) (r' : List ℕ) : Type 0 where
+pub record TimedTold (x : TimedAnswer) (r : List ℕ) (n p : ℕ) (r' : List ℕ) : Type 0 where
   pub number : n ≡ timedNumber x
   pub place : p ≡ timedPlace x
   pub words : r' ≡ timedAfter r x

@@ -2,7 +2,7 @@
 ghost use mathlib.Core.Path.{_≡_};
 ghost use lib.ListN.{length};
 ghost use Rattle.wash_state.specs.Answers.{timedAnswerOf};
-ghost use Rattle.wash_words.specs.Call.{Told};
+ghost use Rattle.wash_words.specs.Call.{TimedTold};
 use crate::record::store_timed;
 use wash_state::TimedAnswer;
 
@@ -10,7 +10,7 @@ use wash_state::TimedAnswer;
 pub fn tell_timed(answer: TimedAnswer, record: &mut [u64], place: &mut u64) -> u32
     requires { ⌜ length (now «record») ≡ 7 ⌝ }
     ensures { λ r.
-        ⌜ Told (timedAnswerOf answer) (now («record» .entry)) r (now (place .exit))
+        ⌜ TimedTold (timedAnswerOf answer) (now («record» .entry)) r (now (place .exit))
         (now («record» .exit)) ⌝ }
 {
     match answer {

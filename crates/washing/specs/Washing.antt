@@ -3,7 +3,7 @@
 --     FirstBy, AfreshBy, FreshBy    the first event of a fresh start: in one area; in both; with the index
 --     Free                          which area is zero
 --     OnReady, OnBy                 an event on one table
---     Ready, TimedBy                an event with its minute;  Stands: what stands before it
+--     Ready, TimedBy                an event with its minute;  TimedStanding: what stands before it
 --     AgreedAt, Agreed              whether state and areas agree
 --     TimedEntered                  what stands before the first event;  afterEveryday: after the everyday table
 --     TimedEndedBy                  all events
@@ -85,9 +85,9 @@ pub record OnBy (l : List ℕ) (due : Bool) (s : TimedState) (e : ℕ) (a b : Li
 
 -- ---- an event with its minute
 -- before the first event areas of zeros; then the index of the table in force at the last one's minute, and residuals
-abbrev pub Stands : List ℕ → List ℕ → List ℕ → TimedState → List ℕ → List ℕ → List ℕ → Type 0
-Stands everyday wash windows NotStarted a b work = Empty a × Empty b
-Stands everyday wash windows (Started s last) a b work =
+abbrev pub TimedStanding : List ℕ → List ℕ → List ℕ → TimedState → List ℕ → List ℕ → List ℕ → Type 0
+TimedStanding everyday wash windows NotStarted a b work = Empty a × Empty b
+TimedStanding everyday wash windows (Started s last) a b work =
     Indexed (listAt everyday wash windows last) work
     × Standing (tableIn (listAt everyday wash windows last)) (monitorOf s a b)
 
@@ -97,14 +97,14 @@ pub record Ready (everyday wash windows : List ℕ) (s : TimedState) (a b work :
   pub good : T (goodTimetable windows)
   pub measured : areasMeasured a b ≡ true
   pub long : length work ≡ 8192
-  pub stands : Stands everyday wash windows s a b work
+  pub stands : TimedStanding everyday wash windows s a b work
 
 abbrev pub TimedBy : List ℕ → List ℕ → List ℕ → TimedState → ℕ → ℕ → List ℕ → List ℕ → Taken → List ℕ → List ℕ
     → List ℕ → Type 0
 TimedBy everyday wash windows s e minute a b (Went u) a' b' work' =
     (takeTimed (tableIn everyday) (tableIn wash) windows (timedMonitorOf s a b) (e, minute)
     ≡ went (timedMonitorOf (Started u minute) a' b'))
-    × Stands everyday wash windows (Started u minute) a' b' work'
+    × TimedStanding everyday wash windows (Started u minute) a' b' work'
 TimedBy everyday wash windows s e minute a b (Stopped k) a' b' work' =
     (takeTimed (tableIn everyday) (tableIn wash) windows (timedMonitorOf s a b) (e, minute) ≡ stops k)
     × (a' ≡ a) × (b' ≡ b)

@@ -1,10 +1,10 @@
 -- `cspe_open`, `cspe_feed`, `cspe_try`, `cspe_offer` and `cspe_view`: what they return and what stands in the lent
 -- words afterwards (01, "Operations"; 02, W4, W7). The record is five lent words (`Words`).
---     MonitorCall, Told, feedCall               of Feed
---     OpenCall, openCall                        of Open: also, whether there is a record
---     tryCall                                   of Try, in the further record and areas
---     OfferCall, OfferTold, offerCall           of Offer
---     ViewCall, viewCall                        of View
+--     MonitorCall, MonitorTold, feedCall    of Feed
+--     OpenCall, openCall                    of Open: also, whether there is a record
+--     tryCall                               of Try, in the further record and areas
+--     OfferCall, OfferTold, offerCall       of Offer
+--     ViewCall, viewCall                    of View
 -- The laws are in `Calls/Laws.antt`. Assumes nothing.
 use Prim.Native.Nat.{ℕ}
 use mathlib.Core.Path.{_≡_}
@@ -32,8 +32,8 @@ pub record MonitorCall : Type 0 where
   pub area1 : List ℕ
   pub work : List ℕ
 
-abbrev pub said : ℕ → ℕ → List ℕ → List ℕ → List ℕ → List ℕ → MonitorCall
-said n p r a b w = record { number = n; place = p; words = r; area0 = a; area1 = b; work = w }
+abbrev pub monitorSaid : ℕ → ℕ → List ℕ → List ℕ → List ℕ → List ℕ → MonitorCall
+monitorSaid n p r a b w = record { number = n; place = p; words = r; area0 = a; area1 = b; work = w }
 
 -- the refusal's number, 0 where there is none
 unfoldable pub numberOf : Answer → ℕ
@@ -60,7 +60,7 @@ recordAfter r (refused n p) = r
 recordAfter r (stopped n p s) = wordsOf s
 
 -- the promise of `tell`: of an answer, where the words lent are r
-pub record Told (x : Answer) (r : List ℕ) (n p : ℕ) (r' : List ℕ) : Type 0 where
+pub record MonitorTold (x : Answer) (r : List ℕ) (n p : ℕ) (r' : List ℕ) : Type 0 where
   pub number : n ≡ numberOf x
   pub place : p ≡ placeOf x
   pub words : r' ≡ recordAfter r x
@@ -96,7 +96,7 @@ pub record OpenCall : Type 0 where
   pub opened : ℕ
 
 abbrev pub openSaid : ℕ → ℕ → ℕ → List ℕ → List ℕ → List ℕ → List ℕ → OpenCall
-openSaid n p k r a b w = record { call = said n p r a b w; opened = k }
+openSaid n p k r a b w = record { call = monitorSaid n p r a b w; opened = k }
 
 -- number list, record, areas, events, work words
 unfoldable pub openCall : List ℕ → List ℕ → List ℕ → List ℕ → List ℕ → List ℕ → OpenCall

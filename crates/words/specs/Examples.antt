@@ -9,7 +9,7 @@ use lib.ListN.{replicate}
 use Rattle.table.specs.Operations.{zeros}
 use Rattle.monitor_spec.specs.State.{running, failedAt}
 use Rattle.words.specs.Words.{stateIn}
-use Rattle.words.specs.Tables.{said, readCall, writeCall}
+use Rattle.words.specs.Tables.{tableSaid, readCall, writeCall}
 use Rattle.words.specs.Calls.{MonitorCall, OpenCall, OfferCall, ViewCall, openCall, feedCall, tryCall, offerCall}
 use Rattle.words.specs.Calls.{viewCall}
 use Rattle.words.specs.Calls as calls
@@ -63,7 +63,7 @@ unfoldable pub viewed : MonitorCall → ViewCall
 viewed m = viewCall (m .words) (m .area0) (m .area1)
 
 abbrev left : ℕ → ℕ → List ℕ → List ℕ → List ℕ → MonitorCall
-left n p r a b = calls.said n p r a b (zeros 8192)
+left n p r a b = calls.monitorSaid n p r a b (zeros 8192)
 
 abbrev gave : ℕ → ℕ → ℕ → List ℕ → List ℕ → List ℕ → OpenCall
 gave n p k r a b = calls.openSaid n p k r a b (zeros 8192)
@@ -71,10 +71,10 @@ gave n p k r a b = calls.openSaid n p k r a b (zeros 8192)
 unfoldable pub RowsHold : Type 0
 RowsHold =
     -- Read and Write: the count; "cut short" at the input's length; a short output
-    (readCall tableB (zeros 16384) (zeros 8192) ≡ said 0 16 (tableB ++ zeros 16368) (zeros 8192))
-    × (readCall (3 ∷ 2 ∷ []) (zeros 16384) (zeros 8192) ≡ said 3 2 (zeros 16384) (zeros 8192))
-    × (writeCall tableB (zeros 17) (zeros 8192) ≡ said 0 16 (tableB ++ 0 ∷ []) (zeros 8192))
-    × (writeCall tableB (zeros 15) (zeros 8192) ≡ said 1 0 (zeros 15) (zeros 8192))
+    (readCall tableB (zeros 16384) (zeros 8192) ≡ tableSaid 0 16 (tableB ++ zeros 16368) (zeros 8192))
+    × (readCall (3 ∷ 2 ∷ []) (zeros 16384) (zeros 8192) ≡ tableSaid 3 2 (zeros 16384) (zeros 8192))
+    × (writeCall tableB (zeros 17) (zeros 8192) ≡ tableSaid 0 16 (tableB ++ 0 ∷ []) (zeros 8192))
+    × (writeCall tableB (zeros 15) (zeros 8192) ≡ tableSaid 1 0 (zeros 15) (zeros 8192))
     -- Open, with an empty list and with others; of areas that are not as long as each other
     × (opened [] ≡ gave 0 0 1 (five 0 1 0 0 1) (slot 0) (zeros 32))
     × (opened (0 ∷ 0 ∷ []) ≡ gave 0 0 1 (five 2 0 1 2 1) (zeros 32) (zeros 32))

@@ -1,8 +1,8 @@
 -- `cspe_read` and `cspe_write`: what they return and what stands in the lent words afterwards (01, "Operations").
---     TableCall, said        the number returned, the value, the output and the work words
---     Told                   a number and a value are those of an answer
---     tableCall              the call of an outcome of Read or Write
---     readCall, writeCall    of the words lent
+--     TableCall, tableSaid    the number returned, the value, the output and the work words
+--     TableTold               a number and a value are those of an answer
+--     tableCall               the call of an outcome of Read or Write
+--     readCall, writeCall     of the words lent
 -- The laws are in `Tables/Laws.antt`. Assumes nothing.
 use Prim.Native.Nat.{ℕ}
 use mathlib.Core.Path.{_≡_}
@@ -17,8 +17,8 @@ pub record TableCall : Type 0 where
   pub output : List ℕ
   pub work : List ℕ
 
-abbrev pub said : ℕ → ℕ → List ℕ → List ℕ → TableCall
-said n v out w = record { number = n; value = v; output = out; work = w }
+abbrev pub tableSaid : ℕ → ℕ → List ℕ → List ℕ → TableCall
+tableSaid n v out w = record { number = n; value = v; output = out; work = w }
 
 -- the refusal's number, 0 where there is none
 unfoldable pub numberOf : Answer → ℕ
@@ -36,7 +36,7 @@ valueOf (done n) = n
 valueOf (refusal n at) = at
 
 -- the promise of `tell_table`
-pub record Told (x : Answer) (n v : ℕ) : Type 0 where
+pub record TableTold (x : Answer) (n v : ℕ) : Type 0 where
   pub number : n ≡ numberOf x
   pub value : v ≡ valueOf x
 

@@ -2,7 +2,7 @@
 ghost use mathlib.Core.Path.{_≡_};
 ghost use lib.ListN.{length};
 ghost use Rattle.state.specs.Answers.{answerOf, offeredOf};
-ghost use Rattle.words.specs.Calls.{openedOf, Told, OfferTold};
+ghost use Rattle.words.specs.Calls.{openedOf, MonitorTold, OfferTold};
 use crate::record::store;
 use state::Answer;
 use state::Offered;
@@ -12,7 +12,7 @@ use state::Offered;
 pub fn tell(answer: Answer, record: &mut [u64], place: &mut u64) -> u32
     requires { ⌜ length (now «record») ≡ 5 ⌝ }
     ensures { λ r.
-        ⌜ Told (answerOf answer) (now («record» .entry)) r (now (place .exit))
+        ⌜ MonitorTold (answerOf answer) (now («record» .entry)) r (now (place .exit))
         (now («record» .exit)) ⌝ }
 {
     match answer {

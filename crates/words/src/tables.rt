@@ -1,11 +1,11 @@
 // Answers of Read and Write in words. The definitions are in `specs/Tables.antt`.
 ghost use Rattle.table.specs.Answers.{answerOf};
-ghost use Rattle.words.specs.Tables.{Told};
+ghost use Rattle.words.specs.Tables.{TableTold};
 use table::Answer;
 
 // The number to return; the count or the place goes into value.
 pub fn tell_table(answer: Answer, value: &mut u64) -> u32
-    ensures { λ r. ⌜ Told (answerOf answer) r (now (value .exit)) ⌝ }
+    ensures { λ r. ⌜ TableTold (answerOf answer) r (now (value .exit)) ⌝ }
 {
     match answer {
         Answer::Count(n) => {

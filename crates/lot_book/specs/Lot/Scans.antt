@@ -42,15 +42,15 @@ pub data LotLost : List ℕ → Type 0 where
       → NoNumber (scanNumber s3) → LotLost s
 
 -- ---- each answer of readLot, number by number
-abbrev Told : List ℕ → LotScan → Type 0
-Told s (lot r n rest) = LotRead s r n rest
-Told s unread = LotLost s
+abbrev LotScanned : List ℕ → LotScan → Type 0
+LotScanned s (lot r n rest) = LotRead s r n rest
+LotScanned s unread = LotLost s
 
 module _ (s : List ℕ) where
   tell-place : (v i : ℕ) (s1 : List ℕ) (w j : ℕ) (s2 : List ℕ) (m k : ℕ) (s3 : List ℕ)
       → scanNumber s ≡ value v i s1 → scanNumber s1 ≡ value w j s2 → scanNumber s2 ≡ value m k s3
       → (x : Scan) → scanNumber s3 ≡ x
-      → Told s (andThen x (λ place l s4.
+      → LotScanned s (andThen x (λ place l s4.
       lot (record { number = v; taken = w; mark = m; place = place }) (i + j + k + l) s4))
   unfolding andThen
   tell-place v i s1 w j s2 m k s3 a b d (value c l s4) e =
@@ -75,7 +75,7 @@ module _ (s : List ℕ) where
 
   tell-mark : (v i : ℕ) (s1 : List ℕ) (w j : ℕ) (s2 : List ℕ)
       → scanNumber s ≡ value v i s1 → scanNumber s1 ≡ value w j s2 → (x : Scan) → scanNumber s2 ≡ x
-      → Told s (andThen x (λ mark k s3. andThen (scanNumber s3) (λ place l s4.
+      → LotScanned s (andThen x (λ mark k s3. andThen (scanNumber s3) (λ place l s4.
       lot (record { number = v; taken = w; mark = mark; place = place }) (i + j + k + l) s4)))
   unfolding andThen
   tell-mark v i s1 w j s2 a b (value m k s3) d = tell-place v i s1 w j s2 m k s3 a b d (scanNumber s3) refl
@@ -83,7 +83,8 @@ module _ (s : List ℕ) where
   tell-mark v i s1 w j s2 a b malformed d = lost-mark v i s1 w j s2 a b (subst NoNumber (sym d) ill-written)
 
   tell-taken : (v i : ℕ) (s1 : List ℕ) → scanNumber s ≡ value v i s1 → (x : Scan) → scanNumber s1 ≡ x
-      → Told s (andThen x (λ taken j s2. andThen (scanNumber s2) (λ mark k s3. andThen (scanNumber s3) (λ place l s4.
+      → LotScanned s
+      (andThen x (λ taken j s2. andThen (scanNumber s2) (λ mark k s3. andThen (scanNumber s3) (λ place l s4.
       lot (record { number = v; taken = taken; mark = mark; place = place }) (i + j + k + l) s4))))
   unfolding andThen
   tell-taken v i s1 a (value w j s2) b = tell-mark v i s1 w j s2 a b (scanNumber s2) refl
@@ -91,7 +92,7 @@ module _ (s : List ℕ) where
   tell-taken v i s1 a malformed b = lost-taken v i s1 a (subst NoNumber (sym b) ill-written)
 
   tell-number : (x : Scan) → scanNumber s ≡ x
-      → Told s (andThen x (λ number i s1. andThen (scanNumber s1) (λ taken j s2.
+      → LotScanned s (andThen x (λ number i s1. andThen (scanNumber s1) (λ taken j s2.
       andThen (scanNumber s2) (λ mark k s3. andThen (scanNumber s3) (λ place l s4.
       lot (record { number = number; taken = taken; mark = mark; place = place }) (i + j + k + l) s4)))))
   unfolding andThen
@@ -99,15 +100,15 @@ module _ (s : List ℕ) where
   tell-number truncated a = lost-number (subst NoNumber (sym a) cut-short)
   tell-number malformed a = lost-number (subst NoNumber (sym a) ill-written)
 
-  told : Told s (readLot s)
+  told : LotScanned s (readLot s)
   unfolding readLot
   told = tell-number (scanNumber s) refl
 
   pub lot-read : (r : Lot) (n : ℕ) (rest : List ℕ) → readLot s ≡ lot r n rest → LotRead s r n rest
-  lot-read r n rest e = subst (Told s) e told
+  lot-read r n rest e = subst (LotScanned s) e told
 
   pub lot-lost : readLot s ≡ unread → LotLost s
-  lot-lost e = subst (Told s) e told
+  lot-lost e = subst (LotScanned s) e told
 
 -- ---- and back
 pub none-then : (x : Scan) (next : ℕ → ℕ → List ℕ → LotScan) → NoNumber x → andThen x next ≡ unread

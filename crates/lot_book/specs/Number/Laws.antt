@@ -8,14 +8,14 @@
 use Prim.Native.Nat.{ℕ, zero, suc, _+_, _-_, _*_, _≤_, _<_}
 use native.Mathlib.Omega.{arith}
 use native.Mathlib.Numerals.{add-one}
-use mathlib.Core.Path.{_≡_, refl, ap, sym, _∙_, subst}
+use mathlib.Core.Path.{_≡_, refl, sym, _∙_, subst}
 use mathlib.Core.List.{List, _∷_}
-use lib.ListN.{length, getD, drop, drop-of-length-le, length-drop}
-use lib.Seq.{drop-cons, drop-drop}
+use lib.ListN.{length, getD, drop, drop-of-length-le}
+use lib.Seq.{drop-cons}
 use borrow.Author.Tests.{le-ltb, lt-ltb, le-leb, lt-leb, eq-eqb, ne-eqb}
 use Rattle.numbers.specs.Number.{Scan, value, truncated, malformed, carry, later, scanWith, limitOf}
 use Rattle.numbers.specs.Number.Groups.{limit-zero, limit-suc, limit-some}
-use Rattle.numbers.specs.Number.Extent.{scan-extent}
+use Rattle.numbers.specs.Number.Extent.{Found, NumberAt, scan-at}
 use Rattle.lot_book.specs.declared.number.Number.{Number}
 use Rattle.lot_book.specs.declared.number.Number.the-variants.{Value, Unread}
 use Rattle.lot_book.specs.Number.{scanNumber, found, numberAt, groupsAt, Small, Grouped}
@@ -163,42 +163,15 @@ module _ (s : List ℕ) (at : ℕ) where
   broken x h l f g = sym (long h l ∙ rw (← (g .answer), f) refl)
 
 -- ---- for callers
--- the number v stands at a position of s, and q is the position after it
-pub record Stands (s : List ℕ) (at v q : ℕ) : Type 0 where
-  pub scan : scanNumber (drop at s) ≡ value v (q - at) (drop q s)
-  pub after : at < q
-  pub within : q ≤ length s
-
-record Found (at v q : ℕ) (x : Scan) : Type 0 where
-  n : ℕ
-  rest : List ℕ
-  scan : x ≡ value v n rest
-  next : q ≡ at + n
-
 value-found : (at v q : ℕ) (x : Scan) → Value v q ≡ found at x → Found at v q x
 unfolding found
 value-found at v q (value w n rest) e = record { n = n; rest = rest; scan = cc; next = cc }
 value-found at v q truncated e = let z : _≡_ {A = ℕ} 0 1 = cc in absurd (omega arith)
 value-found at v q malformed e = let z : _≡_ {A = ℕ} 0 1 = cc in absurd (omega arith)
 
-scan-path : (v n m : ℕ) (s t : List ℕ) → n ≡ m → s ≡ t → value v n s ≡ value v m t
-scan-path v n m s t p q = cc
-
-pub number-stands : (s : List ℕ) (at v q : ℕ) → Value v q ≡ numberAt s at → Stands s at v q
+pub number-stands : (s : List ℕ) (at v q : ℕ) → Value v q ≡ numberAt s at → NumberAt scanNumber s at v q
 unfolding numberAt
-number-stands s at v q e =
-    let f = value-found at v q (scanNumber (drop at s)) e in
-    let k : q ≡ at + f .n = f .next in
-    let h = scan-extent 9 1 (drop at s) v (f .n) (f .rest) (f .scan) in
-    let some : 1 ≤ f .n = h .some in
-    let within : f .n ≤ length s - at = subst (λ (m : ℕ). f .n ≤ m) (length-drop at s) (h .within) in
-    record {
-      scan =
-          f .scan
-          ∙ scan-path _ _ _ _ _ (omega arith) (h .left ∙ drop-drop (f .n) at s ∙ ap (λ (i : ℕ). drop i s) (sym k));
-      after = omega arith;
-      within = omega arith;
-    }
+number-stands s at v q e = scan-at 9 1 s at v q (value-found at v q (scanNumber (drop at s)) e)
 
 -- no number stands at the head of the bytes
 pub data NoNumber : Scan → Type 0 where

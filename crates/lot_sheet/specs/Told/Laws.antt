@@ -21,7 +21,7 @@ use Rattle.sheet.specs.Sheet.{Outcome, given, refused, sheetOf, outcomeOf, prin
 use Rattle.sheet.specs.Sheet as operation
 use Rattle.lot_sheet.specs.declared.office.Told.{Told}
 use Rattle.lot_sheet.specs.declared.office.Told.the-variants.{Sheet, BadRecord, TotalOver, TooLong}
-use Rattle.lot_sheet.specs.Told.{TellOutcome, said, refusedAs, tellBook, tellOf, Fits}
+use Rattle.lot_sheet.specs.Told.{TellOutcome, tellSaid, refusedAs, tellBook, tellOf, Fits}
 
 pub refused-bad : (q : Refusal) → q .number ≡ 14 → BadRecord (q .place) ≡ refusedAs (q .number) (q .place)
 unfolding refusedAs
@@ -33,19 +33,19 @@ refused-over q e = rw (ne-eqb (q .number) 14 e)
 
 -- ---- a whole book
 
-module _ (book text text' : List ℕ) (x : answer.Sheet) (says : operation.said x text' ≡ sheetOf book text) where
-  answered : (y : answer.Sheet) → x ≡ y → tellBook (operation.said y text') ≡ tellOf true book text
+module _ (book text text' : List ℕ) (x : answer.Sheet) (says : operation.sheetOutcome x text' ≡ sheetOf book text) where
+  answered : (y : answer.Sheet) → x ≡ y → tellBook (operation.sheetOutcome y text') ≡ tellOf true book text
   unfolding tellOf
-  answered y e = sym (ap (λ (z : answer.Sheet). tellBook (operation.said z text')) e) ∙ ap tellBook says
+  answered y e = sym (ap (λ (z : answer.Sheet). tellBook (operation.sheetOutcome z text')) e) ∙ ap tellBook says
 
-  pub told-given : (n : ℕ) → x ≡ gave.Given n → said (Sheet n) text' ≡ tellOf true book text
+  pub told-given : (n : ℕ) → x ≡ gave.Given n → tellSaid (Sheet n) text' ≡ tellOf true book text
   unfolding tellBook
   told-given n e = answered (gave.Given n) e
 
   pub told-refused : (q : Refusal) → x ≡ gave.Refused q → (r : Told) → r ≡ refusedAs (q .number) (q .place)
-      → said r text' ≡ tellOf true book text
+      → tellSaid r text' ≡ tellOf true book text
   unfolding tellBook
-  told-refused q e r h = ap (λ (y : Told). said y text') h ∙ answered (gave.Refused q) e
+  told-refused q e r h = ap (λ (y : Told). tellSaid y text') h ∙ answered (gave.Refused q) e
 
 -- ---- by whether the book was read whole
 
@@ -53,7 +53,7 @@ pub tell-whole : (last : Bool) → last ≡ true → (s text : List ℕ) (o : Te
     → o ≡ tellOf last s text
 tell-whole last e s text o h = h ∙ ap (λ (x : Bool). tellOf x s text) (sym e)
 
-pub tell-long : (last : Bool) → last ≡ false → (s text : List ℕ) → said TooLong text ≡ tellOf last s text
+pub tell-long : (last : Bool) → last ≡ false → (s text : List ℕ) → tellSaid TooLong text ≡ tellOf last s text
 unfolding tellOf
 tell-long last e s text = ap (λ (x : Bool). tellOf x s text) (sym e)
 
@@ -104,7 +104,7 @@ as-long (BadRecord i) text text' e h = tt
 as-long TotalOver text text' e h = tt
 as-long TooLong text text' e h = tt
 
-pub tell-fits : (r : Told) (text' : List ℕ) (last : Bool) (s text : List ℕ) → said r text' ≡ tellOf last s text
+pub tell-fits : (r : Told) (text' : List ℕ) (last : Bool) (s text : List ℕ) → tellSaid r text' ≡ tellOf last s text
     → length text' ≡ length text → Fits r text'
 tell-fits r text' last s text h e =
     let told = ap (λ (o : TellOutcome). o .told) h in

@@ -1,8 +1,8 @@
 -- What resolving a closed term gives: terms that hold together just what the term holds.
---     any-pairs, all-pairs    a rule of pairs, from a rule of each side
---     Resolved, Into, Has     STOP, prefixes and parallels of these; it holds no more than; it holds a trace
---     resolve-into, resolve-out    each resolved term holds only what the term does; each trace of it is one's
---     resolve-resolved, resolve-formed    they are resolved, and well formed where the term is
+--     any-pairs, all-pairs              a rule of pairs, from a rule of each side
+--     Resolved, Into, Has               STOP, prefixes and parallels of these; it holds no more than; it holds a trace
+--     closed-into, closed-out           each resolved term holds only what the term does; each trace of it is one's
+--     closed-resolved, closed-formed    they are resolved, and well formed where the term is
 -- Assumes nothing.
 use Prim.Native.Nat.{ℕ, zero, suc, _<_, _≤_}
 use native.Mathlib.Omega.{arith}
@@ -15,7 +15,7 @@ use Rattle.table.specs.Table.{Table}
 use Rattle.meaning.specs.Figure1.{SetRef, Term, stop, fail, prefix, choice, par, call, body}
 use Rattle.meaning.specs.Figure1.{Guarded, GuardedTable, WellFormed, bodyCount}
 use Rattle.meaning.specs.Holds.{Holds, h-stop, h-wait, h-left, h-right, m-none, h-par, h-call}
-use Rattle.meaning.specs.ClosedResiduals.{pairs, resolveWith, resolveCall, resolve}
+use Rattle.meaning.specs.ClosedResiduals.{pairs, resolveWith, resolveCall, resolveClosed}
 
 -- ---- pairs
 
@@ -79,9 +79,9 @@ module _ (t : Table) where
   call-resolved zero d = tt
   call-resolved (suc n) d = with-resolved (resolveCall t n) (call-resolved n) (body t d)
 
-  pub resolve-resolved : (P : Term) → All Resolved (resolve t P)
-  unfolding resolve
-  resolve-resolved P = with-resolved (resolveCall t (bodyCount t)) (call-resolved (bodyCount t)) P
+  pub closed-resolved : (P : Term) → All Resolved (resolveClosed t P)
+  unfolding resolveClosed
+  closed-resolved P = with-resolved (resolveCall t (bodyCount t)) (call-resolved (bodyCount t)) P
 
   pub resolved-holds : (R : Term) → Resolved R → Holds t R []
   resolved-holds stop h = h-stop
@@ -119,9 +119,9 @@ module _ (t : Table) where
   call-into zero d = tt
   call-into (suc n) d = with-into (resolveCall t n) (call-into n) (body t d)
 
-  pub resolve-into : (P : Term) → All (Into P) (resolve t P)
-  unfolding resolve
-  resolve-into P = with-into (resolveCall t (bodyCount t)) (call-into (bodyCount t)) P
+  pub closed-into : (P : Term) → All (Into P) (resolveClosed t P)
+  unfolding resolveClosed
+  closed-into P = with-into (resolveCall t (bodyCount t)) (call-into (bodyCount t)) P
 
   -- ---- each trace of the term is a resolved term's
 
@@ -154,9 +154,9 @@ module _ (t : Table) where
         with-out (bodyCount t) c (resolveCall t n) (λ c′ h′. call-out n (omega arith) c′ (omega arith)) (body t c)
         (w .bodies c (omega arith)) s k
 
-    pub resolve-out : (P : Term) → WellFormed t P → (s : List ℕ) → Holds t P s → Any (Has s) (resolve t P)
-    unfolding resolve
-    resolve-out P g s h =
+    pub closed-out : (P : Term) → WellFormed t P → (s : List ℕ) → Holds t P s → Any (Has s) (resolveClosed t P)
+    unfolding resolveClosed
+    closed-out P g s h =
         with-out (bodyCount t) (bodyCount t) (resolveCall t (bodyCount t)) (call-out (bodyCount t) (omega arith)) P g s
         h
 
@@ -167,8 +167,8 @@ module _ (t : Table) where
         with-formed (bodyCount t) c (omega arith) (resolveCall t n)
         (λ c′ h′. call-formed n (omega arith) c′ (omega arith)) (body t c) (w .bodies c (omega arith))
 
-    pub resolve-formed : (P : Term) → WellFormed t P → All (WellFormed t) (resolve t P)
-    unfolding resolve
-    resolve-formed P g =
+    pub closed-formed : (P : Term) → WellFormed t P → All (WellFormed t) (resolveClosed t P)
+    unfolding resolveClosed
+    closed-formed P g =
         with-formed (bodyCount t) (bodyCount t) (omega arith) (resolveCall t (bodyCount t))
         (call-formed (bodyCount t) (omega arith)) P g

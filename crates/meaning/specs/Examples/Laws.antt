@@ -33,7 +33,8 @@ use Rattle.meaning.specs.Figure1.{plainRef, plain, body, bodyCount, last
 use Rattle.meaning.specs.Theorem3.{theorem3}
 use Rattle.meaning.specs.Models.{holds-only}
 use Rattle.meaning.specs.ClosedResiduals as C
-use Rattle.meaning.specs.ClosedResiduals.{pairs, resolveWith, resolveCall, resolve, afterEvent, run, residuals}
+use Rattle.meaning.specs.ClosedResiduals.{pairs, resolveWith, resolveCall, resolveClosed, afterEvent, run}
+use Rattle.meaning.specs.ClosedResiduals.{residuals}
 use Rattle.meaning.specs.ClosedResidualsHold.{residuals-hold}
 use Rattle.meaning.specs.Doom.{onlyFail}
 use Rattle.meaning.specs.Examples.{tableOf, Row, Meant, EachMeant, no-row, one-row, tableB, rows}
@@ -103,7 +104,7 @@ all-judged = (refl, refl, refl)
 
 rows-left : map left rows ≡ map (λ r. r .held) rows
 unfolding tableOf tableB bodyCount body bodyOf plain plainRef member rowIn elem sub subSet subArg
-    residuals run afterEvent resolve resolveCall resolveWith pairs flatMap
+    residuals run afterEvent resolveClosed resolveCall resolveWith pairs flatMap
 rows-left = refl
 
 pub rows-meant : EachMeant rows

@@ -154,12 +154,12 @@ module _ (t : Table) where
 
   -- ---- both
 
-  kept-more : (j k : ℕ) → j ≤ k → (rs : List Residual) → All (Fitting t j) rs → All (Fitting t k) rs
-  kept-more j k h rs a = all-imp (Fitting t j) (Fitting t k) (λ r x. let y = x .1 in (x .0, omega arith)) rs a
+  fitting-more : (j k : ℕ) → j ≤ k → (rs : List Residual) → All (Fitting t j) rs → All (Fitting t k) rs
+  fitting-more j k h rs a = all-imp (Fitting t j) (Fitting t k) (λ r x. let y = x .1 in (x .0, omega arith)) rs a
 
-  pair-kept : {h c n : ℕ} {x : Term} (m : Memory) → Stands (t .definitions) h c n x → Remembers (t .alphabet) c m
+  pair-fitting : {h c n : ℕ} {x : Term} (m : Memory) → Stands (t .definitions) h c n x → Remembers (t .alphabet) c m
       → (j k : ℕ) (l r : Residual) → Fitting t j l → Fitting t k r → Fitting t (j + k) (pair n m l r)
-  pair-kept {n = n} m s f j k l r a b =
+  pair-fitting {n = n} m s f j k l r a b =
       ((rw (around-number t s) f, a .0, b .0), pair-within n m j k l r (a .1) (b .1))
 
   module _ (regular : Regular t) where
@@ -187,18 +187,18 @@ module _ (t : Table) where
         rw (resolve-at t n m p (at-number t s))
         (resolveIn-reach (resolveDef t (bodyCount t)) (resolveDef-reach (bodyCount t)) p m s)
 
-    pub resolve-kept : (n : ℕ) (m : Memory) (p : Term) {h c : ℕ} → Stands (t .definitions) h c n p
+    pub resolve-fitting : (n : ℕ) (m : Memory) (p : Term) {h c : ℕ} → Stands (t .definitions) h c n p
         → Remembers (t .alphabet) c m → All (Fitting t (reach t p)) (resolve t n m)
-    resolve-kept n m p s g =
+    resolve-fitting n m p s g =
         all-and (Fits t) (Within (reach t p)) (resolve t n m)
         (rw (resolve-at t n m p (at-number t s))
         (resolveIn-fits (resolveDef t (bodyCount t)) (resolveDef-fits (bodyCount t)) p m s g))
         (resolve-reach n m p s)
 
-    choose-kept : (b : Bool) (k : ℕ) (l r : List Residual) → All (Fitting t k) l → All (Fitting t k) r
+    choose-fitting : (b : Bool) (k : ℕ) (l r : List Residual) → All (Fitting t k) l → All (Fitting t k) r
         → All (Fitting t k) (elim b [ true ↦ l | false ↦ r ])
-    choose-kept true k l r h j = h
-    choose-kept false k l r h j = j
+    choose-fitting true k l r h j = h
+    choose-fitting false k l r h j = j
 
     module _ (e : ℕ) (small : e < t .alphabet) where
       leaf-after : (n : ℕ) (m : Memory) (x : Term) → termAt t n ≡ some x → Remembers (t .alphabet) (enclosing t n) m
@@ -208,8 +208,8 @@ module _ (t : Table) where
       leaf-after n m fail h g = tt
       leaf-after n m (prefix r p) h g =
           let s = number-at t n (prefix r p) h .stands in
-          choose-kept (member t r m e) (reach t p) (resolve t (suc n) (remember e m)) []
-          (resolve-kept (suc n) (remember e m) p (follower-stands s)
+          choose-fitting (member t r m e) (reach t p) (resolve t (suc n) (remember e m)) []
+          (resolve-fitting (suc n) (remember e m) p (follower-stands s)
           (remember-remembers (t .alphabet) _ e m small (rw (around-number t s) at g))) tt
       leaf-after n m (choice p q) h g = tt
       leaf-after n m (par r p q) h g = tt
@@ -231,8 +231,8 @@ module _ (t : Table) where
           let y : ℕ = reachSum t r in
           let st = number-at t n (par s p q) h .stands in
           let f : (l′ r′ : Residual) → Fitting t x l′ → Fitting t y r′ → Fitting t (x + y) (pair n m l′ r′) =
-          pair-kept m st (rw (around-number t st) at g) x y in
-          choose-kept
+          pair-fitting m st (rw (around-number t st) at g) x y in
+          choose-fitting
           (member t s m e)
           (x + y)
           (pairs n m ls rs)
@@ -246,18 +246,18 @@ module _ (t : Table) where
           (all-pairs n m (Fitting t x) (Fitting t y) (Fitting t (x + y)) f (l ∷ []) rs ((i, omega arith), tt) b))
       pair-after n m l r (call d) h g i j a b = tt
 
-      pub after-kept : (R : Residual) → Sound t R → Fits t R → All (Fitting t (reachSum t R)) (after t e R)
+      pub after-fitting : (R : Residual) → Sound t R → Fits t R → All (Fitting t (reachSum t R)) (after t e R)
       unfolding reachSum
-      after-kept (leaf n m) (x, h, i) g =
+      after-fitting (leaf n m) (x, h, i) g =
           rw (after-leaf-at t regular e n m x h, reachAt-at n x h) (leaf-after n m x h g)
-      after-kept (pair n m l r) (x, h, i, a, b) (g, c, d) =
+      after-fitting (pair n m l r) (x, h, i, a, b) (g, c, d) =
           rw (after-pair-at t regular e n m l r x h)
-          (pair-after n m l r x h g c d (after-kept l a c) (after-kept r b d))
+          (pair-after n m l r x h g c d (after-fitting l a c) (after-fitting r b d))
 
       after-proper : (R : Residual) → Proper t R → All (Proper t) (after t e R)
       after-proper R (s, (f, k)) =
           all-and (Sound t) (Fitting t 8) (after t e R) (after-sound t regular e R s)
-          (kept-more (reachSum t R) 8 k (after t e R) (after-kept R s f))
+          (fitting-more (reachSum t R) 8 k (after t e R) (after-fitting R s f))
 
       pub afterAll-proper : (rs : List Residual) → All (Proper t) rs → All (Proper t) (afterAll t e rs)
       unfolding afterAll

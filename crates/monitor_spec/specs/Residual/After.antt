@@ -58,8 +58,8 @@ module _ (t : Table) where
     after-pair-at e n m l r x h = rw (h, after)
 
     resolve-denote : (n : ℕ) (m : Memory) (p : Table.Term) {h c : ℕ} → Stands (t .definitions) h c n p
-        → map (denote t) (resolve t n m) ≡ C.resolve t (close 0 m p)
-    unfolding C.resolve
+        → map (denote t) (resolve t n m) ≡ C.resolveClosed t (close 0 m p)
+    unfolding C.resolveClosed
     resolve-denote n m p s =
         let (b, i) = number-scoped t regular s in
         ap (map (denote t)) (resolve-at t n m p (at-number t s))
@@ -85,9 +85,9 @@ module _ (t : Table) where
         e
         (resolve t (suc n) (remember e m))
         []
-        (C.resolve t (sub 0 e (close 1 m p)))
+        (C.resolveClosed t (sub 0 e (close 1 m p)))
         []
-        (resolve-denote (suc n) (remember e m) p s ∙ ap (C.resolve t) (sym (close-sub 0 e m c p k)))
+        (resolve-denote (suc n) (remember e m) p s ∙ ap (C.resolveClosed t) (sym (close-sub 0 e m c p k)))
         refl
     leaf-denote e n m (Table.choice p q) h i = absurd i
     leaf-denote e n m (Table.par r p q) h i = absurd i

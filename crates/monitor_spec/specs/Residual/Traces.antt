@@ -99,7 +99,7 @@ module _ (t : Table) where
           )
 
       pub traces-definition : (d : ℕ) → d < bodyCount t → (s : List ℕ) → H (call d) s ↔ Some (fromDefinition t d s)
-      unfolding fromDefinition C.residuals C.resolve C.resolveWith
+      unfolding fromDefinition C.residuals C.resolveClosed C.resolveWith
       traces-definition d l s =
           let h = resolveDef-sound t regular (bodyCount t) d in
           let a = holds-only t H model (regular .guarded) (call d) l s in

@@ -1,12 +1,14 @@
 -- How far a scan goes, whatever the bytes are: it takes one byte or more of those there, and leaves the rest.
 --     Extent         what n bytes taken and a rest are to the bytes scanned
 --     scan-extent    the extent of a number that was read
+--     NumberAt       a number stands at a position of some bytes;  scan-at: it does where a scan found it
 -- Not here: what the number is, `Number/Groups.antt`. Assumes nothing.
-use Prim.Native.Nat.{ℕ, zero, suc, _-_, _≤_}
+use Prim.Native.Nat.{ℕ, zero, suc, _+_, _-_, _≤_, _<_}
 use native.Mathlib.Omega.{arith}
-use mathlib.Core.Path.{_≡_, refl, subst}
+use mathlib.Core.Path.{_≡_, refl, ap, sym, _∙_, subst}
 use mathlib.Core.List.{List, [], _∷_}
-use lib.ListN.{length, drop}
+use lib.ListN.{length, drop, length-drop}
+use lib.Seq.{drop-drop}
 use lib.Dec.{ltb, leb, eqb}
 use Rattle.numbers.specs.Choice.{cond-cases}
 use Rattle.numbers.specs.Number.{Scan, value, truncated, malformed, carry, later, scanWith}
@@ -54,3 +56,35 @@ scan-extends (suc k) top (a ∷ s) =
 pub scan-extent : (more top : ℕ) (s : List ℕ) (v n : ℕ) (rest : List ℕ)
     → scanWith more top s ≡ value v n rest → Extent s n rest
 scan-extent more top s v n rest e = subst (Extends s) e (scan-extends more top s)
+
+-- ---- at a position
+-- the number v stands at a position of l, and q is the position after it
+pub record NumberAt (read : List ℕ → Scan) (l : List ℕ) (at v q : ℕ) : Type 0 where
+  pub scan : read (drop at l) ≡ value v (q - at) (drop q l)
+  pub after : at < q
+  pub within : q ≤ length l
+
+-- x is a scan at a position, and found v before the position q
+pub record Found (at v q : ℕ) (x : Scan) : Type 0 where
+  pub n : ℕ
+  pub rest : List ℕ
+  pub scan : x ≡ value v n rest
+  pub next : q ≡ at + n
+
+scan-path : (v n m : ℕ) (s t : List ℕ) → n ≡ m → s ≡ t → value v n s ≡ value v m t
+scan-path v n m s t p q = cc
+
+pub scan-at : (more top : ℕ) (l : List ℕ) (at v q : ℕ) → Found at v q (scanWith more top (drop at l))
+    → NumberAt (scanWith more top) l at v q
+scan-at more top l at v q f =
+    let k : q ≡ at + f .n = f .next in
+    let h = scan-extent more top (drop at l) v (f .n) (f .rest) (f .scan) in
+    let some : 1 ≤ f .n = h .some in
+    let within : f .n ≤ length l - at = subst (λ (m : ℕ). f .n ≤ m) (length-drop at l) (h .within) in
+    record {
+      scan =
+          f .scan
+          ∙ scan-path _ _ _ _ _ (omega arith) (h .left ∙ drop-drop (f .n) at l ∙ ap (λ (i : ℕ). drop i l) (sym k));
+      after = omega arith;
+      within = omega arith;
+    }

@@ -3,38 +3,25 @@
 --     number-3, number-4                            01's numbers of readAt's answers, by the bytes at the position
 --     next-stored, full-kept                        each answer of endAt, with the bytes after it
 -- Not here: the same by the cases of the code, `Position/Reads.antt` and `Position/Writes.antt`. Assumes nothing.
-use Prim.Native.Nat.{ℕ, zero, suc, _+_, _-_, _≤_, _<_}
+use Prim.Native.Nat.{ℕ, zero, suc, _+_, _≤_, _<_}
 use native.Mathlib.Omega.{arith}
-use mathlib.Core.Path.{_≡_, refl, ap, sym, _∙_, subst}
+use mathlib.Core.Path.{_≡_, refl}
 use mathlib.Core.Bool.{Bool, true, false, cond}
 use mathlib.Core.Logic.{_↔_}
 use mathlib.Core.List.{List, [], _∷_, _++_}
-use lib.ListN.{length, take, drop, length-drop}
-use lib.Seq.{drop-drop}
+use lib.ListN.{length, take, drop}
 use lib.Dec.{leb}
 use borrow.Author.Tests.{leb-true, leb-false}
 use Rattle.numbers.specs.declared.Reading.the-variants.{Value, Truncated, Malformed}
 use Rattle.numbers.specs.declared.Written.the-variants.{Next, Full}
 use Rattle.numbers.specs.Number.{Bytes, bytesOf, Scan, value, truncated, malformed, readNumber}
 use Rattle.numbers.specs.Number.{Incomplete, IllWritten}
-use Rattle.numbers.specs.Number.Extent.{scan-extent}
+use Rattle.numbers.specs.Number.Extent.{Found, NumberAt, scan-at}
 use Rattle.numbers.specs.Number.Unread.{read-truncated, incomplete-read, read-malformed, ill-written-read}
 use Rattle.numbers.specs.Position.{found, refusalNumber, readAt, endAt, storedAt}
 
 -- ---- readAt
--- the number v stands at a position of l, and q is the position after it
-pub record Stands (l : List ℕ) (at v q : ℕ) : Type 0 where
-  pub scan : readNumber (drop at l) ≡ value v (q - at) (drop q l)
-  pub after : at < q
-  pub within : q ≤ length l
-
 -- each answer, over every scan x of the bytes at the position
-record Found (at v q : ℕ) (x : Scan) : Type 0 where
-  n : ℕ
-  rest : List ℕ
-  scan : x ≡ value v n rest
-  next : q ≡ at + n
-
 value-found : (at v q : ℕ) (x : Scan) → Value v q ≡ found at x → Found at v q x
 unfolding found
 value-found at v q (value w n rest) e = record { n = n; rest = rest; scan = cc; next = cc }
@@ -53,24 +40,9 @@ malformed-found at (value w n rest) e = let z : _≡_ {A = ℕ} 0 1 = cc in absu
 malformed-found at truncated e = let z : _≡_ {A = ℕ} 0 1 = cc in absurd (omega arith)
 malformed-found at malformed e = refl
 
-scan-path : (v n m : ℕ) (s t : List ℕ) → n ≡ m → s ≡ t → value v n s ≡ value v m t
-scan-path v n m s t p q = cc
-
-pub value-read : (l : List ℕ) (at v q : ℕ) → Value v q ≡ readAt l at → Stands l at v q
+pub value-read : (l : List ℕ) (at v q : ℕ) → Value v q ≡ readAt l at → NumberAt readNumber l at v q
 unfolding readAt readNumber
-value-read l at v q e =
-    let f = value-found at v q (readNumber (drop at l)) e in
-    let k : q ≡ at + f .n = f .next in
-    let h = scan-extent 2 3 (drop at l) v (f .n) (f .rest) (f .scan) in
-    let some : 1 ≤ f .n = h .some in
-    let within : f .n ≤ length l - at = subst (λ (m : ℕ). f .n ≤ m) (length-drop at l) (h .within) in
-    record {
-      scan =
-          f .scan
-          ∙ scan-path _ _ _ _ _ (omega arith) (h .left ∙ drop-drop (f .n) at l ∙ ap (λ (i : ℕ). drop i l) (sym k));
-      after = omega arith;
-      within = omega arith;
-    }
+value-read l at v q e = scan-at 2 3 l at v q (value-found at v q (readNumber (drop at l)) e)
 
 pub truncated-read : (l : List ℕ) (at : ℕ) → Truncated ≡ readAt l at → readNumber (drop at l) ≡ truncated
 unfolding readAt

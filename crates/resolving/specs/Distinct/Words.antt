@@ -13,7 +13,7 @@ use mathlib.Core.List.{List, _∷_, _++_, append-assoc}
 use lib.ListN.{length, getD, take, drop, length-append, List·getD-append, drop-of-length-le}
 use lib.Seq.{drop-cons, getD-take, take-all, ext-getD, take-at, drop-at, length-take-le}
 use borrow.Author.Tests.{lt-ltb, le-ltb}
-use Rattle.slots.specs.Slots.{stored}
+use Rattle.slots.specs.Insertion.{stored}
 use Rattle.resolving.specs.Distinct.{sameWords, window, keyFrom, heldSlots}
 use Rattle.resolving.specs.Distinct.Laws.{same-true, same-cons, differ-cons, length-window, at-window}
 

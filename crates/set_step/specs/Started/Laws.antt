@@ -21,7 +21,7 @@ use Rattle.residuals.specs.Residual.{Residual, resolveDef}
 use Rattle.residuals.specs.Slots.{nodes, slotOf}
 use Rattle.slots.specs.declared.slots.Held.{Held}
 use Rattle.slots.specs.declared.slots.Held.the-variants.{Count, Exceeded}
-use Rattle.slots.specs.Holding.{leaves, putOne, putAll, Gave}
+use Rattle.slots.specs.Holding.{heldAs, putOne, putAll, Gave}
 use Rattle.slots.specs.Holding.Laws.{put-none, put-single, put-then, put-stop}
 use Rattle.resolving.specs.Lawful.{Lawful}
 use Rattle.resolving.specs.Residual.{nth, definitionInto}
@@ -71,7 +71,7 @@ module _ (t : Table) (d : ℕ) (a : ResolvesAll t d) where
 
   module _ (area : List ℕ) (c i : ℕ) (h : i < length (resolveDef t (bodyCount t) d)) (s : List ℕ)
       (es : s ≡ definitionInto t d i empty) (r : Held) (l : List ℕ) (g : Gave (putOne area c s) r l) where
-    one : leaves r l ≡ putAll area c (definitionInto t d i empty ∷ [])
+    one : heldAs r l ≡ putAll area c (definitionInto t d i empty ∷ [])
     one = g .same ∙ put-single area c s ∙ rw es
 
     pub start-next : (k : ℕ) → r ≡ Count k
@@ -82,12 +82,12 @@ module _ (t : Table) (d : ℕ) (a : ResolvesAll t d) where
       rw e at (g .fits),
     )
 
-    pub start-exceeded : r ≡ Exceeded → leaves Exceeded l ≡ putAll area c (drop i (initial t d))
+    pub start-exceeded : r ≡ Exceeded → heldAs Exceeded l ≡ putAll area c (drop i (initial t d))
     start-exceeded e =
         put-stop area c (definitionInto t d i empty ∷ []) (drop (i + 1) (initial t d)) e one ∙ rw (rest-at i h)
 
   pub start-end : (area : List ℕ) (c i : ℕ) → length (resolveDef t (bodyCount t) d) ≤ i
-      → leaves (Count c) area ≡ putAll area c (drop i (initial t d))
+      → heldAs (Count c) area ≡ putAll area c (drop i (initial t d))
   start-end area c i h =
       let z : length (initial t d) ≤ i = omega (arith, length-map (resolveDef t (bodyCount t) d) slotOf) in
       put-none area c ∙ rw (drop-of-length-le (initial t d) z)

@@ -12,7 +12,7 @@ use lib.Seq.{take-suc, take-suc-set, getD-drop}
 use Rattle.table.specs.Table.{Table}
 use Rattle.slots.specs.declared.slots.Held.{Held}
 use Rattle.slots.specs.declared.slots.Held.the-variants.{Count, Exceeded}
-use Rattle.slots.specs.Holding.{leaves, putAll}
+use Rattle.slots.specs.Holding.{heldAs, putAll}
 use Rattle.slots.specs.Holding.Laws.{put-none, put-then, put-stop}
 use Rattle.slots.specs.Canon.{SameMembers}
 use Rattle.slots.specs.Canon.Members.{same-refl, same-trans, same-append}
@@ -49,7 +49,7 @@ module _ (t : Table) (law : Lawful t) (bound e : ℕ) (src : List ℕ) (n i : �
 -- the results of the first i residuals are held
 pub record Gathering (t : Table) (e : ℕ) (src : List ℕ) (n : ℕ) (start dst : List ℕ) (c i : ℕ) : Type 0 where
   pub slots : List (List ℕ)
-  pub held : leaves (Count c) dst ≡ putAll start 0 slots
+  pub held : heldAs (Count c) dst ≡ putAll start 0 slots
   pub members : SameMembers (slots ++ gathered t e src (n - i) i) (gathered t e src n 0)
 
 pub gather-first : (t : Table) (e : ℕ) (src : List ℕ) (n : ℕ) (dst : List ℕ) → Gathering t e src n dst dst 0 0
@@ -60,7 +60,7 @@ gather-first t e src n dst =
 module _ {t : Table} {e : ℕ} {src : List ℕ} {n : ℕ} {start dst : List ℕ} {c i : ℕ}
     (g : Gathering t e src n start dst c i) where
   module _ (h : i < n) (r : Held) (l : List ℕ) (s : SteppedOne t e src i dst c r l) where
-    both-held : leaves r l ≡ putAll start 0 (g .slots ++ s .slots)
+    both-held : heldAs r l ≡ putAll start 0 (g .slots ++ s .slots)
     both-held = s .gave .same ∙ put-then {h = Count c} start 0 (g .slots) (s .slots) refl (g .held)
 
     one-more : gathered t e src (n - i) i

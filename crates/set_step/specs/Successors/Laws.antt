@@ -13,8 +13,8 @@ use Rattle.table.specs.Table.{Table}
 use Rattle.residuals.specs.Residual.{Residual, after, afterAll}
 use Rattle.residuals.specs.Slots.{nodes, slotsOf}
 use Rattle.slots.specs.declared.slots.Held.the-variants.{Count, Exceeded}
-use Rattle.slots.specs.Holding.{leaves, putAll}
-use Rattle.slots.specs.Canon.{canon, fill, Slots, SameMembers}
+use Rattle.slots.specs.Holding.{heldAs, putAll}
+use Rattle.slots.specs.Canon.{canon, fill, AllSixteen, SameMembers}
 use Rattle.slots.specs.Canon.Areas.{fill-none}
 use Rattle.slots.specs.Canon.Laws.{put-canon, put-exceeded-canon}
 use Rattle.slots.specs.Canon.Canonical.{canon-members}
@@ -110,7 +110,7 @@ module _ (t : Table) (e : ℕ) (src : List ℕ) (rs : List Residual) (h : SlotsH
     members : SameMembers xs (onto empty (map nodes (allKept t e rs)))
     members = rw (gathered-of t e src 0 (length rs) rs refl h) at m
 
-    slots : Slots xs
+    slots : AllSixteen xs
     slots = slots-in xs (onto empty (map nodes (allKept t e rs))) (all-sixteen (map nodes (allKept t e rs)))
         (members .0)
 
@@ -123,7 +123,7 @@ module _ (t : Table) (e : ℕ) (src : List ℕ) (rs : List Residual) (h : SlotsH
 
     pub stepped : length (slotsOf (afterAll t e rs)) ≤ most
         → putAll (replicate (most * 16) 0) 0 xs
-        ≡ leaves (Count (length (slotsOf (afterAll t e rs)))) (fill most (slotsOf (afterAll t e rs)))
+        ≡ heldAs (Count (length (slotsOf (afterAll t e rs)))) (fill most (slotsOf (afterAll t e rs)))
     stepped k =
         rw (← (fill-none most), ← canon-is)
         (put-canon most xs slots (rw canon-is k))

@@ -16,7 +16,7 @@ use Rattle.table.specs.Member.{member}
 use Rattle.table.specs.Node.{termOf, refOf}
 use Rattle.residuals.specs.Residual.{Residual, leaf, pair, pairs, after}
 use Rattle.residuals.specs.Slots.{nodes, slotOf}
-use Rattle.slots.specs.Canon.{Slots}
+use Rattle.slots.specs.Canon.{AllSixteen}
 use Rattle.resolving.specs.Residual.After.{after-both, after-either}
 use Rattle.resolving.specs.Residual.Pushed.{length-pushAll}
 use Rattle.resolving.specs.Distinct.{empty}
@@ -98,10 +98,10 @@ unfolding onto slotOf
 slots-written [] h = refl
 slots-written (r ∷ rs) h = ap₂ _∷_ (slot-form (nodes r) (h .0)) (slots-written rs (h .1))
 
-pub all-sixteen : (ws : List (List ℕ)) → Slots (onto empty ws)
+pub all-sixteen : (ws : List (List ℕ)) → AllSixteen (onto empty ws)
 unfolding onto
 all-sixteen [] = tt
 all-sixteen (w ∷ ws) = (length-pushAll empty w ∙ length-replicate {A = ℕ} 16 0, all-sixteen ws)
 
-pub sixteen-words : (rs : List Residual) → All (Within 15) rs → Slots (map slotOf rs)
+pub sixteen-words : (rs : List Residual) → All (Within 15) rs → AllSixteen (map slotOf rs)
 sixteen-words rs h = rw (← (slots-written rs h)) (all-sixteen (map nodes rs))

@@ -8,23 +8,23 @@ use Rattle.sheet.specs.declared.answer.Sheet.{Sheet}
 use Rattle.sheet.specs.declared.answer.Sheet.the-variants.{Given, Refused}
 use Rattle.sheet.specs.Sheet.{sheetOf}
 use Rattle.sheet.specs.Sheet as operation
-use Rattle.sheet_words.specs.Call.{Told, said, numberOf, valueOf, callOf, sheetCall}
+use Rattle.sheet_words.specs.Call.{SheetTold, sheetSaid, numberOf, valueOf, callOf, sheetCall}
 
-pub tell-given : (x : Sheet) (n : ℕ) → x ≡ Given n → Told x 0 n
+pub tell-given : (x : Sheet) (n : ℕ) → x ≡ Given n → SheetTold x 0 n
 unfolding numberOf valueOf
 tell-given x n e = rw e (record { number = refl; value = refl })
 
-pub tell-refused : (x : Sheet) (q : Refusal) → x ≡ Refused q → Told x (q .number) (q .place)
+pub tell-refused : (x : Sheet) (q : Refusal) → x ≡ Refused q → SheetTold x (q .number) (q .place)
 unfolding numberOf valueOf
 tell-refused x q e = rw e (record { number = refl; value = refl })
 
-called : (x : Sheet) (out : List ℕ) → said (numberOf x) (valueOf x) out ≡ callOf (operation.said x out)
+called : (x : Sheet) (out : List ℕ) → sheetSaid (numberOf x) (valueOf x) out ≡ callOf (operation.sheetOutcome x out)
 unfolding callOf numberOf valueOf
 called (Given n) out = refl
 called (Refused q) out = refl
 
-pub sheet-told : (x : Sheet) (n v : ℕ) (s out out₀ : List ℕ) → Told x n v
-    → operation.said x out ≡ sheetOf s out₀ → said n v out ≡ sheetCall s out₀
+pub sheet-told : (x : Sheet) (n v : ℕ) (s out out₀ : List ℕ) → SheetTold x n v
+    → operation.sheetOutcome x out ≡ sheetOf s out₀ → sheetSaid n v out ≡ sheetCall s out₀
 unfolding sheetCall
 sheet-told x n v s out out₀ t e =
     (λ i. record { number = t .number i; value = t .value i; output = out }) ∙ called x out ∙ ap callOf e

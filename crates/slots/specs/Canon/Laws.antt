@@ -14,14 +14,14 @@ use lib.Seq.{length-take-le, take-take, drop-drop, take-at, drop-at, take-append
 use lib.Dec.{ltb}
 use borrow.Author.Tests.{lt-ltb, le-ltb}
 use Rattle.numbers.specs.Every.{all-append}
-use Rattle.slots.specs.Slots.{placeIn, gapped, stored, insertAnswer, insertWords}
+use Rattle.slots.specs.Insertion.{placeIn, gapped, stored, insertAnswer, insertWords}
 use Rattle.slots.specs.declared.slots.Place.{Place}
 use Rattle.slots.specs.declared.slots.Place.the-variants as place
 use Rattle.slots.specs.declared.slots.Inserted.the-variants as ins
 use Rattle.slots.specs.declared.slots.Held.{Held}
 use Rattle.slots.specs.declared.slots.Held.the-variants.{Count, Exceeded}
-use Rattle.slots.specs.Holding.{Outcome, leaves, putOne, chain, putAll}
-use Rattle.slots.specs.Canon.{insertSorted, canon, fill, Sixteen, Slots}
+use Rattle.slots.specs.Holding.{Outcome, heldAs, putOne, chain, putAll}
+use Rattle.slots.specs.Canon.{insertSorted, canon, fill, Sixteen, AllSixteen}
 use Rattle.slots.specs.Canon.Canonical.{Ascending, in-canon, canon-ascending, canon-snoc, canon-grows}
 use Rattle.slots.specs.Canon.Members.{slots-in}
 use Rattle.slots.specs.Canon.Areas.{flatten-append, slots-append, length-flatten, length-fill}
@@ -87,7 +87,7 @@ module _ (a b s : List ℕ) (z p n : ℕ) (ep : length a ≡ p) (en : length a +
 
 -- ---- one slot
 
-module _ (most : ℕ) (xs : List (List ℕ)) (s : List ℕ) (v : Slots xs) (u : Ascending xs) (es : length s ≡ 16)
+module _ (most : ℕ) (xs : List (List ℕ)) (s : List ℕ) (v : AllSixteen xs) (u : Ascending xs) (es : length s ≡ 16)
     (h : length xs ≤ most) where
   there : placeIn (length xs) (fill most xs) s ≡ placeAmong xs s 0
   unfolding fill
@@ -97,7 +97,7 @@ module _ (most : ℕ) (xs : List (List ℕ)) (s : List ℕ) (v : Slots xs) (u : 
     d : Split xs s 0 i
     d = split-place xs s 0 i e
 
-    parts : Slots (d .a) × Slots (d .b)
+    parts : AllSixteen (d .a) × AllSixteen (d .b)
     parts = slots-append (d .a) (d .b) (rw (d .whole) at v)
 
     lengths : length xs ≡ length (d .a) + length (d .b)
@@ -138,7 +138,7 @@ module _ (most : ℕ) (xs : List (List ℕ)) (s : List ℕ) (v : Slots xs) (u : 
           ∙ sym area-after
 
       put-new-slot : putOne (fill most xs) (length xs) s
-          ≡ leaves (Count (length (insertSorted s xs))) (fill most (insertSorted s xs))
+          ≡ heldAs (Count (length (insertSorted s xs))) (fill most (insertSorted s xs))
       unfolding putOne insertAnswer insertWords
       put-new-slot =
           let f : ltb (length (fill most xs) - length xs * 16) 16
@@ -154,14 +154,14 @@ module _ (most : ℕ) (xs : List (List ℕ)) (s : List ℕ) (v : Slots xs) (u : 
         rw (there, e, f)
 
   put-held-slot : placeAmong xs s 0 ≡ place.Held → putOne (fill most xs) (length xs) s
-      ≡ leaves (Count (length (insertSorted s xs))) (fill most (insertSorted s xs))
+      ≡ heldAs (Count (length (insertSorted s xs))) (fill most (insertSorted s xs))
   unfolding putOne insertAnswer insertWords
   put-held-slot e = rw (there, e, held-same xs s 0 e)
 
   -- a slot is held, or refused exactly where the slots would be more than fit
   pub record PutSlot : Type 0 where
     pub held : length (insertSorted s xs) ≤ most → putOne (fill most xs) (length xs) s
-        ≡ leaves (Count (length (insertSorted s xs))) (fill most (insertSorted s xs))
+        ≡ heldAs (Count (length (insertSorted s xs))) (fill most (insertSorted s xs))
     pub refused : most < length (insertSorted s xs) → (putOne (fill most xs) (length xs) s) .held ≡ Exceeded
 
   by-place : (q : Place) → placeAmong xs s 0 ≡ q → PutSlot
@@ -181,13 +181,14 @@ stays : (o : Outcome) (f : List ℕ → ℕ → Outcome) → o .held ≡ Exceede
 stays o f e = rw e
 
 -- where those of l are held, s comes
-module _ (most : ℕ) (l : List (List ℕ)) (s : List ℕ) (v : Slots l) (es : length s ≡ 16) (h : length (canon l) ≤ most)
+module _ (most : ℕ) (l : List (List ℕ)) (s : List ℕ) (v : AllSixteen l) (es : length s ≡ 16)
+    (h : length (canon l) ≤ most)
   where
-    held-slots : Slots (canon l)
+    held-slots : AllSixteen (canon l)
     held-slots = slots-in (canon l) l v (λ a i. in-canon a l .0 i)
 
     next-held : length (canon (l ++ s ∷ [])) ≤ most → putOne (fill most (canon l)) (length (canon l)) s
-        ≡ leaves (Count (length (canon (l ++ s ∷ [])))) (fill most (canon (l ++ s ∷ [])))
+        ≡ heldAs (Count (length (canon (l ++ s ∷ [])))) (fill most (canon (l ++ s ∷ [])))
     next-held k =
         rw (canon-snoc l s)
         (put-slot most (canon l) s held-slots (canon-ascending l) es h .held (rw (canon-snoc l s) at k))
@@ -205,12 +206,12 @@ module _ (most : ℕ) (l : List (List ℕ)) (s : List ℕ) (v : Slots l) (es : l
     exceeded-by ss ih (yes z) = stays _ _ (next-refused z)
     exceeded-by ss ih (no z) = rw (next-held (omega arith)) (ih (omega arith))
 
-    more : Slots (l ++ s ∷ [])
+    more : AllSixteen (l ++ s ∷ [])
     more = all-append Sixteen l (s ∷ []) v (es, tt)
 
-put-from : (most : ℕ) (l ss : List (List ℕ)) → Slots l → Slots ss → length (canon l) ≤ most
+put-from : (most : ℕ) (l ss : List (List ℕ)) → AllSixteen l → AllSixteen ss → length (canon l) ≤ most
     → length (canon (l ++ ss)) ≤ most → putAll (fill most (canon l)) (length (canon l)) ss
-    ≡ leaves (Count (length (canon (l ++ ss)))) (fill most (canon (l ++ ss)))
+    ≡ heldAs (Count (length (canon (l ++ ss)))) (fill most (canon (l ++ ss)))
 unfolding putAll
 put-from most l [] v w h k = rw (append-nil l)
 put-from most l (s ∷ ss) v w h k =
@@ -220,7 +221,7 @@ put-from most l (s ∷ ss) v w h k =
     rw (next-held most l s v (w .0) h g, ← e)
     (put-from most (l ++ s ∷ []) ss (more most l s v (w .0) h) (w .1) g k')
 
-exceeded-from : (most : ℕ) (l ss : List (List ℕ)) → Slots l → Slots ss → length (canon l) ≤ most
+exceeded-from : (most : ℕ) (l ss : List (List ℕ)) → AllSixteen l → AllSixteen ss → length (canon l) ≤ most
     → most < length (canon (l ++ ss)) → (putAll (fill most (canon l)) (length (canon l)) ss) .held ≡ Exceeded
 unfolding putAll
 exceeded-from most l [] v w h k = absurd (omega (arith, ap (λ (a : List (List ℕ)). length (canon a)) (append-nil l)))
@@ -232,12 +233,12 @@ exceeded-from most l (s ∷ ss) v w h k =
 
 -- holding slots in an area of none gives the ascending slots without repeats; it is exceeded exactly where these are
 -- more than fit
-pub put-canon : (most : ℕ) (ss : List (List ℕ)) → Slots ss → length (canon ss) ≤ most
-    → putAll (fill most []) 0 ss ≡ leaves (Count (length (canon ss))) (fill most (canon ss))
+pub put-canon : (most : ℕ) (ss : List (List ℕ)) → AllSixteen ss → length (canon ss) ≤ most
+    → putAll (fill most []) 0 ss ≡ heldAs (Count (length (canon ss))) (fill most (canon ss))
 unfolding canon
 put-canon most ss w k = put-from most [] ss tt w (omega arith) k
 
-pub put-exceeded-canon : (most : ℕ) (ss : List (List ℕ)) → Slots ss → most < length (canon ss)
+pub put-exceeded-canon : (most : ℕ) (ss : List (List ℕ)) → AllSixteen ss → most < length (canon ss)
     → (putAll (fill most []) 0 ss) .held ≡ Exceeded
 unfolding canon
 put-exceeded-canon most ss w k = exceeded-from most [] ss tt w (omega arith) k

@@ -13,11 +13,11 @@ use lib.ListN.{length, getD, length-append, List·getD-append}
 use lib.Seq.{getD-append-add}
 use lib.Dec.{ltb}
 use Rattle.numbers.specs.Every.{All}
-use Rattle.slots.specs.Canon.{Order, below, same, above, compareWords, insertSorted, Slots}
+use Rattle.slots.specs.Canon.{Order, below, same, above, compareWords, insertSorted, AllSixteen}
 use Rattle.slots.specs.Canon.Comparison.{Less, above-less, less-trans, less-above}
 use Rattle.slots.specs.Canon.Canonical.{Ascending, insert-below, insert-same, insert-above}
-use Rattle.slots.specs.Slots.{order, seek, placeBy, isAbove, placeIn}
-use Rattle.slots.specs.Slots.Narrow.{Ascends, above-of, place-seek}
+use Rattle.slots.specs.Insertion.{order, seek, placeBy, isAbove, placeIn}
+use Rattle.slots.specs.Insertion.Narrow.{Ascends, above-of, place-seek}
 use Rattle.slots.specs.declared.slots.Place.{Place}
 use Rattle.slots.specs.declared.slots.Place.the-variants as place
 
@@ -72,7 +72,7 @@ order-first y ys pre zs s i h w es =
     ∙ List·getD-append y (flatten ys ++ zs) 0 k (omega arith))
     (λ k l. let z : 0 + k ≡ k = omega arith in ap (λ (j : ℕ). getD s j 0) z)
 
-seek-in : (ys : List (List ℕ)) (pre zs s : List ℕ) (i : ℕ) → length pre ≡ i * 16 → Slots ys → length s ≡ 16
+seek-in : (ys : List (List ℕ)) (pre zs s : List ℕ) (i : ℕ) → length pre ≡ i * 16 → AllSixteen ys → length s ≡ 16
     → seek (length ys) (pre ++ (flatten ys ++ zs)) s i ≡ placeAmong ys s i
 unfolding seek placeAmong
 seek-in [] pre zs s i h v es = refl
@@ -138,7 +138,7 @@ held-same (y ∷ ys) s i e = held-by (compareWords s y) y ys s i refl e (held-sa
 abbrev slotAt : List (List ℕ) → ℕ → List ℕ
 slotAt ys i = getD ys i []
 
-order-at : (ys : List (List ℕ)) (pre zs s : List ℕ) (k i : ℕ) → length pre ≡ k * 16 → Slots ys → length s ≡ 16
+order-at : (ys : List (List ℕ)) (pre zs s : List ℕ) (k i : ℕ) → length pre ≡ k * 16 → AllSixteen ys → length s ≡ 16
     → i < length ys → order 16 (pre ++ (flatten ys ++ zs)) ((k + i) * 16) s 0 ≡ compareWords s (slotAt ys i)
 order-at [] pre zs s k i h v es l = absurd (omega arith)
 order-at (y ∷ ys) pre zs s k zero h v es l =
@@ -166,7 +166,7 @@ above-earlier (y ∷ ys) s zero (suc j) u h l e =
 above-earlier (y ∷ ys) s (suc i) zero u h l e = absurd (omega arith)
 above-earlier (y ∷ ys) s (suc i) (suc j) u h l e = above-earlier ys s i j (u .1) (omega arith) (omega arith) e
 
-module _ (s : List ℕ) (es : length s ≡ 16) (xs : List (List ℕ)) (zs : List ℕ) (v : Slots xs) where
+module _ (s : List ℕ) (es : length s ≡ 16) (xs : List (List ℕ)) (zs : List ℕ) (v : AllSixteen xs) where
   order-of : (i : ℕ) → i < length xs → order 16 (flatten xs ++ zs) (i * 16) s 0 ≡ compareWords s (slotAt xs i)
   order-of i h =
       let z : i * 16 ≡ (0 + i) * 16 = omega arith in

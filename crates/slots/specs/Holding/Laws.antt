@@ -10,20 +10,20 @@ use mathlib.Core.Bool.{Bool, true, false}
 use mathlib.Core.List.{List, [], _∷_, _++_}
 use lib.ListN.{length}
 use borrow.Author.Tests.{ltb-false}
-use Rattle.slots.specs.Slots.{insertAnswer, insertWords, answerBy, placeIn}
+use Rattle.slots.specs.Insertion.{insertAnswer, insertWords, answerBy, placeIn}
 use Rattle.slots.specs.declared.slots.Inserted.{Inserted}
 use Rattle.slots.specs.declared.slots.Inserted.the-variants as ins
 use Rattle.slots.specs.declared.slots.Held.{Held}
 use Rattle.slots.specs.declared.slots.Held.the-variants.{Count, Exceeded}
-use Rattle.slots.specs.Holding.{Outcome, leaves, putOne, chain, putAll, Gave}
+use Rattle.slots.specs.Holding.{Outcome, heldAs, putOne, chain, putAll, Gave}
 use Rattle.slots.specs.declared.slots.Place.{Place}
 use Rattle.slots.specs.declared.slots.Place.the-variants as place
 
-chain-end : (h : Held) (l : List ℕ) → chain h l (λ l' c'. leaves (Count c') l') ≡ leaves h l
+chain-end : (h : Held) (l : List ℕ) → chain h l (λ l' c'. heldAs (Count c') l') ≡ heldAs h l
 chain-end (Count c) l = refl
 chain-end Exceeded l = refl
 
-pub put-none : (l : List ℕ) (c : ℕ) → leaves (Count c) l ≡ putAll l c []
+pub put-none : (l : List ℕ) (c : ℕ) → heldAs (Count c) l ≡ putAll l c []
 unfolding putAll
 put-none l c = refl
 
@@ -53,11 +53,11 @@ put-append l c (x ∷ xs) ys =
 
 -- after one list comes the other; nothing comes once there is no room
 pub put-then : {h : Held} {l' : List ℕ} {c' : ℕ} (l : List ℕ) (c : ℕ) (xs ys : List (List ℕ)) → h ≡ Count c'
-    → leaves h l' ≡ putAll l c xs → putAll l' c' ys ≡ putAll l c (xs ++ ys)
+    → heldAs h l' ≡ putAll l c xs → putAll l' c' ys ≡ putAll l c (xs ++ ys)
 put-then l c xs ys e s = sym (put-append l c xs ys ∙ rw (← s, e))
 
-pub put-stop : {h : Held} {l' : List ℕ} (l : List ℕ) (c : ℕ) (xs ys : List (List ℕ)) → h ≡ Exceeded → leaves h l'
-    ≡ putAll l c xs → leaves Exceeded l' ≡ putAll l c (xs ++ ys)
+pub put-stop : {h : Held} {l' : List ℕ} (l : List ℕ) (c : ℕ) (xs ys : List (List ℕ)) → h ≡ Exceeded → heldAs h l'
+    ≡ putAll l c xs → heldAs Exceeded l' ≡ putAll l c (xs ++ ys)
 put-stop l c xs ys e s = sym (put-append l c xs ys ∙ rw (← s, e))
 
 -- ---- one slot, by the answer of insertion

@@ -12,7 +12,7 @@ use Rattle.table_index.specs.Index.{tableIn, Indexed}
 use Rattle.index.specs.Facts.{reach-is}
 use Rattle.state.specs.declared.valid.Forest.{Forest}
 use Rattle.state.specs.declared.valid.Forest.the-variants.{Trees}
-use Rattle.state.specs.Walk.{Few, planted, walked}
+use Rattle.state.specs.Walk.{Few, planted, plantedAll}
 use Rattle.state.specs.Walk.Laws.{few-more, few-planted}
 
 pub reach-few : {l w : List ℕ} → Indexed l w → (k : ℕ) → k < termCount (tableIn l)
@@ -22,7 +22,7 @@ reach-few x k h = let (e, b) = reach-is x k h in subst (λ (i : ℕ). i ≤ 8) e
 -- the forest f is that of the words from i on, of the first n
 pub record Head (t : Table) (s : List ℕ) (n : ℕ) (f : Forest) (i : ℕ) : Type 0 where
   pub at-most : i ≤ n
-  pub spells : f ≡ walked t (drop i (take n (drop 1 s)))
+  pub spells : f ≡ plantedAll t (drop i (take n (drop 1 s)))
   pub few : Few f (n - i)
 
 module _ (t : Table) (s : List ℕ) (n : ℕ) (l : length s ≡ 16) (m : n ≤ 15) where
@@ -33,10 +33,10 @@ module _ (t : Table) (s : List ℕ) (n : ℕ) (l : length s ≡ 16) (m : n ≤ 1
   words-length = length-take-le n (drop 1 s) (omega (arith, length-drop 1 s))
 
   pub head-first : Head t s n (Trees 0 0) n
-  unfolding walked
+  unfolding plantedAll
   head-first = record {
     at-most = omega arith;
-    spells = ap (walked t) (sym (drop-of-length-le words {i = n} (omega (arith, words-length))));
+    spells = ap (plantedAll t) (sym (drop-of-length-le words {i = n} (omega (arith, words-length))));
     few = (omega arith, omega arith);
   }
 
@@ -48,12 +48,12 @@ module _ (t : Table) (s : List ℕ) (n : ℕ) (l : length s ≡ 16) (m : n ≤ 1
       let e : 1 + j ≡ suc j = omega arith in
       getD-take n (drop 1 s) j 0 h ∙ getD-drop 1 s j 0 ∙ ap (λ (k : ℕ). getD s k 0) e
 
-  turn : (f : Forest) (j : ℕ) → j < n → f ≡ walked t (drop (suc j) words)
-      → planted t (getD s (suc j) 0) f ≡ walked t (drop j words)
-  unfolding walked
+  turn : (f : Forest) (j : ℕ) → j < n → f ≡ plantedAll t (drop (suc j) words)
+      → planted t (getD s (suc j) 0) f ≡ plantedAll t (drop j words)
+  unfolding plantedAll
   turn f j h e =
       ap₂ (planted t) (sym (word-at j h)) e
-      ∙ ap (walked t) (sym (drop-cons words j 0 (omega (arith, words-length))))
+      ∙ ap (plantedAll t) (sym (drop-cons words j 0 (omega (arith, words-length))))
 
   pub head-next : ((k : ℕ) → k < termCount t → reach t (nodeTerm t k) ≤ 8) → (f g : Forest) (i : ℕ) → 0 < i
       → Head t s n f i → g ≡ planted t (getD s i 0) f → Head t s n g (i - 1)
@@ -66,11 +66,11 @@ module _ (t : Table) (s : List ℕ) (n : ℕ) (l : length s ≡ 16) (m : n ≤ 1
         spells =
             e ∙ ap (λ (k : ℕ). planted t (getD s k 0) f) q
             ∙ turn f j (omega (arith, x .at-most))
-            (x .spells ∙ ap (λ (k : ℕ). walked t (drop k words)) q);
+            (x .spells ∙ ap (λ (k : ℕ). plantedAll t (drop k words)) q);
         few =
             subst (λ (k : ℕ). Few g k) b
             (subst (λ (y : Forest). Few y (suc (n - i))) (sym e) (few-planted t (getD s i 0) f (n - i) r (x .few)));
       }
 
-  pub head-done : (f : Forest) (i : ℕ) → i ≡ 0 → Head t s n f i → f ≡ walked t (take n (drop 1 s))
-  head-done f i e x = x .spells ∙ ap (λ (k : ℕ). walked t (drop k words)) e
+  pub head-done : (f : Forest) (i : ℕ) → i ≡ 0 → Head t s n f i → f ≡ plantedAll t (take n (drop 1 s))
+  head-done f i e x = x .spells ∙ ap (λ (k : ℕ). plantedAll t (drop k words)) e

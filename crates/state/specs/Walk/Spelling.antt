@@ -1,6 +1,6 @@
 -- A walk over node words keeps the number of the trees that they spell and the sum of their reach, and is lost where
 -- they spell none or a memory does not fit.
---     kept, walked-forest    what is kept of trees; the walk is what is kept of `forest`
+--     kept, planted-forest    what is kept of trees; the walk is what is kept of `forest`
 -- Assumes nothing.
 use Prim.Native.Nat.{ℕ, suc, _+_, _-_, _≤_, _<_}
 use native.Mathlib.Omega.{arith}
@@ -25,7 +25,7 @@ use Rattle.node_word.specs.Word.{termOfWord, memoryOf}
 use Rattle.monitor_spec.specs.Valid.{joinTrees, plant, plantWord, forest, memoryFits, memoriesFit, reachSum}
 use Rattle.monitor_spec.specs.Valid.Laws.{plant-none, plant-some, forest-none, forest-some}
 use Rattle.monitor_spec.specs.Consistent.{every}
-use Rattle.state.specs.Walk.{withLeaf, paired, wordFits, plantedBy, planted, walked}
+use Rattle.state.specs.Walk.{withLeaf, paired, wordFits, plantedBy, planted, plantedAll}
 use Rattle.state.specs.Walk.Laws.{paired-few, paired-two, planted-unfit, planted-fit, unknown-term, known-term}
 
 -- the Broken forest stays so
@@ -178,13 +178,13 @@ module _ (t : Table) where
       by false e = sym (planted-unfit t w Broken e)
 
   -- The walk is what is kept of the trees that the words spell.
-  pub walked-forest : (ws : List ℕ) → walked t ws ≡ kept (forest t ws)
-  unfolding walked
-  walked-forest [] = unfold forest kept countedIf every reachAll in refl
-  walked-forest (w ∷ ws) = by (forest t ws) refl (walked-forest ws)
+  pub planted-forest : (ws : List ℕ) → plantedAll t ws ≡ kept (forest t ws)
+  unfolding plantedAll
+  planted-forest [] = unfold forest kept countedIf every reachAll in refl
+  planted-forest (w ∷ ws) = by (forest t ws) refl (planted-forest ws)
     where
-      by : (o : Option (List Residual)) → forest t ws ≡ o → walked t ws ≡ kept (forest t ws)
-          → planted t w (walked t ws) ≡ kept (forest t (w ∷ ws))
+      by : (o : Option (List Residual)) → forest t ws ≡ o → plantedAll t ws ≡ kept (forest t ws)
+          → planted t w (plantedAll t ws) ≡ kept (forest t (w ∷ ws))
       by none e ih =
           ap (planted t w) (ih ∙ ap kept e ∙ kept-none) ∙ broken-stays w
           ∙ sym kept-none ∙ ap kept (sym (forest-none t w ws e))

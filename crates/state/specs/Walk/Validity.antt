@@ -24,9 +24,9 @@ use Rattle.monitor_spec.specs.Valid.Laws.{slot-none, slot-some, valid-none, val
 use Rattle.monitor_spec.specs.State.Areas.{zero-zeros}
 use Rattle.monitor_spec.specs.Consistent.{every, allZero}
 use Rattle.monitor_spec.specs.Consistent.Reading.{zero-split}
-use Rattle.state.specs.Walk.{walked, isWhole}
+use Rattle.state.specs.Walk.{plantedAll, isWhole}
 use Rattle.state.specs.Walk.Words.{one-words}
-use Rattle.state.specs.Walk.Spelling.{reachAll, countedIf, kept, walked-forest}
+use Rattle.state.specs.Walk.Spelling.{reachAll, countedIf, kept, planted-forest}
 
 not-same : (a b : List ℕ) → (a ≡ b → ⊥) → isSame (compareWords a b) ≡ false
 not-same a b h = by (compareWords a b) refl
@@ -135,10 +135,10 @@ module _ (t : Table) where
           let x : length (nodes r) ≡ c = heads (length (nodes r)) c _ _ s in
           omega arith)
 
-    valid-walk : c ≤ 15 → validSlot t (c ∷ ws) ≡ (allZero (drop c ws) && isWhole (walked t (take c ws)))
+    valid-walk : c ≤ 15 → validSlot t (c ∷ ws) ≡ (allZero (drop c ws) && isWhole (plantedAll t (take c ws)))
     valid-walk h =
         by (forest t (take c ws)) refl
-        ∙ ap (λ (f : Forest). allZero (drop c ws) && isWhole f) (sym (walked-forest t (take c ws)))
+        ∙ ap (λ (f : Forest). allZero (drop c ws) && isWhole f) (sym (planted-forest t (take c ws)))
       where
         false-and : (x : Bool) → x ≡ false → validSlot t (c ∷ ws) ≡ false
             → validSlot t (c ∷ ws) ≡ (allZero (drop c ws) && x)
@@ -190,17 +190,17 @@ module _ (t : Table) where
         drop-drop (getD s 0 0) 1 s ∙ ap (λ (i : ℕ). drop i s) e
 
     slot-by : getD s 0 0 ≤ 15
-        → validSlot t s ≡ (allZero (drop (getD s 0 0 + 1) s) && isWhole (walked t (take (getD s 0 0) (drop 1 s))))
+        → validSlot t s ≡ (allZero (drop (getD s 0 0 + 1) s) && isWhole (plantedAll t (take (getD s 0 0) (drop 1 s))))
     slot-by h =
         ap (validSlot t) parts
         ∙ valid-walk (getD s 0 0) (drop 1 s) rest-length h
-        ∙ ap (λ (x : List ℕ). allZero x && isWhole (walked t (take (getD s 0 0) (drop 1 s)))) rest-drop
+        ∙ ap (λ (x : List ℕ). allZero x && isWhole (plantedAll t (take (getD s 0 0) (drop 1 s)))) rest-drop
 
     pub slot-empty : getD s 0 0 ≡ 0 → false ≡ validSlot t s
-    unfolding walked isWhole
+    unfolding plantedAll isWhole
     slot-empty e =
         sym (slot-by (omega arith)
-        ∙ ap (λ (i : ℕ). allZero (drop (getD s 0 0 + 1) s) && isWhole (walked t (take i (drop 1 s)))) e
+        ∙ ap (λ (i : ℕ). allZero (drop (getD s 0 0 + 1) s) && isWhole (plantedAll t (take i (drop 1 s)))) e
         ∙ and-false (allZero (drop (getD s 0 0 + 1) s)))
 
     pub slot-large : 15 < getD s 0 0 → false ≡ validSlot t s
@@ -208,10 +208,10 @@ module _ (t : Table) where
 
     pub slot-rest : getD s 0 0 ≤ 15 → allZero (drop (getD s 0 0 + 1) s) ≡ false → false ≡ validSlot t s
     slot-rest h z =
-        sym (slot-by h ∙ ap (_&& isWhole (walked t (take (getD s 0 0) (drop 1 s)))) z)
+        sym (slot-by h ∙ ap (_&& isWhole (plantedAll t (take (getD s 0 0) (drop 1 s)))) z)
 
     pub slot-walk : getD s 0 0 ≤ 15 → allZero (drop (getD s 0 0 + 1) s) ≡ true → (f : Forest) (r : Bool)
-        → f ≡ walked t (take (getD s 0 0) (drop 1 s)) → r ≡ isWhole f → r ≡ validSlot t s
+        → f ≡ plantedAll t (take (getD s 0 0) (drop 1 s)) → r ≡ isWhole f → r ≡ validSlot t s
     slot-walk h z f r e k =
         k ∙ ap isWhole e
-        ∙ sym (slot-by h ∙ ap (_&& isWhole (walked t (take (getD s 0 0) (drop 1 s)))) z)
+        ∙ sym (slot-by h ∙ ap (_&& isWhole (plantedAll t (take (getD s 0 0) (drop 1 s)))) z)

@@ -14,7 +14,7 @@ use Rattle.meaning.specs.Figure1.{bodyCount}
 use Rattle.slots.specs.declared.slots.Held.{Held}
 use Rattle.slots.specs.declared.slots.Held.the-variants.{Count, Exceeded}
 use Rattle.slots.specs.Canon.{SameMembers}
-use Rattle.slots.specs.Holding.{Outcome, leaves, putAll, Gave}
+use Rattle.slots.specs.Holding.{Outcome, heldAs, putAll, Gave}
 use Rattle.set_step.specs.Started.{initial}
 use Rattle.set_step.specs.Stepped.{gathered, Source, SteppedSet}
 use Rattle.residuals.specs.Residual.{Residual, afterAll, fromDefinition}
@@ -28,16 +28,16 @@ use Rattle.step_laws.specs.Filled.{Filled}
 
 -- an outcome o that holds the slots ss where they have room
 module _ (cap : ℕ) (ss : List (List ℕ)) (o : Outcome)
-    (holds : length ss ≤ cap → o ≡ leaves (Count (length ss)) (fill cap ss))
+    (holds : length ss ≤ cap → o ≡ heldAs (Count (length ss)) (fill cap ss))
     (exceeds : cap < length ss → o .held ≡ Exceeded)
   where
     same-count : (i j : ℕ) → Count i ≡ Count j → i ≡ j
     same-count i j e = cc
 
-    pub filled : (r : Held) (a : List ℕ) → leaves r a ≡ o → Filled cap ss r a
+    pub filled : (r : Held) (a : List ℕ) → heldAs r a ≡ o → Filled cap ss r a
     filled r a e = by (decLt cap (length ss)) r e
       where
-        by : Dec (cap < length ss) → (r : Held) → leaves r a ≡ o → Filled cap ss r a
+        by : Dec (cap < length ss) → (r : Held) → heldAs r a ≡ o → Filled cap ss r a
         by (yes l) (Count n) q =
             let x : Count n ≡ Exceeded = ap (λ (z : Outcome). z .held) q ∙ exceeds l in
             absurd (let y : _≡_ {A = ℕ} 0 1 = cc in omega arith)

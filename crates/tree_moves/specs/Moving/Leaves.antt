@@ -28,7 +28,7 @@ use Rattle.resolving.specs.Residual.Pushed.{length-pushAll, head-pushAll, pushA
 use Rattle.resolving.specs.Distinct.{window}
 use Rattle.resolving.specs.Distinct.Laws.{window-cons}
 use Rattle.tree_walk.specs.Walk.{room, leafResults, longest, onto}
-use Rattle.slots.specs.Holding.{Outcome, leaves, putOne, putAll, Gave}
+use Rattle.slots.specs.Holding.{Outcome, heldAs, putOne, putAll, Gave}
 use Rattle.slots.specs.Holding.Laws.{put-none, put-single, put-then, put-stop}
 use Rattle.tree_walk.specs.Walk.Leaves.{results-yes, nodes-short, nodes-at}
 use Rattle.tree_moves.specs.Only.{rebuilt, ending, tried, Rest}
@@ -156,10 +156,10 @@ module _ {t : Table} {bound e : ℕ} {src : List ℕ} {p n also : ℕ} {slot dst
               rw ed at (g .fits),
             )
 
-            pub leaf-exceeded : r ≡ Exceeded → leaves Exceeded l ≡ left y q i
+            pub leaf-exceeded : r ≡ Exceeded → heldAs Exceeded l ≡ left y q i
             leaf-exceeded ed = put-stop y q (x ∷ []) _ ed (g .same ∙ put-single y q x) ∙ sym one-more
 
-      pub leaf-end : (y : List ℕ) (q i : ℕ) → b ≤ i → leaves (Count q) y ≡ left y q i
+      pub leaf-end : (y : List ℕ) (q i : ℕ) → b ≤ i → heldAs (Count q) y ≡ left y q i
       unfolding leafLeft onto
       leaf-end y q i h =
           put-none y q ∙ rw (drop-of-length-le results {i = i} (omega (arith, count-is)))

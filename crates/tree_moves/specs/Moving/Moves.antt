@@ -19,7 +19,7 @@ use Rattle.resolving.specs.Distinct.{window}
 use Rattle.resolving.specs.Distinct.Laws.{window-cons, window-none}
 use Rattle.tree_walk.specs.Walk.{onto}
 use Rattle.tree_walk.specs.Walk.Results.{onto-append, onto-head}
-use Rattle.slots.specs.Holding.{Outcome, leaves, putAll, Gave}
+use Rattle.slots.specs.Holding.{Outcome, heldAs, putAll, Gave}
 use Rattle.slots.specs.Holding.Laws.{put-none, put-then, put-stop}
 use Rattle.tree_moves.specs.Only.{grown, rebuilt, starting, triedBy, moved, Movable, Rest}
 use Rattle.tree_moves.specs.Only.{Carries}
@@ -117,7 +117,7 @@ module _ {t : Table} {e : ℕ} {src : List ℕ} {p n each also : ℕ} {slot dst 
       }
 
       module _ (r1 : Held) (l1 : List ℕ) (g1 : Gave (steppedLeaf t e src p n also slot dst c) r1 l1) where
-        leaf-part : leaves r1 l1
+        leaf-part : heldAs r1 l1
             ≡ putAll dst c (onto slot (triedBy t e (each % 2) first (rebuilt t e others (also / 2))))
         unfolding steppedLeaf
         leaf-part = g1 .same ∙ rw (tried-some t e first (each % 2) (rebuilt t e others (also / 2)) moves)

@@ -18,7 +18,7 @@ use Rattle.table.specs.Memory.{remember}
 use Rattle.node_word.specs.Word.{termOfWord, memoryOf}
 use Rattle.slots.specs.declared.slots.Held.{Held}
 use Rattle.slots.specs.declared.slots.Held.the-variants.{Count, Exceeded}
-use Rattle.slots.specs.Holding.{leaves, putAll, Gave}
+use Rattle.slots.specs.Holding.{heldAs, putAll, Gave}
 use Rattle.slots.specs.Holding.Laws.{put-none, put-then, put-stop}
 use Rattle.resolving.specs.Residual.Pushed.{length-pushAll, head-pushAll}
 use Rattle.resolving.specs.Residual.Resolved.{length-resolved}
@@ -156,11 +156,11 @@ module _ {t : Table} {bound e : ℕ} {store : List ℕ} (ready : Ready t bound e
           unfolding leafRest walked
           leaf-next d e1 = put-then a c _ _ e1 (g1 .same) ∙ sym leaf-split
 
-          pub leaf-exceeded : r1 ≡ Exceeded → leaves Exceeded l1 ≡ leafRest t e store k rest slot a c j
+          pub leaf-exceeded : r1 ≡ Exceeded → heldAs Exceeded l1 ≡ leafRest t e store k rest slot a c j
           unfolding walked
           leaf-exceeded e1 = put-stop a c _ _ e1 (g1 .same) ∙ sym leaf-split
 
-  pub leaf-end : (a : List ℕ) (c j : ℕ) → getD store (k * 257) 0 ≤ j → leaves (Count c) a
+  pub leaf-end : (a : List ℕ) (c j : ℕ) → getD store (k * 257) 0 ≤ j → heldAs (Count c) a
       ≡ leafRest t e store k rest slot a c j
   unfolding leafRest options joins onto
   leaf-end a c j w =
@@ -195,5 +195,5 @@ module _ {t : Table} {bound e : ℕ} {store : List ℕ} (ready : Ready t bound e
 
     pub go-exceeded : (a : List ℕ) (c : ℕ) (r1 : Held) (l1 : List ℕ)
         → Gave (walked t e store (k + 1) rest s a c) r1 l1 → r1 ≡ Exceeded
-        → leaves Exceeded l1 ≡ leafRest t e store k rest slot a c j
+        → heldAs Exceeded l1 ≡ leafRest t e store k rest slot a c j
     go-exceeded = leaf-exceeded ready k rest slot area count p h q j i jh ei s es2

@@ -61,7 +61,7 @@ module _ (t u : Table) (regular-t : Regular t) (regular-u : Regular u) (windows 
 
     -- ---- what the event is met on
 
-    record Stands (s : State) (rs : List Residual) : Type 0 where
+    record MetOn (s : State) (rs : List Residual) : Type 0 where
       sensible : Sensible (D now) n s rs
       takes : step m (e, now) ≡ atMinute now (takeEvent (D now) (laid n s (slotsOf rs)) e)
 
@@ -72,10 +72,10 @@ module _ (t u : Table) (regular-t : Regular t) (regular-u : Regular u) (windows 
         subst (λ (s : State). Sensible (D now) n s (residualsOf (D now) [])) (record-first (D now))
         (fed-sensible (D now) (regular-at now) n [] (fresh-fed (D now) n h))
 
-    stands-afresh : (ClockBack (m .state) now → ⊥) → Due windows (m .state) now → residualCount (D now) [] ≤ n
-        → Stands (freshState (residualCount (D now) [])) (residualsOf (D now) [])
+    met-afresh : (ClockBack (m .state) now → ⊥) → Due windows (m .state) now → residualCount (D now) [] ≤ n
+        → MetOn (freshState (residualCount (D now) [])) (residualsOf (D now) [])
     unfolding residualCount freshMonitor laid freshState holding even choose
-    stands-afresh c d h =
+    met-afresh c d h =
         record {
           sensible = fresh-sensible h;
           takes = take-afresh t u windows m (e, now) (in-time-in (m .state) now c)
@@ -83,10 +83,10 @@ module _ (t u : Table) (regular-t : Regular t) (regular-u : Regular u) (windows 
               ∙ ap (atMinute now) (fresh-room (D now) n e (le-ltb n (residualCount (D now) []) h));
         }
 
-    stands-onward : (ClockBack (m .state) now → ⊥) → (s : State) (last : ℕ) → m .state ≡ started s last
+    met-onward : (ClockBack (m .state) now → ⊥) → (s : State) (last : ℕ) → m .state ≡ started s last
         → (Changes windows last now → ⊥) → (h : Laid (D now) n (plain s (m .area0) (m .area1)))
-        → Stands s (h .residuals)
-    stands-onward c s last i d h =
+        → MetOn s (h .residuals)
+    met-onward c s last i d h =
         record {
           sensible = h .sensible;
           takes = take-onward t u windows m (e, now) s last i (in-time-in (m .state) now c)
@@ -94,10 +94,10 @@ module _ (t u : Table) (regular-t : Regular t) (regular-u : Regular u) (windows 
               ∙ ap (λ (x : Monitor). atMinute now (takeEvent (D now) x e)) (h .same);
         }
 
-    stands : (ClockBack (m .state) now → ⊥) → (s : State) (rs : List Residual) → Reaches (D now) windows m now s rs
-        → Stands s rs
-    stands c s rs (afresh d h i j) = rw (i, j) (stands-afresh c d h)
-    stands c s rs (onward last i d h j) = rw j (stands-onward c s last i d h)
+    met-on : (ClockBack (m .state) now → ⊥) → (s : State) (rs : List Residual) → Reaches (D now) windows m now s rs
+        → MetOn s rs
+    met-on c s rs (afresh d h i j) = rw (i, j) (met-afresh c d h)
+    met-on c s rs (onward last i d h j) = rw j (met-onward c s last i d h)
 
     -- ---- from the conditions
 
@@ -114,7 +114,7 @@ module _ (t u : Table) (regular-t : Regular t) (regular-u : Regular u) (windows 
     pub takes-went : (left : TimedMonitor) → TimedTakes (D now) windows m e now left → step m (e, now) ≡ went left
     unfolding atMinute
     takes-went left k =
-        let s = stands (k .in-time) (k .state) (k .residuals) (k .reaches) in
+        let s = met-on (k .in-time) (k .state) (k .residuals) (k .reaches) in
         s .takes ∙ ap (atMinute now) (one-onward (k .state) (k .residuals) (s .sensible) (k .passes))
         ∙ ap went (sym (k .leaves))
 
@@ -125,14 +125,14 @@ module _ (t u : Table) (regular-t : Regular t) (regular-u : Regular u) (windows 
         rw i (take-afresh t u windows m (e, now) (in-time-in (m .state) now c) (due-in windows good (m .state) now d)
         ∙ ap (atMinute now) (fresh-crowded (D now) n e (lt-ltb n (residualCount (D now) []) h)))
     meets-stops number (met c s rs r x) =
-        let y = stands c s rs r in
+        let y = met-on c s rs r in
         y .takes ∙ ap (atMinute now) (single.meets-stops (D now) (regular-at now) n s rs e number (y .sensible) x)
 
     -- what is left is consistent again
     pub takes-laid : (left : TimedMonitor) → TimedTakes (D now) windows m e now left → TimedLaid t u windows left
     unfolding monitorOnward laid
     takes-laid left k =
-        let y = stands (k .in-time) (k .state) (k .residuals) (k .reaches) in
+        let y = met-on (k .in-time) (k .state) (k .residuals) (k .reaches) in
         let ok : Sensible (D now) n (recordOnward (D now) (k .state) (k .residuals) (e ∷ []))
         (run (D now) (k .residuals) (e ∷ [])) =
         single.passes-sensible (D now) (regular-at now) n (e ∷ []) (k .state) (k .residuals) (y .sensible)

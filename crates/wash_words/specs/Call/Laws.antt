@@ -7,7 +7,7 @@ use lib.ListN.{length}
 use lib.Dec.{eqb}
 use borrow.Author.Tests.{eq-eqb, ne-eqb, eqb-true, eqb-false}
 use Rattle.table.specs.declared.answer.Refusal.{Refusal}
-use Rattle.words.specs.Calls.{MonitorCall, said, unmeasured}
+use Rattle.words.specs.Calls.{MonitorCall, monitorSaid, unmeasured}
 use Rattle.wash_state.specs.declared.answer.TimedState as kept
 use Rattle.wash_state.specs.declared.answer.TimedAnswer as code
 use Rattle.wash_state.specs.declared.answer.TimedAnswer.the-variants.{Given, Refused, Stopped}
@@ -15,23 +15,23 @@ use Rattle.wash_state.specs.Answers.{timedStateOf, timedMonitorOf, timedAnswerO
 use Rattle.wash_spec.specs.Timed.{TimedState, TimedMonitor, TimedAnswer, given, refused, stopped, TimedOutcome}
 use Rattle.wash_spec.specs.Feed.{timedOf}
 use Rattle.wash_words.specs.Words.{timedRecordMeasured, timedIn, timedWords}
-use Rattle.wash_words.specs.Call.{timedNumber, timedPlace, timedAfter, Told, callOf, monitorIn, timedCall}
+use Rattle.wash_words.specs.Call.{timedNumber, timedPlace, timedAfter, TimedTold, callOf, monitorIn, timedCall}
 use Rattle.wash_words.specs.Call.{TimedWay, timedUnfit, timedGiven, timedRefused, timedStopped}
 
 -- ---- what `tell_timed` promises of each answer
 
 pub tell-given : (x : code.TimedAnswer) (s : kept.TimedState) (r r' : List ℕ) → x ≡ Given s
-    → r' ≡ timedWords (timedStateOf s) → Told (timedAnswerOf x) r 0 0 r'
+    → r' ≡ timedWords (timedStateOf s) → TimedTold (timedAnswerOf x) r 0 0 r'
 unfolding timedNumber timedPlace timedAfter
 tell-given x s r r' e h = rw e (record { number = refl; place = refl; words = h })
 
 pub tell-refused : (x : code.TimedAnswer) (q : Refusal) (r : List ℕ) → x ≡ Refused q
-    → Told (timedAnswerOf x) r (q .number) (q .place) r
+    → TimedTold (timedAnswerOf x) r (q .number) (q .place) r
 unfolding timedNumber timedPlace timedAfter
 tell-refused x q r e = rw e (record { number = refl; place = refl; words = refl })
 
 pub tell-stopped : (x : code.TimedAnswer) (q : Refusal) (s : kept.TimedState) (r r' : List ℕ) → x ≡ Stopped q s
-    → r' ≡ timedWords (timedStateOf s) → Told (timedAnswerOf x) r (q .number) (q .place) r'
+    → r' ≡ timedWords (timedStateOf s) → TimedTold (timedAnswerOf x) r (q .number) (q .place) r'
 unfolding timedNumber timedPlace timedAfter
 tell-stopped x q s r r' e h = rw e (record { number = refl; place = refl; words = h })
 
@@ -39,12 +39,12 @@ tell-stopped x q s r r' e h = rw e (record { number = refl; place = refl; words 
 
 -- a record that is not of seven words
 pub timed-unmeasured : (everyday wash windows r a b es ms w : List ℕ) → (length r ≡ 7 → ⊥)
-    → said 1 0 r a b w ≡ timedCall everyday wash windows r a b es ms w
+    → monitorSaid 1 0 r a b w ≡ timedCall everyday wash windows r a b es ms w
 unfolding timedCall timedRecordMeasured unmeasured
 timed-unmeasured everyday wash windows r a b es ms w h = rw (ne-eqb (length r) 7 h, timedCall) refl
 
-module _ (x : code.TimedAnswer) (n p : ℕ) (r r' a b w : List ℕ) (t : Told (timedAnswerOf x) r n p r') where
-  told : (o : TimedOutcome) → timedOutcome x a b w ≡ o → said n p r' a b w ≡ callOf r o
+module _ (x : code.TimedAnswer) (n p : ℕ) (r r' a b w : List ℕ) (t : TimedTold (timedAnswerOf x) r n p r') where
+  told : (o : TimedOutcome) → timedOutcome x a b w ≡ o → monitorSaid n p r' a b w ≡ callOf r o
   unfolding callOf
   told o e =
       (λ i. record { number = t .number i; place = t .place i; words = t .words i; area0 = a; area1 = b; work = w })
@@ -53,7 +53,7 @@ module _ (x : code.TimedAnswer) (n p : ℕ) (r r' a b w : List ℕ) (t : Told (t
   pub timed-told : (everyday wash windows a₀ b₀ es ms w₀ : List ℕ) (s : kept.TimedState) → length r ≡ 7
       → timedStateOf s ≡ timedIn r
       → timedOutcome x a b w ≡ timedOf everyday wash windows (timedMonitorOf s a₀ b₀) es ms w₀
-      → said n p r' a b w ≡ timedCall everyday wash windows r a₀ b₀ es ms w₀
+      → monitorSaid n p r' a b w ≡ timedCall everyday wash windows r a₀ b₀ es ms w₀
   unfolding timedCall timedRecordMeasured monitorIn
   timed-told everyday wash windows a₀ b₀ es ms w₀ s h k e =
       rw (eq-eqb (length r) 7 h, timedCall)

@@ -31,7 +31,7 @@ use Rattle.wash_spec.specs.Entering.{agreesBy}
 use Rattle.wash_state.specs.declared.answer.TimedState.{TimedState}
 use Rattle.wash_state.specs.declared.answer.TimedState.the-variants.{NotStarted, Started}
 use Rattle.wash_state.specs.Answers.{timedStateOf}
-use Rattle.washing.specs.Washing.{listAt, Stands, AgreedAt, IndexAt, Agreed}
+use Rattle.washing.specs.Washing.{listAt, TimedStanding, AgreedAt, IndexAt, Agreed}
 use Rattle.washing.proofs.fresh.Areas.{measured-same}
 use Rattle.washing.proofs.event.Standing.{list-wash, list-everyday, list-drawing}
 
@@ -91,7 +91,7 @@ module _ (everyday wash windows : List ℕ) (a b work' : List ℕ) (m : areasMea
   empty o n z e q = zero-split o z ∙ e ∙ ap (λ (i : ℕ). fill i []) (sym q)
 
   pub agreed-stands : (x : TimedState) → Agreed everyday wash windows x a b true work'
-      → Stands everyday wash windows x a b work'
+      → TimedStanding everyday wash windows x a b work'
   unfolding agreesBy
   agreed-stands NotStarted h =
       let z = and-split (allZero a) (allZero b) (sym (h .answer)) in

@@ -29,7 +29,7 @@ use Rattle.wash_spec.specs.Taking.Laws.{take-back}
 use Rattle.wash_state.specs.declared.answer.TimedState.{TimedState}
 use Rattle.wash_state.specs.declared.answer.TimedState.the-variants.{NotStarted, Started}
 use Rattle.wash_state.specs.Answers.{timedStateOf, timedMonitorOf}
-use Rattle.washing.specs.Washing.{IsTable, listAt, OnReady, AreasOn, OnBy, Stands, Ready, TimedBy}
+use Rattle.washing.specs.Washing.{IsTable, listAt, OnReady, AreasOn, OnBy, TimedStanding, Ready, TimedBy}
 use Rattle.washing.proofs.event.Standing.{list-wash, list-everyday, list-drawing, standing-free, on-standing}
 
 or-false-left : (x y : Bool) → (x || y) ≡ false → x ≡ false
@@ -61,7 +61,7 @@ module _ (everyday wash windows : List ℕ) (x : TimedState) (minute : ℕ) (a b
         let e : changes windows last minute ≡ false = sym (rw q at d) ∙ u in
         rw (unchanged-same windows last minute (h .good) (in-order s last minute c) e)
 
-    stood : (s : State) (last : ℕ) → x ≡ Started s last → Stands everyday wash windows (Started s last) a b work
+    stood : (s : State) (last : ℕ) → x ≡ Started s last → TimedStanding everyday wash windows (Started s last) a b work
     stood s last q = rw q at (h .stands)
 
     stands-now : (s : State) (last : ℕ) → x ≡ Started s last → due ≡ false
@@ -71,7 +71,7 @@ module _ (everyday wash windows : List ℕ) (x : TimedState) (minute : ℕ) (a b
         (stood s last q)
 
     ready : (y : TimedState) → x ≡ y → OnReady now work due y a b
-    ready NotStarted q = let z : Stands everyday wash windows NotStarted a b work = rw q at (h .stands) in z .1
+    ready NotStarted q = let z : TimedStanding everyday wash windows NotStarted a b work = rw q at (h .stands) in z .1
     ready (Started s last) q =
         (standing-free _ s a b (stood s last q .1), λ u. stands-now s last q u)
 

@@ -21,7 +21,8 @@ use Rattle.monitor_spec.specs.View.Laws.{part-parity, view-length}
 use Rattle.state.specs.Record.{stateOf, monitorOf}
 use Rattle.state.specs.Answers.{answerOf, outcome, offeredOf, offerOutcome}
 use Rattle.words.specs.Words.{recordMeasured, stateIn, wordsOf}
-use Rattle.words.specs.Calls.{numberOf, placeOf, recordAfter, Told, said, monitorCall, monitorIn, unmeasured}
+use Rattle.words.specs.Calls.{numberOf, placeOf, recordAfter, MonitorTold, monitorSaid, monitorCall, monitorIn}
+use Rattle.words.specs.Calls.{unmeasured}
 use Rattle.words.specs.Calls.{openedOf, openSaid, openCall, feedCall, tryCall}
 use Rattle.words.specs.Calls.{offerNumber, offerValue, offerSecond, OfferTold, offerSaid, offering, offerCall}
 use Rattle.words.specs.Calls.{viewSaid, viewing, viewCall}
@@ -32,17 +33,17 @@ pub open-unmeasured : (l r a b es w : List ℕ) → (length r ≡ 5 → ⊥) →
 unfolding openCall recordMeasured unmeasured
 open-unmeasured l r a b es w h = rw (ne-eqb (length r) 5 h, openCall) refl
 
-pub feed-unmeasured : (l r a b es w : List ℕ) → (length r ≡ 5 → ⊥) → said 1 0 r a b w ≡ feedCall l r a b es w
+pub feed-unmeasured : (l r a b es w : List ℕ) → (length r ≡ 5 → ⊥) → monitorSaid 1 0 r a b w ≡ feedCall l r a b es w
 unfolding feedCall recordMeasured unmeasured
 feed-unmeasured l r a b es w h = rw (ne-eqb (length r) 5 h, feedCall) refl
 
 pub try-unread : (l r a b r′ c d es w : List ℕ) → (length r ≡ 5 → ⊥)
-    → said 1 0 r′ c d w ≡ tryCall l r a b r′ c d es w
+    → monitorSaid 1 0 r′ c d w ≡ tryCall l r a b r′ c d es w
 unfolding tryCall recordMeasured unmeasured
 try-unread l r a b r′ c d es w h = rw (ne-eqb (length r) 5 h, tryCall) refl
 
 pub try-unmeasured : (l r a b r′ c d es w : List ℕ) → length r ≡ 5 → (length r′ ≡ 5 → ⊥)
-    → said 1 0 r′ c d w ≡ tryCall l r a b r′ c d es w
+    → monitorSaid 1 0 r′ c d w ≡ tryCall l r a b r′ c d es w
 unfolding tryCall recordMeasured unmeasured
 try-unmeasured l r a b r′ c d es w e h = rw (eq-eqb (length r) 5 e, ne-eqb (length r′) 5 h, tryCall) refl
 
@@ -58,17 +59,17 @@ view-unmeasured r a b h = rw (ne-eqb (length r) 5 h, viewCall) refl
 
 -- what `tell` promises of each answer
 pub tell-given : (x : code.Answer) (s : StateCode) (r r' : List ℕ) → x ≡ Given s → r' ≡ wordsOf (stateOf s)
-    → Told (answerOf x) r 0 0 r'
+    → MonitorTold (answerOf x) r 0 0 r'
 unfolding numberOf placeOf recordAfter
 tell-given x s r r' e h = rw e (record { number = refl; place = refl; words = h })
 
 pub tell-refused : (x : code.Answer) (q : Refusal) (r : List ℕ) → x ≡ Refused q
-    → Told (answerOf x) r (q .number) (q .place) r
+    → MonitorTold (answerOf x) r (q .number) (q .place) r
 unfolding numberOf placeOf recordAfter
 tell-refused x q r e = rw e (record { number = refl; place = refl; words = refl })
 
 pub tell-stopped : (x : code.Answer) (q : Refusal) (s : StateCode) (r r' : List ℕ) → x ≡ Stopped q s
-    → r' ≡ wordsOf (stateOf s) → Told (answerOf x) r (q .number) (q .place) r'
+    → r' ≡ wordsOf (stateOf s) → MonitorTold (answerOf x) r (q .number) (q .place) r'
 unfolding numberOf placeOf recordAfter
 tell-stopped x q s r r' e h = rw e (record { number = refl; place = refl; words = h })
 
@@ -85,8 +86,8 @@ pub has-stopped : (x : code.Answer) (q : Refusal) (s : StateCode) → x ≡ Stop
 unfolding openedOf
 has-stopped x q s e = rw e refl
 
-module _ (x : code.Answer) (n p : ℕ) (r r' a b w : List ℕ) (t : Told (answerOf x) r n p r') where
-  told : (o : Outcome) → outcome x a b w ≡ o → said n p r' a b w ≡ monitorCall r o
+module _ (x : code.Answer) (n p : ℕ) (r r' a b w : List ℕ) (t : MonitorTold (answerOf x) r n p r') where
+  told : (o : Outcome) → outcome x a b w ≡ o → monitorSaid n p r' a b w ≡ monitorCall r o
   unfolding monitorCall
   told o e =
       (λ i. record { number = t .number i; place = t .place i; words = t .words i; area0 = a; area1 = b; work = w })
@@ -101,7 +102,7 @@ module _ (x : code.Answer) (n p : ℕ) (r r' a b w : List ℕ) (t : Told (answer
       rw (eq-eqb (length r) 5 h, openCall) (λ i. record { call = f i; opened = c i })
 
   pub feed-told : (l a₀ b₀ es w₀ : List ℕ) (s : StateCode) → length r ≡ 5 → stateOf s ≡ stateIn r
-      → outcome x a b w ≡ feedOf l (monitorOf s a₀ b₀) es w₀ → said n p r' a b w ≡ feedCall l r a₀ b₀ es w₀
+      → outcome x a b w ≡ feedOf l (monitorOf s a₀ b₀) es w₀ → monitorSaid n p r' a b w ≡ feedCall l r a₀ b₀ es w₀
   unfolding feedCall recordMeasured monitorIn
   feed-told l a₀ b₀ es w₀ s h k e =
       rw (eq-eqb (length r) 5 h, feedCall)
@@ -109,7 +110,8 @@ module _ (x : code.Answer) (n p : ℕ) (r r' a b w : List ℕ) (t : Told (answer
 
   -- r is the further record, and r₀ the one that is read
   pub try-told : (l r₀ a₀ b₀ c d es w₀ : List ℕ) (s : StateCode) → length r₀ ≡ 5 → length r ≡ 5 → stateOf s ≡ stateIn r₀
-      → outcome x a b w ≡ tryOf l (monitorOf s a₀ b₀) c d es w₀ → said n p r' a b w ≡ tryCall l r₀ a₀ b₀ r c d es w₀
+      → outcome x a b w ≡ tryOf l (monitorOf s a₀ b₀) c d es w₀
+      → monitorSaid n p r' a b w ≡ tryCall l r₀ a₀ b₀ r c d es w₀
   unfolding tryCall recordMeasured monitorIn
   try-told l r₀ a₀ b₀ c d es w₀ s h g k e =
       rw (eq-eqb (length r₀) 5 h, eq-eqb (length r) 5 g, tryCall)

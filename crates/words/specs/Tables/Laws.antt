@@ -8,28 +8,28 @@ use Rattle.table.specs.declared.answer.Answer as code
 use Rattle.table.specs.declared.answer.Answer.the-variants.{Count, Refused}
 use Rattle.table.specs.Operations.{Outcome, readOf, writeOf}
 use Rattle.table.specs.Answers.{answerOf, outcome}
-use Rattle.words.specs.Tables.{Told, said, numberOf, valueOf, tableCall, readCall, writeCall}
+use Rattle.words.specs.Tables.{TableTold, tableSaid, numberOf, valueOf, tableCall, readCall, writeCall}
 
-pub tell-count : (x : code.Answer) (n : ℕ) → x ≡ Count n → Told (answerOf x) 0 n
+pub tell-count : (x : code.Answer) (n : ℕ) → x ≡ Count n → TableTold (answerOf x) 0 n
 unfolding numberOf valueOf
 tell-count x n e = rw e (record { number = refl; value = refl })
 
-pub tell-refused : (x : code.Answer) (q : Refusal) → x ≡ Refused q → Told (answerOf x) (q .number) (q .place)
+pub tell-refused : (x : code.Answer) (q : Refusal) → x ≡ Refused q → TableTold (answerOf x) (q .number) (q .place)
 unfolding numberOf valueOf
 tell-refused x q e = rw e (record { number = refl; value = refl })
 
-told : (x : code.Answer) (n v : ℕ) (out work : List ℕ) (o : Outcome) → Told (answerOf x) n v
-    → outcome x out work ≡ o → said n v out work ≡ tableCall o
+told : (x : code.Answer) (n v : ℕ) (out work : List ℕ) (o : Outcome) → TableTold (answerOf x) n v
+    → outcome x out work ≡ o → tableSaid n v out work ≡ tableCall o
 unfolding tableCall
 told x n v out work o t e =
     (λ i. record { number = t .number i; value = t .value i; output = out; work = work }) ∙ ap tableCall e
 
-pub read-told : (x : code.Answer) (n v : ℕ) (s out work out₀ work₀ : List ℕ) → Told (answerOf x) n v
-    → outcome x out work ≡ readOf s out₀ work₀ → said n v out work ≡ readCall s out₀ work₀
+pub read-told : (x : code.Answer) (n v : ℕ) (s out work out₀ work₀ : List ℕ) → TableTold (answerOf x) n v
+    → outcome x out work ≡ readOf s out₀ work₀ → tableSaid n v out work ≡ readCall s out₀ work₀
 unfolding readCall
 read-told x n v s out work out₀ work₀ t e = told x n v out work _ t e
 
-pub write-told : (x : code.Answer) (n v : ℕ) (l out work out₀ work₀ : List ℕ) → Told (answerOf x) n v
-    → outcome x out work ≡ writeOf l out₀ work₀ → said n v out work ≡ writeCall l out₀ work₀
+pub write-told : (x : code.Answer) (n v : ℕ) (l out work out₀ work₀ : List ℕ) → TableTold (answerOf x) n v
+    → outcome x out work ≡ writeOf l out₀ work₀ → tableSaid n v out work ≡ writeCall l out₀ work₀
 unfolding writeCall
 write-told x n v l out work out₀ work₀ t e = told x n v out work _ t e

@@ -1,5 +1,5 @@
 -- `line_monitor::pieces::feed_front` meets its contract, by what the front's events leave. Assumes nothing.
-use Rattle.line_monitor.specs.Told.Front.{front-goes, front-over}
+use Rattle.line_monitor.specs.Report.Front.{front-goes, front-over}
 use borrow.Author.Needs.{needs}
 use Rattle.line_monitor.proofs.pieces.feed_front.Statement.{statement}
 use Rattle.line_monitor.proofs.pieces.feed_front.Tie as tie

@@ -4,7 +4,7 @@ use native.Mathlib.Omega.{arith}
 use mathlib.Core.Path.{sym}
 use lib.Seq.{length-take-le}
 use Rattle.line.specs.Answers.Opening.{started-within}
-use Rattle.line_monitor.specs.Told.Front.{says-started, says-refused}
+use Rattle.line_monitor.specs.Report.Front.{says-started, says-refused}
 use borrow.Author.Needs.{needs}
 use Rattle.line_monitor.proofs.pieces.open_front.Statement.{statement}
 use Rattle.line_monitor.proofs.pieces.open_front.Tie as tie

@@ -5,9 +5,9 @@ use Prim.Native.Nat.{_+_, _-_, _*_, _≤_}
 use native.Mathlib.Omega.{arith}
 use mathlib.Core.Path.{_≡_, refl, sym, _∙_}
 use borrow.Author.Needs.{needs}
-use Rattle.slots.specs.Slots.{order, seek}
-use Rattle.slots.specs.Slots.Laws.{order-none, order-below, order-above, order-on, seek-none, seek-here}
-use Rattle.slots.specs.Slots.Laws.{seek-held, seek-on}
+use Rattle.slots.specs.Insertion.{order, seek}
+use Rattle.slots.specs.Insertion.Laws.{order-none, order-below, order-above, order-on, seek-none, seek-here}
+use Rattle.slots.specs.Insertion.Laws.{seek-held, seek-on}
 use Rattle.slots.proofs.slots.find_place.Statement.{statement}
 use Rattle.slots.proofs.slots.find_place.Tie as tie
 use Rattle.slots.proofs.slots.find_place.Reads as reads

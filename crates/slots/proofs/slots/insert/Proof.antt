@@ -4,9 +4,9 @@ use mathlib.Core.Path.{_≡_, sym, _∙_}
 use borrow.Author.Needs.{needs}
 use denote.Ref.{now}
 use Rattle.slots.specs.declared.slots.Place.the-variants.{At}
-use Rattle.slots.specs.Slots.{placeIn}
-use Rattle.slots.specs.Slots.Laws.{insert-held, insert-full, insert-new}
-use Rattle.slots.specs.Slots.Narrow.{place-bound}
+use Rattle.slots.specs.Insertion.{placeIn}
+use Rattle.slots.specs.Insertion.Laws.{insert-held, insert-full, insert-new}
+use Rattle.slots.specs.Insertion.Narrow.{place-bound}
 use Rattle.slots.proofs.slots.insert.Statement.{statement}
 use Rattle.slots.proofs.slots.insert.Tie as tie
 use Rattle.slots.proofs.slots.insert.Reads as reads

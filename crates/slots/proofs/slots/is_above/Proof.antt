@@ -4,8 +4,8 @@ use Prim.Native.Nat.{_+_, _-_, _≤_}
 use native.Mathlib.Omega.{arith}
 use mathlib.Core.Path.{_≡_, ap, sym, _∙_}
 use borrow.Author.Needs.{needs}
-use Rattle.slots.specs.Slots.{order, isAbove}
-use Rattle.slots.specs.Slots.Laws.{order-none, order-below, order-above, order-on}
+use Rattle.slots.specs.Insertion.{order, isAbove}
+use Rattle.slots.specs.Insertion.Laws.{order-none, order-below, order-above, order-on}
 use Rattle.slots.proofs.slots.is_above.Statement.{statement}
 use Rattle.slots.proofs.slots.is_above.Tie as tie
 use Rattle.slots.proofs.slots.is_above.Reads as reads

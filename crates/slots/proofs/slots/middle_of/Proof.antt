@@ -1,7 +1,7 @@
 -- `slots::slots::middle_of` meets its contract: by how many slots are left. Assumes nothing.
 use native.Mathlib.Omega.{arith}
 use borrow.Author.Needs.{needs}
-use Rattle.slots.specs.Slots.Narrow.{middle-half, middle-none}
+use Rattle.slots.specs.Insertion.Narrow.{middle-half, middle-none}
 use Rattle.slots.proofs.slots.middle_of.Statement.{statement}
 use Rattle.slots.proofs.slots.middle_of.Tie as tie
 use Rattle.slots.proofs.slots.middle_of.Reads as reads

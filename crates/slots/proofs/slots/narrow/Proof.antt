@@ -4,8 +4,8 @@ use Prim.Native.Nat.{_-_, _≤_}
 use native.Mathlib.Omega.{arith}
 use mathlib.Core.Path.{_≡_, sym, _∙_}
 use borrow.Author.Needs.{needs}
-use Rattle.slots.specs.Slots.{halved, narrowed}
-use Rattle.slots.specs.Slots.Narrow.{middle-low, halve-none, halve-up, halve-down, narrow-none, narrow-start}
+use Rattle.slots.specs.Insertion.{halved, narrowed}
+use Rattle.slots.specs.Insertion.Narrow.{middle-low, halve-none, halve-up, halve-down, narrow-none, narrow-start}
 use Rattle.slots.proofs.slots.narrow.Statement.{statement}
 use Rattle.slots.proofs.slots.narrow.Tie as tie
 use Rattle.slots.proofs.slots.narrow.Reads as reads

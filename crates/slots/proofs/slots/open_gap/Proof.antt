@@ -4,8 +4,8 @@ use native.Mathlib.Omega.{arith}
 use mathlib.Core.Path.{_≡_, refl}
 use lib.ListN.{length, length-set}
 use borrow.Author.Needs.{needs}
-use Rattle.slots.specs.Slots.{gapped}
-use Rattle.slots.specs.Slots.Gap.{gap-none, gap-step}
+use Rattle.slots.specs.Insertion.{gapped}
+use Rattle.slots.specs.Insertion.Gap.{gap-none, gap-step}
 use Rattle.slots.proofs.slots.open_gap.Statement.{statement}
 use Rattle.slots.proofs.slots.open_gap.Tie as tie
 use Rattle.slots.proofs.slots.open_gap.Reads as reads

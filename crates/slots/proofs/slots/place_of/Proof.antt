@@ -1,6 +1,6 @@
 -- `slots::slots::place_of` meets its contract: it is the search from where it is narrowed to. Assumes nothing.
 use mathlib.Core.Path.{_≡_, _∙_}
-use Rattle.slots.specs.Slots.{placeIn}
+use Rattle.slots.specs.Insertion.{placeIn}
 use borrow.Author.Needs.{needs}
 use Rattle.slots.proofs.slots.place_of.Statement.{statement}
 use Rattle.slots.proofs.slots.place_of.Tie as tie

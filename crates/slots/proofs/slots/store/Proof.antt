@@ -4,8 +4,8 @@ use native.Mathlib.Omega.{arith}
 use mathlib.Core.Path.{_≡_, refl}
 use lib.ListN.{length, length-set}
 use borrow.Author.Needs.{needs}
-use Rattle.slots.specs.Slots.{stored}
-use Rattle.slots.specs.Slots.Gap.{stored-none, stored-step}
+use Rattle.slots.specs.Insertion.{stored}
+use Rattle.slots.specs.Insertion.Gap.{stored-none, stored-step}
 use Rattle.slots.proofs.slots.store.Statement.{statement}
 use Rattle.slots.proofs.slots.store.Tie as tie
 use Rattle.slots.proofs.slots.store.Reads as reads

@@ -27,9 +27,9 @@ use Rattle.line.specs.declared.answer.Opened.the-variants.{Started, Refused}
 use Rattle.line.specs.declared.answer.Course.{Course}
 use Rattle.line.specs.declared.answer.Course.the-variants.{Going, Over}
 use Rattle.line.specs.Answers.{courseSaid, openSaid, resumeSaid}
-use Rattle.line_monitor.specs.declared.pieces.Told.{Told}
-use Rattle.line_monitor.specs.declared.pieces.Told.the-variants.{Line, Broken}
-use Rattle.line_monitor.specs.Told.{Says, Followed, FrontFed}
+use Rattle.line_monitor.specs.declared.pieces.Report.{Report}
+use Rattle.line_monitor.specs.declared.pieces.Report.the-variants.{Line, Broken}
+use Rattle.line_monitor.specs.Report.{Says, Followed, FrontFed}
 
 -- ---- feed_front
 
@@ -41,7 +41,7 @@ front-stands true o x e = ap concludeOf e
 front-stands false o x e = standsAfter [] tt e
 
 module _ (l : List ℕ) (a b w : List ℕ) (o : ResumeOutcome) where
-  going-fed : (next : State) (t : Told) → Followed 65536 (resumeSaid l (Going next) a b w) t → (last : Bool)
+  going-fed : (next : State) (t : Report) → Followed 65536 (resumeSaid l (Going next) a b w) t → (last : Bool)
       → resumeSaid l (Going next) a b w ≡ pieceEnd last o → FrontFed last o t
   unfolding pieceEnd withCourse afterPiece
   going-fed next t h true g =
@@ -62,7 +62,7 @@ module _ (l : List ℕ) (s : State) (a b es w : List ℕ) (last : Bool) (r : Cou
     answered : (x : Course) → r ≡ x → resumeSaid l x a' b' w' ≡ pieceEnd last (resumeOf l (monitorOf s a b) es w)
     answered x e = sym (ap (λ (y : Course). resumeSaid l y a' b' w') e) ∙ said
 
-    pub front-goes : (next : State) → r ≡ Going next → (n : ℕ) → 65536 ≡ n → (t : Told)
+    pub front-goes : (next : State) → r ≡ Going next → (n : ℕ) → 65536 ≡ n → (t : Report)
         → Followed n (resumeSaid l (Going next) a' b' w') t → FrontFed last (resumeOf l (monitorOf s a b) es w) t
     front-goes next e n k t h =
         going-fed l a' b' w' (resumeOf l (monitorOf s a b) es w) next t
@@ -74,7 +74,7 @@ module _ (l : List ℕ) (s : State) (a b es w : List ℕ) (last : Bool) (r : Cou
 -- ---- open_front
 
 module _ (s l a b w : List ℕ) (fit : Lengths l a b w) where
-  says : (last : Bool) → (last ≡ false → 16387 ≤ length s) → (t : Told)
+  says : (last : Bool) → (last ≡ false → 16387 ≤ length s) → (t : Report)
       → FrontFed last (frontLeft s (openOf s l a b w)) t → Says last s t
   says true long (Line x) h = front-line s l a b w (lent-in l a b w fit) (lineSaid x) h
   says true long Broken h = h
@@ -87,7 +87,7 @@ module _ (s l a b w : List ℕ) (fit : Lengths l a b w) where
       left : (x : Opened) → r ≡ x → frontLeft s (openSaid x l' a' b' w') ≡ frontLeft s (openOf s l a b w)
       left x k = sym (ap (λ (y : Opened). frontLeft s (openSaid y l' a' b' w')) k) ∙ ap (frontLeft s) said
 
-      pub says-started : (st : State) (count next : ℕ) → r ≡ Started st count next → (t : Told)
+      pub says-started : (st : State) (count next : ℕ) → r ≡ Started st count next → (t : Report)
           → FrontFed last
           (resumeOf (take count l') (monitorOf st a' b') (take (length s - next) (drop next s)) w') t
           → Says last s t

@@ -13,7 +13,7 @@ use Rattle.slots.specs.declared.slots.Place.{Place}
 use Rattle.slots.specs.declared.slots.Place.the-variants.{Held, At}
 use Rattle.slots.specs.declared.slots.Inserted.the-variants as ins
 use Rattle.slots.specs.Canon.{Order, below, same, above}
-use Rattle.slots.specs.Slots.{order, placeBy, seek, placeIn, gapped, stored, insertAnswer, insertWords}
+use Rattle.slots.specs.Insertion.{order, placeBy, seek, placeIn, gapped, stored, insertAnswer, insertWords}
 
 module _ (a b : List ℕ) where
   pub order-none : (n p q : ℕ) → n ≡ 0 → order n a p b q ≡ same

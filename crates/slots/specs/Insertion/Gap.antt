@@ -10,7 +10,7 @@ use lib.ListN.{length, getD, set, take, drop, length-take, List·getD-append}
 use lib.ListN.{take-append-drop}
 use lib.Seq.{slice, slice-empty, slice-cons, take-suc, append-snoc, set-at, getD-take, length-take-le, paste-zero}
 use lib.Seq.{paste-suc}
-use Rattle.slots.specs.Slots.{gapped, stored}
+use Rattle.slots.specs.Insertion.{gapped, stored}
 
 module _ (l : List ℕ) (n : ℕ) (room : n + 16 ≤ length l) where
   pub gap-none : l ≡ gapped l n n

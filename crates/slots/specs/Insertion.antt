@@ -5,7 +5,7 @@
 --     placeIn                       the place by both
 --     gapped, stored                words moved on by sixteen; a slot over the words from a place on
 --     insertAnswer, insertWords     holding one slot more: what is said, and the words afterwards
--- The laws are in `Slots/Laws.antt`, `Slots/Narrow.antt` and `Slots/Gap.antt`. Assumes nothing.
+-- The laws are in `Insertion/Laws.antt`, `Insertion/Narrow.antt` and `Insertion/Gap.antt`. Assumes nothing.
 pub mod Laws
 pub mod Narrow
 pub mod Gap

@@ -3,7 +3,7 @@
 --     Says         the promise of `run`: of an input, by its front
 --     Followed     of `follow`: from an outcome on
 --     FrontFed     of `feed_front`: from the events of the front on
--- The laws are in `Told/`: of a turn, `Laws`; of the front, `Front`. Assumes nothing.
+-- The laws are in `Report/`: of a turn, `Laws`; of the front, `Front`. Assumes nothing.
 use Prim.Native.Nat.{ℕ}
 use mathlib.Core.Path.{_≡_}
 use mathlib.Core.Bool.{Bool, true, false}
@@ -13,25 +13,25 @@ use Rattle.line_spec.specs.Pieces.{concludeOf}
 use Rattle.line_spec.specs.Whole.{ResumeOutcome}
 use Rattle.line_spec.specs.Judged.{Follows, Judged}
 use Rattle.format.specs.Line.{lineSaid}
-use Rattle.line_monitor.specs.declared.pieces.Told.{Told}
-use Rattle.line_monitor.specs.declared.pieces.Told.the-variants.{Line, Broken}
+use Rattle.line_monitor.specs.declared.pieces.Report.{Report}
+use Rattle.line_monitor.specs.declared.pieces.Report.the-variants.{Line, Broken}
 pub mod Laws
 pub mod Front
 
 -- an input that ended with its front s gets its line; one that did not, the line of its bytes, or none
-abbrev pub Says : Bool → List ℕ → Told → Type 0
+abbrev pub Says : Bool → List ℕ → Report → Type 0
 Says true s (Line x) = lineOf s ≡ lineSaid x
 Says true s Broken = ⊥
 Says false s (Line x) = Judged 65536 s (lineSaid x)
 Says false s Broken = Unit
 
 -- by pieces of n bytes
-abbrev pub Followed : ℕ → ResumeOutcome → Told → Type 0
+abbrev pub Followed : ℕ → ResumeOutcome → Report → Type 0
 Followed n o (Line x) = Follows n o (lineSaid x)
 Followed n o Broken = Unit
 
 -- by whether the input ended with the front, which left an outcome
-abbrev pub FrontFed : Bool → ResumeOutcome → Told → Type 0
+abbrev pub FrontFed : Bool → ResumeOutcome → Report → Type 0
 FrontFed true o (Line x) = concludeOf (o .course) ≡ lineSaid x
 FrontFed true o Broken = ⊥
 FrontFed false o r = Followed 65536 o r

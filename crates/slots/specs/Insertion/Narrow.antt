@@ -15,8 +15,8 @@ use mathlib.Core.List.{List}
 use borrow.Author.Tests.{le-ltb, lt-ltb}
 use Rattle.slots.specs.declared.slots.Place.the-variants.{At}
 use Rattle.slots.specs.Canon.{Order, below, same, above}
-use Rattle.slots.specs.Slots.{order, seek, isAbove, middleOf, halved, narrowed, seekFrom, placeIn}
-use Rattle.slots.specs.Slots.Laws.{seek-on, seek-bound}
+use Rattle.slots.specs.Insertion.{order, seek, isAbove, middleOf, halved, narrowed, seekFrom, placeIn}
+use Rattle.slots.specs.Insertion.Laws.{seek-on, seek-bound}
 
 pub above-of : (o : Order) → isAbove o ≡ true → o ≡ above
 above-of below e = absurd (let z : _≡_ {A = ℕ} 0 1 = cc in omega arith)
