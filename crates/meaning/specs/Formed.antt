@@ -16,8 +16,12 @@ use Rattle.table.specs.Table.{SetRef, fixed, family, Term, stop, fail, prefix, 
 use Rattle.table.specs.Table.{Definition, Table, bodyOf}
 use Rattle.table.specs.Context.{Context, outermost, underPrefix, underParallel, Enclosed, Throughout, Each}
 use Rattle.table.specs.Fields.{OfRef, ParamSmall}
-use Rattle.table.specs.Part.{Part, here, follower, choice-left, choice-right, par-left, par-right, Stands}
-use Rattle.table.specs.Part.Numbers.{number-home}
+use Rattle.table.specs.declared.terms.Spot.{Spot}
+use Rattle.table.specs.Branches.{bodyIn}
+use Rattle.table.specs.Node.{Node}
+use Rattle.table.specs.Node.Parts.{Part, here, follower, choice-left, choice-right, par-left, par-right}
+use Rattle.table.specs.Stands.{Stands}
+use Rattle.table.specs.Stands.Laws.{number-home}
 use Rattle.table.specs.References.{firstWrong}
 use Rattle.table.specs.References.Laws.{Linked, BodyLinked}
 use Rattle.table.specs.Rules.{Rules}
@@ -91,8 +95,8 @@ module _ (t : Table) (w : firstWrong t ≡ none) where
         outer-guarded (t .definitions) (At t d .level) d outermost (At t d .body) refl (body-linked d b);
   }
 
-part-guarded : (n d : ℕ) → d ≤ n → {p x : Term} {c k : ℕ} → Part p c k x → Guarded n d (plain p)
-    → Guarded n n (plain x)
+part-guarded : (n d : ℕ) → d ≤ n → {s : Spot} {i k : ℕ} {p : Term} {x : Node} → Part s i p k x → Guarded n d (plain p)
+    → Guarded n n (plain (x .term))
 unfolding plain
 part-guarded n d l (here {p = p}) g = guarded-more n d n l (plain p) g
 part-guarded n d l (follower k) g = part-guarded n n (omega arith) k g
@@ -103,10 +107,10 @@ part-guarded n d l (par-right k) g = part-guarded n d l k (g .1)
 
 pub number-formed : (t : Table) → GuardedTable t → {h c n : ℕ} {x : Term} → Stands (t .definitions) h c n x
     → WellFormed t (plain x)
-unfolding bodyCount body
+unfolding bodyCount body bodyOf bodyIn
 number-formed t guarded {h} s =
-    let (l, (k, p)) = number-home t s in
-    part-guarded (bodyCount t) h (omega arith) p (guarded .bodies h l)
+    let k = number-home t s in
+    part-guarded (bodyCount t) h (omega (arith, k .known)) (k .part) (guarded .bodies h (k .known))
 
 -- ---- of a table that meets the rules
 

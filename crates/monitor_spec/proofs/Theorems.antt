@@ -5,7 +5,7 @@ use mathlib.Core.Path.{_≡_, ap, sym, subst, _∙_}
 use mathlib.Core.List.{List, [], _∷_, _++_}
 use mathlib.Core.Bool.{true}
 use mathlib.Core.Option.{some}
-use Rattle.table.specs.Part.Numbers.{number-at}
+use Rattle.table.specs.Stands.Laws.{number-at}
 use Rattle.monitor_spec.specs.Regular.Laws.{regular}
 use Rattle.monitor_spec.specs.Refusals.Laws.{accepts}
 use Rattle.monitor_spec.specs.Residual.Traces.{traces-run, traces-definition}

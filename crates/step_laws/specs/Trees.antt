@@ -11,7 +11,7 @@ use Rattle.table.specs.Node.{termOf, kindOf}
 use Rattle.table.specs.Node.Numbers.{term-at}
 use Rattle.table.specs.Rules.{Rules}
 use Rattle.residuals.specs.Residual.{Residual, leaf, pair}
-use Rattle.table.specs.Part.Numbers.{number-at, number-below}
+use Rattle.table.specs.Stands.Laws.{number-at, number-below}
 use Rattle.monitor_spec.specs.Meaning.{IsLeaf, IsPar, Sound}
 use Rattle.monitor_spec.specs.Regular.Laws.{regular}
 use Rattle.monitor_spec.specs.Proper.{Remembers, Fits, Proper}

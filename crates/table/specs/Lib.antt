@@ -3,7 +3,6 @@
 -- Assumes nothing.
 pub mod Table
 pub mod Rows
-pub mod Part
 pub mod Tokens
 pub mod Parser
 pub mod Grammar
@@ -26,6 +25,7 @@ pub mod BytesRefused
 pub mod Operations
 pub mod Answers
 pub mod Node
+pub mod Stands
 pub mod Member
 pub mod Examples
 pub mod Bounds

@@ -4,13 +4,14 @@
 --     size, bodyNumber    terms are numbered in reading order: the number of each body
 --     termAt              the term of a number
 --     enclosing           of a term number: how many prefixes are around it
--- Assumes nothing.
+-- The laws are in `Table/Laws.antt`. Assumes nothing.
 use Prim.Native.Nat.{ℕ, suc, _+_, _-_}
 use mathlib.Core.Bool.{true, false}
 use mathlib.Core.List.{List, [], _∷_}
 use mathlib.Core.Option.{Option, none, some}
 use lib.ListN.{getD, take}
 use lib.Dec.{eqb, ltb}
+pub mod Laws
 
 -- "A set reference is a set number and, for a kind 1 set, a parameter k"
 pub data SetRef : Type 0 where

@@ -13,10 +13,11 @@ use Rattle.meaning.specs.Figure1.{bodyCount, last}
 use Rattle.table.specs.Member.{member}
 use Rattle.numbers.specs.Every.{All, all-imp, all-append, all-and}
 use Rattle.numbers.specs.Some.{all-map, all-flat}
-use Rattle.table.specs.Part.{Stands}
-use Rattle.table.specs.Part.Numbers.{follower-stands, choice-left-stands, choice-right-stands}
-use Rattle.table.specs.Part.Numbers.{par-left-stands, par-right-stands, at-number, number-at}
-use Rattle.table.specs.Part.Numbers.{around-number, body-number, body-beyond}
+use Rattle.table.specs.Table.Laws.{body-beyond}
+use Rattle.table.specs.Stands.{Stands}
+use Rattle.table.specs.Stands.Laws.{follower-stands, choice-left-stands, choice-right-stands}
+use Rattle.table.specs.Stands.Laws.{par-left-stands, par-right-stands, at-number, number-at}
+use Rattle.table.specs.Stands.Laws.{around-number, body-number}
 use Rattle.table.specs.Memory.{Memory, noMemory, digit, remember}
 use Rattle.table.specs.Memory.Laws.{digit-first, digit-remember}
 use Rattle.table.specs.References.{levelIn}

@@ -9,7 +9,7 @@ use Rattle.table.specs.Table.{enclosing}
 use Rattle.meaning.specs.Figure1.{bodyCount, plain, Guarded}
 use Rattle.meaning.specs.Formed.{number-formed}
 use Rattle.numbers.specs.Every.{All, all-append}
-use Rattle.table.specs.Part.Numbers.{number-at, number-below}
+use Rattle.table.specs.Stands.Laws.{number-at, number-below}
 use Rattle.table.specs.Memory.{Memory, digit}
 use Rattle.table.specs.Width.{widthWith, reach}
 use Rattle.monitor_spec.specs.Regular.{Regular}

@@ -12,9 +12,14 @@ use Rattle.meaning.specs.Figure1.{SetRef, Term, stop, fail, prefix, choice, par
 use Rattle.numbers.specs.Every.{All, all-imp, all-append}
 use Rattle.numbers.specs.Some.{all-map, all-flat}
 use Rattle.meaning.specs.ClosedResiduals as C
-use Rattle.table.specs.Part.{Part, here, follower, choice-left, choice-right, par-left, par-right, Stands}
-use Rattle.table.specs.Part.Numbers.{choice-left-stands, choice-right-stands, par-left-stands}
-use Rattle.table.specs.Part.Numbers.{par-right-stands, at-number, body-number, number-home, body-beyond}
+use Rattle.table.specs.declared.terms.Spot.{Spot}
+use Rattle.table.specs.Table.Laws.{body-beyond}
+use Rattle.table.specs.Branches.{bodyIn}
+use Rattle.table.specs.Node.{Node}
+use Rattle.table.specs.Node.Parts.{Part, here, follower, choice-left, choice-right, par-left, par-right}
+use Rattle.table.specs.Stands.{Stands}
+use Rattle.table.specs.Stands.Laws.{choice-left-stands, choice-right-stands, par-left-stands}
+use Rattle.table.specs.Stands.Laws.{par-right-stands, at-number, body-number, number-home}
 use Rattle.table.specs.Memory.{Memory, noMemory}
 use Rattle.meaning.specs.Closing.{closeRef, close, ScopedRef, Scoped}
 use Rattle.meaning.specs.Closing.Laws.{close-plain}
@@ -131,7 +136,8 @@ module _ (t : Table) where
   resolveIn-sound f k (Table.call d) m s = k d
 
   -- ---- parts of a scoped term
-  part-scoped : {p x : Table.Term} {d n : ℕ} → Part p d n x → (c : ℕ) → Scoped c p → (c′ : ℕ) × Scoped c′ x
+  part-scoped : {s : Spot} {i k : ℕ} {p : Table.Term} {x : Node} → Part s i p k x → (c : ℕ) → Scoped c p
+      → (c′ : ℕ) × Scoped c′ (x .term)
   part-scoped here c s = (c, s)
   part-scoped (follower k) c s = part-scoped k (suc c) (s .1)
   part-scoped (choice-left k) c s = part-scoped k c (s .0)
@@ -142,8 +148,8 @@ module _ (t : Table) where
   module _ (regular : Regular t) where
     -- what stands under a number is scoped
     pub number-scoped : {h c n : ℕ} {x : Table.Term} → Stands (t .definitions) h c n x → (c′ : ℕ) × Scoped c′ x
-    unfolding bodyCount
-    number-scoped {h} s = let (l, (k, p)) = number-home t s in part-scoped p 0 (regular .scoped h l)
+    unfolding bodyCount bodyOf bodyIn
+    number-scoped {h} s = let k = number-home t s in part-scoped (k .part) 0 (regular .scoped h (k .known))
 
     body-denote : (f : ℕ → List Residual) (g : ℕ → List Term) → ((d : ℕ) → map (denote t) (f d) ≡ g d) → (d : ℕ)
         → map (denote t) (resolveIn f (bodyOf t d) (bodyNumber t d) noMemory) ≡ C.resolveWith g (body t d)

@@ -18,7 +18,7 @@ use Rattle.numbers.specs.Every.{All, all-imp}
 use Rattle.numbers.specs.Some.{any-unmap, Any, any-all, any-map, all-map}
 use Rattle.meaning.specs.ClosedResiduals as C
 use Rattle.meaning.specs.ClosedResidualsHold.{Ready, Has, run-holds, residuals-hold}
-use Rattle.table.specs.Part.Numbers.{number-at}
+use Rattle.table.specs.Stands.Laws.{number-at}
 use Rattle.table.specs.Memory.{Memory}
 use Rattle.meaning.specs.Formed.{number-formed}
 use Rattle.meaning.specs.Closing.{close}

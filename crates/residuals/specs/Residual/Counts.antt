@@ -19,7 +19,7 @@ use Rattle.table.specs.References.{firstWrong}
 use Rattle.table.specs.Equations.{branches-call}
 use Rattle.table.specs.Rules.{Rules}
 use Rattle.table.specs.Rules.Laws.{no-wrong}
-use Rattle.table.specs.Part.Numbers.{number-at}
+use Rattle.table.specs.Stands.Laws.{number-at}
 use Rattle.meaning.specs.Figure1.{bodyCount, last, body, plain, Guarded}
 use Rattle.meaning.specs.Formed.{guarded-table, number-formed}
 use Rattle.residuals.specs.Keep.{keep}

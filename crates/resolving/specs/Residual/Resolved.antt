@@ -3,15 +3,14 @@
 --     length-resolved                       as many residuals as branches
 --     resolved-definition                   a call's residuals are those of the body called
 -- Not here: by the kind of the term (`Kinds.antt`); the i-th of a list of residuals (`Nth.antt`). Assumes nothing.
-use Prim.Native.Nat.{ℕ, _-_, _<_, _≤_}
+use Prim.Native.Nat.{ℕ, _<_, _≤_}
 use native.Mathlib.Omega.{arith}
 use native.Mathlib.Decide.{decLt}
-use mathlib.Core.Path.{_≡_, refl, ap, _∙_}
-use mathlib.Core.List.{List, [], _∷_}
+use mathlib.Core.Path.{_≡_, ap, _∙_}
 use mathlib.Core.Option.{none}
 use lib.ListN.{length, List·getD-eq-default}
-use borrow.Author.Tests.{le-ltb}
-use Rattle.table.specs.Table.{fail, Definition, Table, size, sizes, termCount, bodyNumber, termOfDefs, termAt}
+use Rattle.table.specs.Table.{fail, Table, termCount, bodyNumber, termAt}
+use Rattle.table.specs.Table.Laws.{none-beyond}
 use Rattle.table.specs.Memory.{Memory, noMemory}
 use Rattle.table.specs.Branches.{branchesWith, branches}
 use Rattle.table.specs.Node.{Node, noNode, nodesOf, nodeAt, termOf}
@@ -25,13 +24,6 @@ use Rattle.residuals.specs.Residual.Counts.{resolve-length}
 use Rattle.resolving.specs.Lawful.{Lawful}
 
 -- ---- the term of a number
-
-none-beyond : (ds : List Definition) (n : ℕ) → sizes ds ≤ n → termOfDefs ds n ≡ none
-unfolding termOfDefs sizes
-none-beyond [] n h = refl
-none-beyond (d ∷ ds) n h =
-    let l : size (d .body) ≤ n = omega arith in
-    rw (le-ltb _ _ l, termOfDefs) (none-beyond ds (n - size (d .body)) (omega arith))
 
 -- from the term count on there is no term, which reads as FAIL
 pub term-beyond : (t : Table) (n : ℕ) → termCount t ≤ n → termOf t n ≡ fail

@@ -18,7 +18,7 @@ use Rattle.table.specs.Memory.{Memory}
 use Rattle.table.specs.Width.{reach}
 use Rattle.state.specs.declared.valid.Forest.{Forest}
 use Rattle.state.specs.declared.valid.Forest.the-variants.{Broken, Trees}
-use Rattle.table.specs.Part.Numbers.{number-at, number-below}
+use Rattle.table.specs.Stands.Laws.{number-at, number-below}
 use Rattle.monitor_spec.specs.Proper.Laws.{reachAt-at}
 use Rattle.residuals.specs.Residual.{Residual, leaf, pair}
 use Rattle.node_word.specs.Word.{termOfWord, memoryOf}

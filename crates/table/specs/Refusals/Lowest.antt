@@ -20,9 +20,9 @@ use Rattle.table.specs.Node.Parts.{size-positive}
 use Rattle.table.specs.Branches.{branchesWith, branchesAt, allBranches}
 use Rattle.table.specs.Refusals.{fewIn, fewFrom, fewTerms, BodyOrFollower, a-body, a-follower, ManyAt}
 use Rattle.table.specs.Refusals.Laws.{length-few}
-use Rattle.table.specs.Part.Laws.{termIn-here, termIn-stop, termIn-fail, termIn-call, termIn-prefix}
-use Rattle.table.specs.Part.Laws.{termIn-choice-left, termIn-choice-right, termIn-par-left, termIn-par-right}
-use Rattle.table.specs.Part.Numbers.{defs-first, defs-later}
+use Rattle.table.specs.Table.Laws.{termIn-here, termIn-stop, termIn-fail, termIn-call, termIn-prefix}
+use Rattle.table.specs.Table.Laws.{termIn-choice-left, termIn-choice-right, termIn-par-left, termIn-par-right}
+use Rattle.table.specs.Table.Laws.{defs-first, defs-later}
 
 not-none : {X : Type 0} {o : Option Term} {q : Term} → o ≡ none → o ≡ some q → X
 not-none e f = absurd (let z : _≡_ {A = ℕ} 0 1 = cc in omega arith)

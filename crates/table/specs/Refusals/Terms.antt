@@ -15,9 +15,9 @@ use lib.Dec.{leb}
 use borrow.Author.Tests.{leb-false}
 use Rattle.table.specs.Table.{SetRef, Term, stop, fail, prefix, choice, par, call, Definition, Table, size, sizes}
 use Rattle.table.specs.Table.{termIn, termOfDefs}
-use Rattle.table.specs.Part.Laws.{termIn-here, termIn-prefix, termIn-choice-left, termIn-choice-right}
-use Rattle.table.specs.Part.Laws.{termIn-par-left, termIn-par-right}
-use Rattle.table.specs.Part.Numbers.{defs-first, defs-later}
+use Rattle.table.specs.Table.Laws.{termIn-here, termIn-prefix, termIn-choice-left, termIn-choice-right}
+use Rattle.table.specs.Table.Laws.{termIn-par-left, termIn-par-right}
+use Rattle.table.specs.Table.Laws.{defs-first, defs-later}
 use Rattle.table.specs.Branches.{branchesWith, branchesAt, allBranches}
 use Rattle.table.specs.Refusals.{fewIn, fewFrom, fewTerms, BodyOrFollower, a-body, a-follower, ManyAt}
 use Rattle.table.specs.Refusals.Laws.{length-few}
