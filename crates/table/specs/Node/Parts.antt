@@ -21,7 +21,8 @@ use Rattle.table.specs.Fields.{depthOf}
 pub use Rattle.table.specs.Table.Laws.{size-positive}
 use Rattle.table.specs.Table.Laws.{termIn-here, termIn-prefix, termIn-choice-left, termIn-choice-right}
 use Rattle.table.specs.Table.Laws.{termIn-par-left, termIn-par-right, prefixes-here, prefixes-prefix}
-use Rattle.table.specs.Table.Laws.{prefixes-choice-left, prefixes-choice-right, prefixes-par-left, prefixes-par-right}
+use Rattle.table.specs.Table.Laws.{prefixes-choice-left, prefixes-choice-right, prefixes-par-left}
+use Rattle.table.specs.Table.Laws.{prefixes-par-right}
 use Rattle.table.specs.Node.{Node, node, nodes, noNode, followerSpot, sideSpot, besideSpot}
 
 pub data Part : Spot → ℕ → Term → ℕ → Node → Type 0 where
