@@ -21,17 +21,17 @@ pub mod Front
 -- an input that ended with its front s gets its line; one that did not, the line of its bytes, or none
 abbrev pub Says : Bool → List ℕ → Report → Type 0
 Says true s (Line x) = lineOf s ≡ lineSaid x
-Says true s Broken = ⊥
+Says true s (Broken f) = ⊥
 Says false s (Line x) = Judged 65536 s (lineSaid x)
-Says false s Broken = Unit
+Says false s (Broken f) = Unit
 
 -- by pieces of n bytes
 abbrev pub Followed : ℕ → ResumeOutcome → Report → Type 0
 Followed n o (Line x) = Follows n o (lineSaid x)
-Followed n o Broken = Unit
+Followed n o (Broken f) = Unit
 
 -- by whether the input ended with the front, which left an outcome
 abbrev pub FrontFed : Bool → ResumeOutcome → Report → Type 0
 FrontFed true o (Line x) = concludeOf (o .course) ≡ lineSaid x
-FrontFed true o Broken = ⊥
+FrontFed true o (Broken f) = ⊥
 FrontFed false o r = Followed 65536 o r

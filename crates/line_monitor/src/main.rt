@@ -18,6 +18,6 @@ fn main() {
     };
     match pieces::run(&front, part) {
         Report::Line(line) => print::say(line),
-        Report::Broken => input::fail(),
+        Report::Broken(_) => input::fail(),
     }
 }

@@ -15,16 +15,18 @@ ghost use Rattle.line_spec.specs.Judged.{pieceEnd};
 ghost use Rattle.input.specs.Reading.{Parts};
 ghost use Rattle.line_monitor.specs.Report.{Says, Followed, FrontFed};
 use format::Line;
+use input::Failure;
 use input::Filled;
 use input::Part;
 use line::Course;
 use line::Opened;
 use state::State;
 
-// The line of an input, or that it could not be read. A monitor that goes on is neither.
+// The line of an input, or that a read failed, which only crate `input` can tell. A monitor that
+// goes on is neither.
 pub enum Report {
     Line(Line),
-    Broken,
+    Broken(Failure),
 }
 
 // Feeds a piece, so far as it was filled. A monitor that goes on has taken the whole of it.
@@ -67,8 +69,9 @@ fn follow(
 {
     let mut last = state;
     loop {
-        let Filled::Bytes(part) = input::fill(piece) else {
-            return Report::Broken;
+        let part = match input::fill(piece) {
+            Filled::Bytes(part) => part,
+            Filled::Broken(failure) => return Report::Broken(failure),
         };
         match turn(list, last, area0, area1, piece, part, work) {
             Course::Going(next) => last = next,

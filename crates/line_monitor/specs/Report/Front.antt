@@ -77,9 +77,9 @@ module _ (s l a b w : List ℕ) (fit : Lengths l a b w) where
   says : (last : Bool) → (last ≡ false → 16387 ≤ length s) → (t : Report)
       → FrontFed last (frontLeft s (openOf s l a b w)) t → Says last s t
   says true long (Line x) h = front-line s l a b w (lent-in l a b w fit) (lineSaid x) h
-  says true long Broken h = h
+  says true long (Broken f) h = h
   says false long (Line x) h = follows-judged s l a b w (lent-in l a b w fit) 65536 (lineSaid x) (long refl) h
-  says false long Broken h = h
+  says false long (Broken f) h = h
 
   module _ (last : Bool) (long : last ≡ false → 16387 ≤ length s) (r : Opened) (l' a' b' w' : List ℕ)
       (said : openSaid r l' a' b' w' ≡ openOf s l a b w)

@@ -34,8 +34,8 @@ fill-requires c κs = search needs
 enum-known-part : tie.Need-enum-known-part Inv-loop μ-loop
 enum-known-part c = search needs
 
-enum-told : tie.Need-enum-told Inv-loop μ-loop
-enum-told c = search needs
+enum-known-failure : tie.Need-enum-known-failure Inv-loop μ-loop
+enum-known-failure c = search needs
 
 same-length : tie.Need-same-length Inv-loop μ-loop
 same-length c = search needs
@@ -135,7 +135,7 @@ follow-spec =
     loop-holds
     fill-requires
     enum-known-part
-    enum-told
+    enum-known-failure
     same-length
     same-length-2
     same-length-3
