@@ -4,7 +4,7 @@
 // `specs/Valid.antt` of crate monitor_spec, those of the walk over a slot's node words in
 // `specs/Walk.antt`.
 ghost use mathlib.Core.Path.{_≡_};
-ghost use Prim.Native.Nat.{_≤_};
+ghost use Prim.Native.Nat.{_+_, _≤_};
 ghost use lib.ListN.{length, take, drop};
 ghost use Rattle.table_index.specs.Index.{tableIn, Indexed};
 ghost use Rattle.node_word.specs.Word.{memoryOf};
@@ -16,11 +16,43 @@ ghost use Rattle.state.specs.Walk.{wordFits, planted, plantedAll};
 use node_word::digit;
 use node_word::term_of;
 
+// The bits of the eight words from i on.
+fn eight(area: &[u64], i: usize) -> u64
+    requires { ⌜ i + 8 ≤ length (now area) ⌝ }
+    ensures { λ r.
+        ⌜ (r ≡ 0 → allZero (drop (i + 8) (now (area .entry)))
+        ≡ allZero (drop i (now (area .entry)))) ⌝ }
+{
+    let low = area[i] | area[i + 1] | area[i + 2] | area[i + 3];
+    let high = area[i + 4] | area[i + 5] | area[i + 6] | area[i + 7];
+    low | high
+}
+
+// A place from which on the words are zero exactly where those from one on are: words are passed
+// over eight at a time, as long as eight are left and zero.
+fn past_zeros(area: &[u64], from: usize) -> usize
+    ensures { λ r.
+        ⌜ allZero (drop r (now (area .entry))) ≡ allZero (drop from (now (area .entry))) ⌝ }
+{
+    if area.len() < 8 {
+        return from;
+    }
+    let last = area.len() - 8;
+    let mut i = from;
+    while i <= last {
+        if eight(area, i) != 0 {
+            return i;
+        }
+        i += 8;
+    }
+    i
+}
+
 // Whether the words from one on are zero.
 pub fn all_zero(area: &[u64], from: usize) -> bool
     ensures { λ r. ⌜ r ≡ allZero (drop from (now (area .entry))) ⌝ }
 {
-    let mut i = from;
+    let mut i = past_zeros(area, from);
     while i < area.len() {
         if area[i] != 0 {
             return false;
