@@ -1,12 +1,14 @@
 -- A store filled for one residual; a tree that cannot take the event is passed over whole.
 --     Sound                  the residual in a store: a known tree whose results fit a slot
 --     Held, NodeFilled       a prefix's set holds the event; one node is filled
+--     Last, TakenOver        the prefix filled last; its part taken over by a node with the same word
 --     PreparedAll            trees one after the other are prepared
 --     Left, First            the trees that are left from a node on, of one residual; the first of them
 --     UpTo                   what holds there
 --     Fills                  the promise of `prepare`
--- The laws are in `Prepared/`: `Below` (what lies below a place), `Nodes` (one node), `Asked` (a tree that takes the
--- event, and one that does not), `Turns` (the loop of `prepare`). Assumes nothing.
+-- The laws are in `Prepared/`: `Below` (what lies below a place), `Nodes` (one node), `Repeats` (a node whose word was
+-- there before), `Asked` (a tree that takes the event, and one that does not), `Turns` (the loop of `prepare`). Assumes
+-- nothing.
 use Prim.Native.Nat.{ℕ, _+_, _*_, _<_, _≤_}
 use mathlib.Core.Path.{_≡_}
 use mathlib.Core.Bool.{true}
@@ -16,11 +18,13 @@ use Rattle.table.specs.Table.{Table}
 use Rattle.residuals.specs.Slots.{nodes}
 use Rattle.residuals.specs.Residual.{Residual}
 use Rattle.resolving.specs.Words.{kindAt, holdsAt}
-use Rattle.tree_walk.specs.Walk.{room}
+use Rattle.resolving.specs.Distinct.{window}
+use Rattle.tree_walk.specs.Walk.{leafKept, room}
 use Rattle.tree_walk.specs.Forest.{Valid, AllValid, nodesAll}
 use Rattle.tree_walk.specs.Course.{nodeCount, nodesFrom, Node, Prepared, Ready}
 pub mod Below
 pub mod Nodes
+pub mod Repeats
 pub mod Asked
 pub mod Turns
 
@@ -43,6 +47,17 @@ pub record NodeFilled (t : Table) (e : ℕ) (old new : List ℕ) (k : ℕ) : Typ
   pub before : take (k * 257) new ≡ take (k * 257) old
   pub prefix : kindAt t (getD old k 0) ≡ 2 → Node t e new k (getD old k 0)
   pub other : (kindAt t (getD old k 0) ≡ 2 → ⊥) → getD new (k * 257) 0 ≡ 1
+
+-- the prefix filled last, before node k, or 0
+pub record Last (t : Table) (e : ℕ) (store : List ℕ) (k last : ℕ) : Type 0 where
+  pub before : last < k
+  pub few : 0 < last → length (leafKept t e (getD store last 0)) ≤ 256
+  pub node : 0 < last → Node t e store last (getD store last 0)
+
+-- node k's part is that of node `from`; nothing before it is touched
+pub record TakenOver (old new : List ℕ) (from k : ℕ) : Type 0 where
+  pub before : take (k * 257) new ≡ take (k * 257) old
+  pub part : window (k * 257) (getD old (from * 257) 0 + 1) new ≡ window (from * 257) (getD old (from * 257) 0 + 1) old
 
 abbrev pub PreparedAll : Table → ℕ → List ℕ → ℕ → List Residual → Type 0
 PreparedAll t e store k [] = Unit

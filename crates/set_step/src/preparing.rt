@@ -8,14 +8,16 @@ use resolving::distinct;
 use resolving::kind_at;
 use tree_moves::takes_at;
 ghost use mathlib.Core.Path.{_≡_};
-ghost use Prim.Native.Nat.{_<_, _≤_};
+ghost use mathlib.Core.Bool.{true};
+ghost use Prim.Native.Nat.{_+_, _*_, _<_, _≤_};
 ghost use lib.Dec.{eqb};
+ghost use lib.ListN.{length, getD};
 ghost use Rattle.table.specs.Table.{termCount};
 ghost use Rattle.table_index.specs.Index.{tableIn, Indexed};
 ghost use Rattle.node_word.specs.Word.{termOfWord};
 ghost use Rattle.resolving.specs.Words.{kindAt};
 ghost use Rattle.tree_walk.specs.Course.{nodeCount};
-ghost use Rattle.set_step.specs.Prepared.{Sound, Held, NodeFilled, Fills};
+ghost use Rattle.set_step.specs.Prepared.{Sound, Held, NodeFilled, Last, TakenOver, Fills};
 
 // Whether a node is a prefix, by the kind of its term. A residual's other nodes are STOP and pairs.
 fn is_prefix(list: &[u16], work: &[u64], w: u64) -> bool
@@ -32,26 +34,69 @@ fn is_prefix(list: &[u16], work: &[u64], w: u64) -> bool
     }
 }
 
+// Whether there is a node `last`, not 0, and its word is w.
+fn has_word(store: &[u64], last: usize, w: u64) -> bool
+    requires { ⌜ last < length (now store) ⌝ }
+    ensures { λ r. ⌜ (r ≡ true → (0 < last) × (getD (now (store .entry)) last 0 ≡ w)) ⌝ }
+{
+    if last == 0 {
+        return false;
+    }
+    store[last] == w
+}
+
+// The part of node `from` again as that of node k: the number of its results and their indices.
+fn take_over(store: &mut [u64], from: usize, k: usize)
+    requires { ⌜ (length (now store) ≡ 4112) × (from < k) × (k ≤ 15) ⌝ }
+    requires { ⌜ getD (now store) (from * 257) 0 ≤ 256 ⌝ }
+    ensures { λ _. ⌜ TakenOver (now (store .entry)) (now (store .exit)) from k ⌝ }
+{
+    let p = from * 257;
+    let q = k * 257;
+    let n = store[p] as usize;
+    let mut j = 0;
+    while j <= n {
+        store[q + j] = store[p + j];
+        j += 1;
+    }
+}
+
 // Fills the part of node k, whose tree takes the event: of a prefix the number of its results and
-// their indices, of a pair that it does.
-fn prepare_node(list: &[u16], work: &[u64], bound: usize, e: u64, store: &mut [u64], k: usize)
+// their indices, of a pair that it does. What has the word of the prefix filled last, if there is
+// one, has its results. Gives the prefix filled last, or 0.
+fn prepare_node(
+    list: &[u16],
+    work: &[u64],
+    bound: usize,
+    e: u64,
+    store: &mut [u64],
+    k: usize,
+    last: usize,
+) -> usize
     requires { ⌜ Indexed (now list) (now work) ⌝ }
     requires { ⌜ Sound (tableIn (now list)) bound e (now store) ⌝ }
     requires { ⌜ (1 ≤ k) × (k ≤ nodeCount (now store)) × Held (tableIn (now list)) e (now store) k ⌝ }
-    ensures { λ _.
+    requires { ⌜ Last (tableIn (now list)) e (now store) k last ⌝ }
+    ensures { λ r.
         ⌜ NodeFilled (tableIn (now (list .entry))) e (now (store .entry))
-        (now (store .exit)) k ⌝ }
+        (now (store .exit)) k
+        × Last (tableIn (now (list .entry))) e (now (store .exit)) (k + 1) r ⌝ }
 {
     let w = store[k];
     let at = k * 257;
     if is_prefix(list, work, w) {
+        if has_word(store, last, w) {
+            take_over(store, last, k);
+            return k;
+        }
         let t = term_of(w);
         let m = remember(e, memory_of(w));
         let c = distinct(list, work, bound, t + 1, m, store, at + 1);
         store[at] = c as u64;
-        return;
+        return k;
     }
     store[at] = 1;
+    last
 }
 
 // Fills the store for the residual in its first sixteen words.
@@ -62,11 +107,12 @@ pub(crate) fn prepare(list: &[u16], work: &[u64], bound: usize, e: u64, store: &
         ⌜ Fills (tableIn (now (list .entry))) bound e (now (store .entry)) (now (store .exit)) ⌝ }
 {
     let n = store[0] as usize;
+    let mut last = 0;
     let mut k = 1;
     while k <= n {
         let tree = takes_at(list, work, store, k, e);
         if tree.moves {
-            prepare_node(list, work, bound, e, store, k);
+            last = prepare_node(list, work, bound, e, store, k, last);
             k += 1;
             continue;
         }

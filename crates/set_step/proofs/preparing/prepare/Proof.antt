@@ -1,23 +1,26 @@
 -- `set_step::preparing::prepare` meets its contract: the trees before k are prepared, or passed over, and the residual's
 -- slot is the same. The measure is the nodes left. Assumes nothing.
-use Prim.Native.Nat.{_+_, _-_, _≤_}
+use Prim.Native.Nat.{_+_, _-_, _*_, _≤_}
 use native.Mathlib.Omega.{arith}
 use mathlib.Core.Path.{_≡_, refl, sym, _∙_}
 use lib.ListN.{length, getD, length-set}
+use lib.Seq.{take-set-le}
 use Rattle.table_index.specs.Index.{tableIn}
 use Rattle.resolving.specs.Lawful.{lawful}
-use Rattle.set_step.specs.Prepared.{UpTo}
+use Rattle.set_step.specs.Prepared.{UpTo, Last}
+use Rattle.set_step.specs.Prepared.Repeats.{last-none, last-kept}
 use Rattle.set_step.specs.Prepared.Turns.{up-first, up-count, up-sound, up-tree, up-held, up-bounds, up-passes}
 use Rattle.set_step.specs.Prepared.Turns.{up-moves, up-fills}
 use Rattle.set_step.proofs.preparing.prepare.Statement.{statement}
 use Rattle.set_step.proofs.preparing.prepare.Tie as tie
 
 abbrev Inv-loop : tie.InvT-loop
-Inv-loop list work bound e store₀ n k₀ store k =
+Inv-loop list work bound e store₀ n last₀ k₀ store last k =
     (1 ≤ k) × (k ≤ n + 1) × (length store ≡ 4112) × (n ≡ getD store₀ 0 0) × UpTo (tableIn list) e store₀ store k
+    × Last (tableIn list) e store k last
 
 abbrev μ-loop : tie.MeasureT-loop
-μ-loop list work bound e store₀ n k₀ store k = n + 1 - k
+μ-loop list work bound e store₀ n last₀ k₀ store last k = n + 1 - k
 
 slice-read-n : tie.Need-slice-read-n Inv-loop μ-loop
 slice-read-n c = omega (arith, c .before .before .before .before .pre .1 .size)
@@ -25,7 +28,7 @@ slice-read-n c = omega (arith, c .before .before .before .before .pre .1 .size)
 loop-holds : tie.Need-loop-holds Inv-loop μ-loop
 loop-holds c =
     let at-start = c .before .before .before .before in
-    (omega arith, omega arith, at-start .pre .1 .size, refl, up-first _ _ _ _ (at-start .pre .1))
+    (omega arith, omega arith, at-start .pre .1 .size, refl, up-first _ _ _ _ (at-start .pre .1), last-none _ _ _)
 
 takes-at-requires : tie.Need-takes-at-requires Inv-loop μ-loop
 takes-at-requires c κs =
@@ -47,17 +50,20 @@ prepare-node-requires c κs =
       (
         up-sound _ _ _ _ (at-start .pre .1) _ _ (at-loop .loop .inv .4) (at-loop .loop .inv .2),
         (
-          at-loop .loop .inv .0,
-          omega (
-            arith,
-            up-count _ _ _ _ (at-start .pre .1) _ _ (at-loop .loop .inv .4),
-            at-loop .loop .inv .3,
-            c .before .before .before .before .loop-test .taken,
+          (
+            at-loop .loop .inv .0,
+            omega (
+              arith,
+              up-count _ _ _ _ (at-start .pre .1) _ _ (at-loop .loop .inv .4),
+              at-loop .loop .inv .3,
+              c .before .before .before .before .loop-test .taken,
+            ),
+            up-held _ _ _ _ (at-start .pre .1) _ _ (at-loop .loop .inv .4) (at-loop .loop .inv .2)
+                (at-loop .loop .inv .0)
+                (omega (arith, at-loop .loop .inv .3, c .before .before .before .before .loop-test .taken)) _
+                (c .before .before .takes-at .ensures) (c .before .if1 .taken),
           ),
-          up-held _ _ _ _ (at-start .pre .1) _ _ (at-loop .loop .inv .4) (at-loop .loop .inv .2)
-              (at-loop .loop .inv .0)
-              (omega (arith, at-loop .loop .inv .3, c .before .before .before .before .loop-test .taken)) _
-              (c .before .before .takes-at .ensures) (c .before .if1 .taken),
+          at-loop .loop .inv .5,
         ),
       ),
     )
@@ -89,7 +95,8 @@ loop-again c =
           (omega (arith, at-loop .loop .inv .3, tested)) _
           (c .before .before .before .before .before .takes-at .ensures)
           (c .before .before .before .before .if1 .taken) (lawful (at-start .pre .0)) _
-          (c .before .before .prepare-node .ensures),
+          (c .before .before .prepare-node .ensures .0),
+      c .before .before .prepare-node .ensures .1,
     )
 
 -- a tree that does not
@@ -146,6 +153,9 @@ loop-again-2 c =
       at-loop .loop .inv .3,
       up-passes _ _ _ _ (at-start .pre .1) _ _ (at-loop .loop .inv .4) (at-loop .loop .inv .2) (at-loop .loop .inv .0)
           (omega (arith, at-loop .loop .inv .3, tested)) _ (c .before .takes-at .ensures) (c .if1 .left),
+      last-kept _ _ _ _ (at-loop .loop .k)
+          (take-set-le (at-loop .loop .k * 257) (at-loop .loop .store) (at-loop .loop .k * 257) 0 (omega arith)) _ _
+          (omega (arith, further .0)) (at-loop .loop .inv .5),
     )
 
 same-length : tie.Need-same-length Inv-loop μ-loop
