@@ -1,6 +1,7 @@
 """cspe explain: why events failed or were refused, and where in the drawing."""
 
 from collections import Counter
+from typing import NamedTuple
 
 from .drawings import FAILED, load
 from .judging import Judge
@@ -56,6 +57,13 @@ def story(drawing, judge):
 # ---- where the drawing stands
 
 
+class Told(NamedTuple):
+    """A leaf in words; `sided` also says on which side it stands, where others at its place have another reason."""
+
+    plain: tuple
+    sided: tuple
+
+
 def stands(drawing, judge, everything):
     found = judge.standings()
     event = judge.event if judge.status == FAILED else None
@@ -66,12 +74,12 @@ def stands(drawing, judge, everything):
              f"{drawing.source.name} may stand in {len(found)} ways {when}:"]
     shown = found if everything else found[:WAYS]
     told = [residual_lines(drawing, residual, event, judge.terms.doomed) for residual in found]
-    common = shared(told) if len(found) > 1 else []
+    common, own = compared(told)
     lines += part("in each of them", common)
-    for number, leaves in enumerate(told[: len(shown)], 1):
-        lines += part(f"way {number}" if len(found) > 1 else None, without(leaves, common))
-    if all(len(leaves) == len(common) for leaves in told):
-        lines += ["", "  the ways differ only in which side of a parallel stands where"]
+    for number, leaves in enumerate(own[: len(shown)], 1):
+        lines += part(f"way {number}" if len(found) > 1 else None, leaves)
+    if not any(own):
+        lines += ["", f"  the ways differ only in {difference(found)}"]
     if len(shown) < len(found):
         lines += ["", f"  and {many(len(found) - len(shown), 'way')} more; --all shows them"]
     if event is not None and not any(event in leaf.events for residual in found for leaf in residual.leaves()):
@@ -80,9 +88,22 @@ def stands(drawing, judge, everything):
 
 
 def part(head, leaves):
-    """Some leaves below their head; nothing where there are none."""
+    """The lines of some leaves below their head; nothing where there are none."""
     shown = [line for leaf in leaves for line in leaf]
     return ["", *([f"  {head}"] if head else []), *shown] if shown else []
+
+
+def compared(told):
+    """The leaves that each way has, and of each way the others. A leaf that stands on another side in another way is
+    among the common ones, without its side."""
+    if len(told) == 1:
+        return [], [[leaf.sided for leaf in told[0]]]
+    same = shared([[leaf.sided for leaf in leaves] for leaves in told])
+    rest = [without(leaves, same, lambda leaf: leaf.sided) for leaves in told]
+    moved = shared([[leaf.plain for leaf in leaves] for leaves in rest])
+    own = [without(leaves, moved, lambda leaf: leaf.plain) for leaves in rest]
+    common = [leaf.plain if leaf in rest[0] else leaf.sided for leaf in without(told[0], own[0], lambda leaf: leaf)]
+    return common, [[leaf.sided for leaf in leaves] for leaves in own]
 
 
 def shared(told):
@@ -93,15 +114,28 @@ def shared(told):
     return [leaf for leaf in dict.fromkeys(told[0]) for _ in range(common[leaf])]
 
 
-def without(leaves, common):
+def without(leaves, common, words):
     left = Counter(common)
     found = []
     for leaf in leaves:
-        if left[leaf]:
-            left[leaf] -= 1
+        if left[words(leaf)]:
+            left[words(leaf)] -= 1
         else:
             found.append(leaf)
     return found
+
+
+def difference(found):
+    """Of ways that have the same leaves: what else differs."""
+
+    def differ(what):
+        return len({tuple(sorted(map(what, residual.nodes()))) for residual in found}) > 1
+
+    if differ(lambda node: node.place.number):
+        return "the parallels that these stand under"
+    if differ(lambda node: (node.place.number, node.memory)):
+        return "the events that they remember"
+    return "which side of a parallel stands where"
 
 
 def doomed_start(judge):
@@ -111,9 +145,29 @@ def doomed_start(judge):
 
 def residual_lines(drawing, residual, event, doomed):
     """Of each leaf its line of the drawing, and one with a caret and what it waits for."""
-    return [
-        source_lines(leaf.place.term.at, said_of(drawing, residual, leaf, event, doomed)) for leaf in residual.leaves()
-    ]
+    leaves = residual.leaves()
+    reasons = [reason(drawing, residual, leaf, event, doomed) for leaf in leaves]
+    found = []
+    for leaf, why in zip(leaves, reasons):
+        like = [one for one in leaves if one.place is leaf.place]
+        several = len({other for one, other in zip(leaves, reasons) if one.place is leaf.place}) > 1
+        at, side = leaf.place.term.at, side_of(residual, leaf, like) if several else ""
+        plain, sided = ([said_of(drawing, leaf, words), *why] for words in ("", side))
+        found.append(Told(source_lines(at, plain), source_lines(at, sided)))
+    return found
+
+
+def side_of(node, leaf, like):
+    """On which side a leaf stands of the parallels that have others like it across, the outermost first."""
+    found = []
+    while node.sides:
+        at = node.place.term.at
+        here = [[one for one in side.leaves() if one in like] for side in node.sides]
+        right = leaf in here[1]
+        if here[0] and here[1]:
+            found.append(f"{'right' if right else 'left'} of the parallel at {at.line}:{at.column}")
+        node = node.sides[right]
+    return f", {', '.join(found)},"
 
 
 def source_lines(at, what):
@@ -129,29 +183,33 @@ def source_lines(at, what):
     return (margin + text, f"{below}{caret} {first}", *(f"{below}{beside}{words}" for words in more))
 
 
-def said_of(drawing, residual, leaf, event, doomed):
-    """What a leaf waits for; and of one that waits for the event that failed, why that is not enough."""
-    name = leaf.place.definition.name
+def said_of(drawing, leaf, side):
+    """What a leaf waits for; `side` are words behind its name."""
+    name = f"{leaf.place.definition.name}{side}"
     if isinstance(leaf.place.term, Stop):
-        return [f"{name} is at its end: STOP takes no event"]
-    waits = f"{name} waits for {drawing.listed(leaf.events, 'an event of an empty set')}{remembered(drawing, leaf)}"
+        return f"{name} is at its end: STOP takes no event"
+    return f"{name} waits for {drawing.listed(leaf.events, 'an event of an empty set')}{remembered(drawing, leaf)}"
+
+
+def reason(drawing, residual, leaf, event, doomed):
+    """Of a leaf that waits for the event that failed, why that is not enough: one line, or none."""
     if event is None or event not in leaf.events:
-        return [waits]
+        return ()
     if id(leaf.place.term.follower) in doomed:
-        return [waits, f"behind {drawing.name(event)} all ways are FAIL"]
+        return (f"behind {drawing.name(event)} all ways are FAIL",)
     gates = [gate for gate in gates_of(residual, leaf, event) if not gate.taking(event, doomed)]
-    if gates:
-        at = gates[-1].place.term.at
-        needs = f"{drawing.name(event)} needs both sides of the parallel at {at.line}:{at.column}"
-        return [waits, f"{needs}; {other_side(gates[-1], leaf)} not take it"]
-    return [waits]
+    if not gates:
+        return ()
+    at = gates[-1].place.term.at
+    needs = f"{drawing.name(event)} needs both sides of the parallel at {at.line}:{at.column}"
+    return (f"{needs}; {other_side(gates[-1], leaf)} not take it",)
 
 
 def other_side(gate, leaf):
     """Who stands across a parallel from a leaf, with the verb; of the leaf's own definition with its place."""
     other = next(side for side in gate.sides if leaf not in side.leaves())
     names = []
-    for one in other.leaves():
+    for one in sorted(other.leaves(), key=lambda one: one.place.number):
         name, at = one.place.definition.name, one.place.term.at
         names.append(f"{name} at {at.line}:{at.column}" if name == leaf.place.definition.name else name)
     names = list(dict.fromkeys(names))

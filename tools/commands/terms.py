@@ -99,9 +99,10 @@ class Terms:
         return isinstance(term, Fail) or (isinstance(term, Parallel) and any(sides))
 
 
-@dataclass
+@dataclass(eq=False)
 class Standing:
-    """A node of a residual: its place, what it remembers, and a parallel's sides."""
+    """A node of a residual: its place, what it remembers, and a parallel's sides. Nodes are compared as nodes of their
+    tree: one place of the text may stand on several sides."""
 
     place: Place
     memory: tuple
@@ -110,6 +111,9 @@ class Standing:
 
     def leaves(self):
         return [leaf for side in self.sides for leaf in side.leaves()] if self.sides else [self]
+
+    def nodes(self):
+        return [self, *(node for side in self.sides for node in side.nodes())]
 
     def taking(self, event, doomed):
         """The leaves that would take this event together, one list for each way; none where it is not permitted."""
