@@ -10,8 +10,10 @@ from .streams import write_whole
 ABOUT = """\
 Writes a C header with the table's bytes (NAME_table), an enum of the events (NAME_ followed by the event's name) and
 the events' names (NAME_event_names). NAME is the drawing's file name, or the one given. A drawing that the monitor
-refuses gets no header.
-Exit status: 0 written, 2 the drawing is refused, 3 wrong use."""
+refuses gets no header: its faults go to standard error.
+Exit status: 0 written, 2 the drawing is refused, or an error in it, 3 wrong use."""
+
+PRODUCT = True  # what it writes is for a compiler: all else goes to standard error
 
 WIDTH = 12  # bytes on a line
 

@@ -3,7 +3,7 @@
 from notation.source import shown
 from notation.syntax import Call, Prefix
 
-from .drawings import REFUSED, Errors, load
+from .drawings import REFUSED, load
 from .explore import Graph
 from .levels import calls, least, unwritten, written
 from .mending import finding, lines
@@ -15,7 +15,10 @@ Shows every fault of a drawing, each with its place, the rule that it breaks and
 missing or wrong it infers them from the calls, judges the drawing with these too, and says in its last line which would
 do. Then it warns of what is allowed but looks wrong: a definition that is doomed or never called, a term that is never
 reached, a set that no event can meet.
-Exit status: 0 no fault, 2 the monitor would refuse it, 3 wrong use. Warnings do not move it."""
+Exit status: 0 no fault, 2 the monitor would refuse it, or an error in the drawing, 3 wrong use. Warnings do not move
+it."""
+
+PRODUCT = False
 
 LIMIT = 3000  # residual sets that are looked at for what is never reached
 
@@ -25,11 +28,7 @@ def add_options(parser):
 
 
 def run(options):
-    try:
-        return judge(load(options.drawing))
-    except Errors as errors:
-        print(errors)
-        return REFUSED
+    return judge(load(options.drawing))
 
 
 def judge(drawing):

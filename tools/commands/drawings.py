@@ -13,7 +13,8 @@ from pathlib import Path
 from . import ROOT, TOOLS
 from notation.assemble import Assembled
 from notation.parse import parse
-from notation.source import Problem, Source, Token, near
+from notation.source import Problem, Source, Token, near, tokens
+from notation.standard import why
 from notation.syntax import NamedEvent
 
 from .words import many
@@ -46,11 +47,11 @@ def found_file(name):
 
 
 def read(name):
-    """A drawing's text. Bytes that are no text are an error at their place."""
+    """A drawing's text. Bytes that are no text are an error at their place; a text without a word is empty."""
     try:
         data = sys.stdin.buffer.read() if name == "-" else found_file(name).read_bytes()
     except OSError as error:
-        raise Stop(f"cannot read {name}: {error.strerror}") from None
+        raise Stop(f"cannot read {'standard input' if name == '-' else name}: {why(error)}") from None
     shown = "-" if name == "-" else shown_file(found_file(name))
     source = Source(shown, data.decode("utf-8", "replace"))
     try:
@@ -58,9 +59,11 @@ def read(name):
     except UnicodeDecodeError as error:
         before = data[: error.start].decode("utf-8").split("\n")
         at = Token(source, "unknown", "?", len(before), len(before[-1]) + 1, False)
-        raise Problem(f"Byte {data[error.start]:02X} is not UTF-8 here.", at) from None
-    if not data.strip():
-        raise Stop(f"{shown} is empty: a drawing begins with `alphabet`", REFUSED)
+        raise Errors(shown, [Problem(f"Byte {data[error.start]:02X} is not UTF-8 here.", at)]) from None
+    strange = []
+    if len(tokens(source, strange)) == 1 and not strange:
+        message = "The drawing is empty: it begins with `alphabet`, as in `alphabet stamp, left`."
+        raise Errors(shown, [Problem(message, name=shown)])
     return source
 
 
@@ -73,14 +76,18 @@ def shown_file(file):
 
 
 class Errors(Exception):
-    """In the order of the text; of a line that has a sign of another notation only those signs."""
+    """Each with its line and a caret, and how many there are."""
 
-    def __init__(self, source, problems):
-        strange = {problem.at.line for problem in problems if problem.at.kind == "unknown"}
-        kept = [problem for problem in problems if problem.at.kind == "unknown" or problem.at.line not in strange]
-        kept.sort(key=lambda problem: (problem.at.line, problem.at.column))
-        lines = [problem.shown() for problem in kept]
-        super().__init__("\n".join([*lines, f"{source.name}: {many(len(kept), 'error')}"]))
+    def __init__(self, name, problems):
+        lines = [problem.shown() for problem in problems]
+        super().__init__("\n".join([*lines, f"{name}: {many(len(lines), 'error')}"]))
+
+
+def worth_telling(problems):
+    """In the order of the text; of a line that has a sign of another notation only those signs."""
+    strange = {problem.at.line for problem in problems if problem.at.kind == "unknown"}
+    kept = [problem for problem in problems if problem.at.kind == "unknown" or problem.at.line not in strange]
+    return sorted(kept, key=lambda problem: (problem.at.line, problem.at.column))
 
 
 def load(name):
@@ -91,7 +98,7 @@ def load(name):
     assembled = Assembled(tree, problems)
     if problems:
         # where a statement could not be read, what may be for want of it is not told
-        raise Errors(source, [problem for problem in problems if not (unread and problem.wants)])
+        raise Errors(source.name, worth_telling([one for one in problems if not (unread and one.wants)]))
     return Loaded(source, assembled)
 
 

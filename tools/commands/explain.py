@@ -12,8 +12,11 @@ from notation.syntax import Prefix, Stop
 ABOUT = """\
 Says at the event that failed which event came, which were permitted, and where in the drawing each residual stood that
 was held just before: a caret below each term that waits, and what it waits for. Of events that are permitted it says
-where they lead. Of a refused drawing it says which rule is broken, and how to mend it.
-Exit status: 0 running, 1 failed, 2 refused, 3 wrong use."""
+where they lead. Of a refused drawing it says which rule is broken, and how to mend it. Events are given and judged as
+`cspe run --help` says.
+Exit status: 0 running, 1 failed, 2 refused, or an error in the drawing, 3 wrong use."""
+
+PRODUCT = False
 
 WAYS = 12  # shown, but with --all
 EVENTS = 8  # shown before the one that failed
@@ -22,7 +25,7 @@ FAR = 70  # columns, behind which words do not stand beside a caret
 
 def add_options(parser):
     parser.add_argument("drawing", metavar="DRAWING", help="a file, or the name of an example")
-    parser.add_argument("events", metavar="EVENT", nargs="*", help="names or numbers; or `-`, or `@FILE`")
+    parser.add_argument("events", metavar="EVENT", nargs="*", default=[], help="names or numbers; or `-`, or `@FILE`")
     parser.add_argument("--raw", action="store_true", help="events are bytes, one each")
     parser.add_argument("--slots", type=int, metavar="N", help="as if so many slots were lent")
     parser.add_argument("--all", action="store_true", help=f"every residual, where there are more than {WAYS}")
@@ -31,11 +34,15 @@ def add_options(parser):
 def run(options):
     drawing = load(options.drawing)
     judge = Judge(drawing, options.slots)
-    for piece in pieces(drawing, options.events, options.raw):
-        if not judge.take(piece):
-            break
-    print(judge.verdict())
-    print("\n".join(["", *story(drawing, judge), "", *stands(drawing, judge, options.all)]))
+    events = pieces(drawing, options.events, options.raw)
+    try:
+        for piece in events:
+            if not judge.take(piece):
+                break
+    finally:
+        # what was judged is told, also where the next word is no event
+        print(judge.verdict())
+        print("\n".join(["", *story(drawing, judge), "", *stands(drawing, judge, options.all)]))
     return judge.status
 
 

@@ -18,7 +18,10 @@ Draws the residual sets that are reached, with the events that lead from one to 
 with --text in words; with --svg FILE as a picture, which needs graphviz. Each column is one event further from the
 start, on the left; a set from which no event leads on is drawn with a double line. A set's tooltip says where in the
 drawing its residuals stand, one to a line. No more than --limit sets are drawn; where there are more, it says so.
-Exit status: 0 drawn, 1 the drawing permits no run, 2 refused, 3 wrong use."""
+Whatever is not the picture goes to standard error.
+Exit status: 0 drawn, 1 the drawing permits no run, 2 refused, or an error in the drawing, 3 wrong use."""
+
+PRODUCT = True
 
 LIMIT = 100
 LABEL = 30  # letters on a line of an arrow's label
@@ -40,7 +43,7 @@ def run(options):
     drawing = load(options.drawing)
     judge = Judge(drawing)
     if judge.status != 0:
-        print(judge.verdict())
+        print(judge.verdict(), file=sys.stderr)
         return judge.status
     graph = Graph(drawing.table, options.limit)
     if options.merge and graph.whole:

@@ -2,9 +2,10 @@
 
 import sys
 
-from .drawings import RUNNING, Stop, load
+from .drawings import RUNNING, WRONG_USE, Stop, load
 from .explain import stands
 from .judging import Judge
+from .streams import next_line
 
 ABOUT = """\
 Reads events from standard input, by a terminal or a pipe, and says after each what is permitted. Besides events it
@@ -14,8 +15,12 @@ takes these words (with `:` before them where an event has the same name):
     again     from the start
     help      these words
     quit      ends, as the end of the input does
-An event that is not permitted or that is refused is told and not taken: type another.
-Exit status: 0; 1 where the last event was not permitted, 2 where it was refused, 3 for wrong use."""
+An event that is not permitted or that is refused is told and not taken: type another. So is a word that is none of
+all these.
+Exit status: 0; 1 where the last event was not permitted, 2 where it was refused, 3 for wrong use; from a pipe also
+where any word was none of these, whatever came after it."""
+
+PRODUCT = False
 
 WORDS = ("undo", "where", "again", "help", "quit")
 
@@ -33,24 +38,27 @@ def run(options):
     while session.open:
         if sys.stdin.isatty():
             print("> ", end="", flush=True)
-        line = sys.stdin.buffer.readline()
-        if not line:
+        words = next_line(sys.stdin.buffer, "standard input")
+        if words is None:
             break
-        for word in line.decode("utf-8", "replace").partition("--")[0].split():
+        for word in words:
             session.word(word)
             if not session.open:
                 break
-    return session.status
+    return WRONG_USE if session.strange and not sys.stdin.isatty() else session.status
 
 
 class Session:
-    """`saved` are the states before each event that was taken."""
+    """`saved` are the states before each event that was taken; `strange` says that a word was none."""
 
     def __init__(self, drawing):
         self.drawing = drawing
-        self.judge = Judge(drawing)
+        self.open, self.strange = True, False
+        self.begin()
+
+    def begin(self):
+        self.judge = Judge(self.drawing)
         self.saved = []
-        self.open = True
         self.status = self.judge.status
 
     def word(self, word):
@@ -61,6 +69,7 @@ class Session:
         try:
             event = self.drawing.event(word)
         except Stop as error:
+            self.strange = True
             print(f"cspe: {error}; `help` has the other words", file=sys.stderr, flush=True)
             return
         self.take(event)
@@ -88,7 +97,7 @@ class Session:
         print("\n".join(stands(self.drawing, self.judge, False)) or self.judge.verdict(), flush=True)
 
     def again(self):
-        self.__init__(self.drawing)
+        self.begin()
         print(self.judge.verdict(), flush=True)
 
     def help(self):

@@ -1,6 +1,7 @@
 """Events as they come in, and output that is whole or not at all.
 
     pieces      events from words, a file or standard input: lists, each as soon as it is there
+    next_line   the next line of a stream
     write_whole a file that is written whole, or left as it was
 """
 
@@ -9,21 +10,28 @@ import sys
 import tempfile
 from pathlib import Path
 
+from notation.standard import why
+
 from .drawings import Stop
 
 AT_ONCE = 65536  # bytes
 
 
 def pieces(drawing, words, raw):
-    """Of arguments all at once; of `-` or `@FILE` each line, or with `raw` each piece of bytes, as it comes."""
+    """Of arguments all at once; of `-` or `@FILE` each line, or with `raw` each piece of bytes, as it comes. Where a
+    word is no event, those before it come first, and then the error."""
+    streams = [word for word in words if word == "-" or word.startswith("@")]
+    if streams and len(words) > 1:
+        raise Stop(f"`{streams[0]}` stands alone: all events come from there, or all are arguments")
     if drawing.source.name == "-" and words == ["-"]:
         raise Stop("the drawing and its events cannot both come from standard input")
-    if len(words) == 1 and (words[0] == "-" or words[0].startswith("@")):
+    if streams:
         stream, name = opened(words[0]), "standard input" if words[0] == "-" else words[0][1:]
-        return raw_bytes(stream, name) if raw else lines(drawing, stream, name)
+        read = raw_bytes(stream, name) if raw else lines(drawing, stream, name)
+        return read if words[0] == "-" else closed_after(stream, read)
     if raw:
         raise Stop("--raw takes events from `-` or `@FILE`")
-    return iter([[drawing.event(word) for word in words]])
+    return read_words(drawing, words, "")
 
 
 def opened(name):
@@ -37,12 +45,17 @@ def opened(name):
         raise Stop(f"cannot read {name[1:]}: {error.strerror}") from None
 
 
+def closed_after(stream, read):
+    with stream:
+        yield from read
+
+
 def raw_bytes(stream, name):
     while True:
         try:
             data = stream.read1(AT_ONCE)
         except OSError as error:
-            raise Stop(f"cannot read {name}: {error.strerror}") from None
+            raise Stop(f"cannot read {name}: {why(error)}") from None
         if not data:
             return
         yield list(data)
@@ -50,24 +63,31 @@ def raw_bytes(stream, name):
 
 def lines(drawing, stream, name):
     """Names or numbers, one or more on a line; `--` begins a comment."""
-    number = 0
-    while True:
-        number += 1
+    number, line = 1, next_line(stream, name)
+    while line is not None:
+        yield from read_words(drawing, line, f"{name}, line {number}: ")
+        number, line = number + 1, next_line(stream, name)
+
+
+def next_line(stream, name):
+    """The words of the next line, without a comment; None at the end."""
+    try:
+        line = stream.readline()
+    except OSError as error:
+        raise Stop(f"cannot read {name}: {why(error)}") from None
+    return line.decode("utf-8", "replace").partition("--")[0].split() if line else None
+
+
+def read_words(drawing, words, place):
+    found = []
+    for word in words:
         try:
-            line = stream.readline()
-        except OSError as error:
-            raise Stop(f"cannot read {name}: {error.strerror}") from None
-        if not line:
-            return
-        found = []
-        for word in line.decode("utf-8", "replace").partition("--")[0].split():
-            try:
-                found.append(drawing.event(word))
-            except Stop as error:
-                yield found  # what stands before it is judged
-                raise Stop(f"{name}, line {number}: {error}") from None
-        if found:
-            yield found
+            found.append(drawing.event(word))
+        except Stop as error:
+            yield found  # what stands before it is judged
+            raise Stop(f"{place}{error}") from None
+    if found:
+        yield found
 
 
 def write_whole(name, text):

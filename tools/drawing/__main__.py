@@ -2,12 +2,12 @@
 """The command line: drawings to table bytes and back. `--help` says how it is called."""
 
 import argparse
-import errno
 import os
 import shutil
 import sys
 import tempfile
 
+from notation import standard
 from notation.assemble import Assembled
 from notation.disassemble import tree
 from notation.numbers import written
@@ -40,13 +40,22 @@ def main(arguments):
     except Unusable as error:
         print(f"drawing: {error}", file=sys.stderr)
         return 2
-    except OSError as error:
-        # standard output took not all of it: nothing more is written there at the end
-        os.dup2(os.open(os.devnull, os.O_WRONLY), sys.stdout.fileno())
-        why = "nobody reads it any more" if error.errno == errno.EPIPE else error.strerror
-        print(f"drawing: {error.filename or 'standard output is not whole'}: {why}", file=sys.stderr)
-        return 2
     return 0
+
+
+def guarded(arguments):
+    """As `main`; an output that is lost is status 2."""
+    standard.prepare()
+    try:
+        try:
+            status = main(arguments)
+        except SystemExit as left:  # argparse has written its help, or what is wrong
+            status = left.code
+        sys.stdout.flush()
+    except OSError as error:
+        print(f"drawing: {standard.give_up(error)}", file=sys.stderr)
+        status = 2
+    return 2 if sys.stderr.lost else status
 
 
 # ---- the commands
@@ -99,7 +108,7 @@ def bytes_of(name):
         with open(name, "rb") as file:
             return file.read()
     except OSError as error:
-        raise Unusable(f"cannot read {name}: {error.strerror}") from None
+        raise Unusable(f"cannot read {'standard input' if name == '-' else name}: {standard.why(error)}") from None
 
 
 def drawing(name):
@@ -167,8 +176,13 @@ def events_of(assembled, options):
 # ---- options
 
 
+class Parser(argparse.ArgumentParser):
+    def print_help(self, file=None):
+        print(self.format_help(), end="")  # argparse's own does not say where it was lost
+
+
 def command_line():
-    parser = argparse.ArgumentParser(
+    parser = Parser(
         prog="drawing",
         description="Drawings to CSP_E table bytes and back.",
         epilog=ABOUT,
@@ -218,4 +232,4 @@ def command_line():
 
 
 if __name__ == "__main__":
-    sys.exit(main(sys.argv[1:]))
+    sys.exit(guarded(sys.argv[1:]))

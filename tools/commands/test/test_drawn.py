@@ -12,7 +12,7 @@ from pathlib import Path
 from unittest import mock
 from xml.etree import ElementTree
 
-from places import EXAMPLES, ROOT, cspe, text_of
+from places import EXAMPLES, ROOT, called, cspe, text_of
 from commands import check
 from commands.drawings import load
 from commands.explore import Graph
@@ -213,12 +213,12 @@ class Picture(unittest.TestCase):
             program.write_text('#!/bin/sh\necho "<svg> $1"\ncat\n')
             program.chmod(0o755)
             path = f"{folder}:{os.environ['PATH']}"
-            self.assertEqual(cspe("picture", "table_b", "--svg", out, env={**os.environ, "PATH": path})[0], 0)
+            self.assertEqual(called("picture", "table_b", "--svg", out, env={**os.environ, "PATH": path})[0], 0)
             self.assertTrue(out.read_text().startswith("<svg> -Tsvg\ndigraph"))
             out.unlink()
             only = Path(folder) / "only"
             only.mkdir()
-            status, _, errors = cspe("picture", "table_b", "--svg", out, env={**os.environ, "PATH": str(only)})
+            status, _, errors = called("picture", "table_b", "--svg", out, env={**os.environ, "PATH": str(only)})
             self.assertEqual(status, 3)
             self.assertIn("--svg needs graphviz", errors)
             self.assertFalse(out.exists())
@@ -243,7 +243,7 @@ class Picture(unittest.TestCase):
                 self.assertEqual(apart[0] > 0, apart[1] > 0, (name, first, second))
 
     def test_no_run(self):
-        self.assertEqual(cspe("picture", "worked/k5")[:2], (1, "failed at 0: this drawing permits no run at all\n"))
+        self.assertEqual(cspe("picture", "worked/k5"), (1, "", "failed at 0: this drawing permits no run at all\n"))
 
 
 class Header(unittest.TestCase):

@@ -10,7 +10,7 @@ import tempfile
 import unittest
 from pathlib import Path
 
-from places import CSPE, EXAMPLES, ROOT, cspe, text_of
+from places import CSPE, EXAMPLES, ROOT, called, cspe, led, text_of
 from commands.drawings import load
 from commands.explain import stands
 from commands.judging import Judge
@@ -77,45 +77,82 @@ class Run(unittest.TestCase):
             self.assertEqual(live.wait(20), 1)
 
     def test_nothing_is_lost(self):
-        """What stands before a word that is no event is judged and told."""
-        status, output, errors = cspe("run", PACKING, "-", stdin="stamp left stmp right\n")
-        self.assertEqual((status, output), (3, "running after 2 events; permitted next: stamp, crack\n"))
-        self.assertIn("standard input, line 1: `stmp` is not the name of an event; is `stamp` meant?", errors)
+        """What stands before a word that is no event is judged and told, wherever it comes from; a failure before it
+        is the answer, and the word is not met any more."""
+        permitted = "permitted next: stamp, crack\n"
+        meant = "`stmp` is not the name of an event; is `stamp` meant?\n"
+        failed = "failed at event 3: left came; permitted: stamp, crack\n"
+        for events, status, line in [
+            ("stamp left stmp right", 3, f"running after 2 events; {permitted}"),
+            ("stmp", 3, f"running after 0 events; {permitted}"),
+            ("stamp left left stmp", 1, failed),
+        ]:
+            with text_of(events, "events") as file:
+                for words, stdin, place in [
+                    (events.split(), "", ""),
+                    (["-"], events, "standard input, line 1: "),
+                    ([f"@{file}"], "", f"{file}, line 1: "),
+                ]:
+                    due = status, line, f"cspe: {place}{meant}" if status == 3 else ""
+                    self.assertEqual(cspe("run", PACKING, *words, stdin=stdin), due)
+                    found, output, errors = cspe("explain", PACKING, *words, stdin=stdin)
+                    self.assertEqual((found, errors), (due[0], due[2]), words)
+                    self.assertTrue(output.startswith(line), output)
 
 
 class WrongUse(unittest.TestCase):
-    def bad(self, status, message, *words, stdin="", **how):
-        found, output, errors = cspe(*words, stdin=stdin, **how)
+    def bad(self, status, message, *words, stdin=""):
+        found, output, errors = cspe(*words, stdin=stdin)
         self.assertEqual((found, output), (status, ""), words)
         self.assertIn(message, errors)
+
+    def faulty(self, message, file):
+        """An error of a drawing: the answer of the commands that answer, an error of those that make something."""
+        for command in ("run", "explain", "step", "check"):
+            status, output, errors = cspe(command, file)
+            self.assertEqual((status, errors), (2, ""), command)
+            self.assertIn(message, output)
+        for command in ("picture", "c"):
+            self.bad(2, message, command, file)
 
     def test_messages(self):
         self.bad(3, "there is no drawing packing_lin; is packing_line meant?", "run", "packing_lin")
         self.bad(3, "tools is a directory", "run", "tools")
-        self.bad(3, "`stmp` is not the name of an event; is `stamp` meant?", "run", PACKING, "stmp")
-        self.bad(3, "an event is one byte", "run", PACKING, "256")
+        self.assertIn("256 is no event: an event is one byte", cspe("run", PACKING, "256")[2])
         self.bad(3, "cannot read none: No such file", "run", PACKING, "@none")
         self.bad(3, "cannot read tools: Is a directory", "run", PACKING, "@tools")
         self.bad(3, "`frob` is no command", "frob")
         self.bad(3, "see cspe run --help", "run", "--frob")
-        self.bad(2, "-:1:1: error: A drawing begins with `alphabet`", "run", "-", stdin="P = STOP")
+        self.bad(3, "required: DRAWING; see cspe run --help", "run")
+        self.bad(3, "`@none` stands alone: all events come from there", "run", PACKING, "@none", "stamp")
+        self.bad(3, "`-` stands alone", "explain", PACKING, "stamp", "-")
         self.bad(3, "cannot both come from standard input", "run", "-", "-", stdin="alphabet 1\nP = STOP")
         self.bad(3, "the drawing is a file", "step", "-", stdin="alphabet 1\nP = STOP")
-        with text_of("\n \n") as file:
-            self.bad(2, "is empty", "check", file)
-            file.write_bytes(b"alphabet 1\n\xff")
-            self.bad(2, ":2:1: error: Byte FF is not UTF-8 here.", "run", file)
-            file.write_bytes(b"alphabet 1\nP = \x1b[2J\0")
-            self.bad(2, "    P = ?[2J?\n        ^", "run", file)  # no control signs on a terminal
-        with text_of("alphabet a, a\nP = b -> Q\n") as file:
-            for command in ("run", "explain", "step", "picture", "c"):
-                self.bad(2, "own.csp: 3 errors\n", command, file)
         self.bad(3, "there is no drawing without a name", "check", "")
-        self.bad(3, "`` is not the name of an event", "run", PACKING, "")
+        self.assertIn("cspe: `` is not the name of an event", cspe("run", PACKING, "")[2])
         for slots in ("0", "-1", "257"):
             self.bad(3, "--slots is 1 to 256", "run", "--slots", slots, PACKING)
         self.bad(3, "invalid int value", "explain", "--slots", "x", PACKING)
         self.bad(3, "cannot write tools: Is a directory", "c", PACKING, "-o", "tools")
+
+    def test_errors_of_a_drawing(self):
+        """Each kind of error, on the stream of the command's kind. A text of comments alone is empty too."""
+        empty = "own.csp: error: The drawing is empty: it begins with `alphabet`, as in `alphabet stamp, left`.\n"
+        with text_of("") as file:
+            for text, message in [
+                (b"", empty),
+                (b"\n \n", empty),
+                (b"-- a comment\n\n", empty),
+                (b"alphabet 1\n\xff", ":2:1: error: Byte FF is not UTF-8 here."),
+                (b"alphabet 1\nP = \x1b[2J\0", "    P = ?[2J?\n        ^"),  # no control signs on a terminal
+                (b"alphabet a, a\nP = b -> Q\n", "own.csp: 3 errors\n"),
+                (b"alphabet 1\nP = P\n", ":2:5: refused 7 (wrong reference): P calls itself before any event"),
+            ]:
+                file.write_bytes(text)
+                self.faulty(message, file)
+        status, output, errors = cspe("run", "-", stdin="P = STOP")
+        self.assertEqual((status, errors), (2, ""))
+        self.assertIn("-:1:1: error: A drawing begins with `alphabet`", output)
 
     def test_pipe_of_the_shell(self):
         """A drawing may be what a command writes, in bash `<(..)`."""
@@ -159,6 +196,38 @@ class WrongUse(unittest.TestCase):
             os.close(writer)
         self.assertEqual(found.returncode, 3)
         self.assertIn("standard output is not whole: nobody reads it any more", found.stderr)
+
+    def test_closed_streams(self):
+        """A message, where it can be written, and status 3, where a stream is needed that is closed or full."""
+        closed = "cspe: standard output is closed\n"
+        for command in ("run", "explain", "step", "check", "picture", "c", "--help"):
+            self.assertEqual(led(">&-", command, PACKING), (3, "", closed), command)
+        self.assertEqual(led(">&-", "run", "--help"), (3, "", closed))
+        self.assertEqual(led(">/dev/full", "run", "--help")[0], 3)
+        unread = "cspe: cannot read standard input: it is closed\n"
+        for words in (["step", PACKING], ["run", PACKING, "-"], ["run", "--raw", PACKING, "-"], ["check", "-"]):
+            found = led("<&-", *words)
+            self.assertEqual((found[0], found[2]), (3, unread), words)
+        self.assertEqual(led("<&-", "run", PACKING, "left")[0::2], (1, ""))
+        self.assertEqual(led("2>&-", "run", PACKING, "left")[0], 1)  # nothing was to be said there
+        for how in ("2>&-", "2>/dev/full", ">/dev/full 2>&1", "<&- >&- 2>&-"):
+            self.assertEqual(led(how, "run", "none"), (3, "", ""), how)
+        for how in (">/dev/full 2>&1", ">&- 2>&-", ">/dev/full 2>&-"):
+            self.assertEqual(led(how, "run", PACKING, "stamp"), (3, "", ""), how)
+        with text_of("alphabet 1\nP = P\n") as own:
+            self.assertEqual(led("2>/dev/full", "c", own), (3, "", ""))  # its faults are lost
+
+    def test_no_error_is_a_failure(self):
+        """Whatever goes wrong within cspe: not status 1. Names that the terminal has no letters for are told."""
+        with text_of("alphabet 1\nP = P -- \u00e9\n", "\u00e9.csp") as own:
+            status, output, errors = called("check", own, env={**os.environ, "PYTHONIOENCODING": "ascii"})
+        self.assertEqual((status, errors), (2, ""))
+        self.assertIn("\\xe9.csp:2:5: refused 7", output)
+        broken = "import runpy, sys; sys.argv = ['cspe', 'run', 'table_b']; import commands.run as run; run.load = None"
+        command = [sys.executable, "-c", f"{broken}; runpy.run_path({str(CSPE)!r}, run_name='__main__')"]
+        found = subprocess.run(command, cwd=ROOT / "tools", capture_output=True, text=True, check=False)
+        self.assertEqual((found.returncode, found.stdout), (3, ""))
+        self.assertIn("cspe: this is a fault of cspe itself: please report it\n", found.stderr)
 
     def test_an_output_that_cannot_be_written_is_as_before(self):
         with tempfile.TemporaryDirectory() as folder:
@@ -242,7 +311,8 @@ class Step(unittest.TestCase):
     def test_words(self):
         words = "stamp\nleft left undo frob\nwhere help again quit stamp\n"
         status, output, errors = cspe("step", PACKING, stdin=words)
-        self.assertEqual(status, 0)
+        self.assertEqual(status, 3)  # for `frob`, though events follow
+        self.assertEqual(cspe("step", PACKING, stdin=words.replace("frob", ""))[0], 0)
         lines = output.splitlines()
         self.assertEqual(lines[0], "running after 0 events; permitted next: stamp, crack")
         self.assertEqual(lines[3], "failed at event 3: left came; permitted: stamp, crack; not taken")

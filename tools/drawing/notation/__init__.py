@@ -10,6 +10,7 @@
     disassemble table bytes to tree
     write       tree to text
     numbers     the written form of a number
+    standard    the standard streams, also where they are closed or full
 """
 
 import sys

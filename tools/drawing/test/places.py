@@ -3,6 +3,7 @@
     line        the program's line for an input, by tools/reference
     run         the command line in this process: status, output and errors
     called      the command line as a user calls it
+    closed      words before a command, which start it with streams closed or led elsewhere
 """
 
 import contextlib
@@ -47,6 +48,10 @@ def run(*arguments, stdin=b""):
     for stream in streams:
         stream.flush()
     return status, streams[1].buffer.getvalue(), streams[2].buffer.getvalue().decode()
+
+
+def closed(how):
+    return ["bash", "-c", f'exec "$@" {how}', "bash"]
 
 
 def called(*arguments, stdin=b"", stdout=subprocess.PIPE, before=()):

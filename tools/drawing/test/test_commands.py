@@ -5,7 +5,7 @@ import tempfile
 import unittest
 from pathlib import Path
 
-from places import EXAMPLES, called, line, run
+from places import EXAMPLES, called, closed, line, run
 
 TABLE_B = "03 02 00 01 00 00 01 01 01 00 02 00 02 01 05 00"
 B = EXAMPLES / "table_b.csp"
@@ -119,6 +119,21 @@ class Commands(unittest.TestCase):
             found = called("assemble", B, "-o", out, before=small)
             self.assertEqual(found, (2, b"", f"drawing: cannot write {out}: File too large\n"))
             self.assertEqual(([*Path(folder).iterdir()], out.read_bytes()), ([out], b"kept"))
+
+    def test_closed_streams(self):
+        """A message, where one can be written, and the status of wrong use."""
+        for how, words, status, errors in [
+            (">&-", ["assemble", "--hex", B], 2, "drawing: standard output is closed\n"),
+            (">&-", ["--help"], 2, "drawing: standard output is closed\n"),
+            (">/dev/full", ["where", "--help"], 2, "drawing: standard output is not whole: No space left on device\n"),
+            ("<&-", ["assemble", "-"], 2, "drawing: cannot read standard input: it is closed\n"),
+            ("<&-", ["assemble", B], 0, ""),
+            ("2>&-", ["assemble", B], 0, ""),
+            ("2>&-", ["assemble", "-"], 2, ""),  # an error of the drawing, which nobody reads
+            (">/dev/full 2>&1", ["assemble", B], 2, ""),
+        ]:
+            found = called(*words, before=closed(how))
+            self.assertEqual((found[0], found[2]), (status, errors), (how, words))
 
     def test_wrong_use(self):
         self.bad(2, "required", *[])

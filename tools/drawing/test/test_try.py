@@ -5,11 +5,12 @@ import tempfile
 import unittest
 from pathlib import Path
 
-from places import EXAMPLES, ROOT
+from places import EXAMPLES, ROOT, closed
 
 
-def tried(*arguments, stdout=subprocess.PIPE):
-    command = [str(ROOT / "tools" / "try"), *map(str, arguments)]
+def tried(*arguments, stdout=subprocess.PIPE, before=()):
+    """`before` are words before the command."""
+    command = [*before, str(ROOT / "tools" / "try"), *map(str, arguments)]
     found = subprocess.run(command, stdout=stdout, stderr=subprocess.PIPE, text=True, check=False)
     return found.returncode, found.stdout, found.stderr
 
@@ -71,6 +72,11 @@ class Try(unittest.TestCase):
                 status, _, errors = tried(option, stdout=full)
             said = "tools/try: standard output is not whole: No space left on device\n"
             self.assertEqual((status, errors), (2, said))
+
+    def test_closed(self):
+        self.assertEqual(tried("--list", before=closed(">&-")), (2, "", "tools/try: standard output is closed\n"))
+        self.assertEqual(tried("--none", before=closed("2>&-"))[0], 2)
+        self.assertEqual(tried("--none", before=closed("2>/dev/full"))[0], 2)
 
     def test_wrong_use(self):
         self.assertEqual(tried("none")[0], 2)
