@@ -1,12 +1,14 @@
 """cspe check: every fault of a drawing, and what looks wrong though it is allowed."""
 
-from notation.source import shown
+from typing import NamedTuple
+
+from notation.source import Token, shown
 from notation.syntax import Call, Prefix
 
 from .drawings import REFUSED, load
 from .explore import Graph
 from .levels import calls, least, unwritten, written
-from .mending import finding, lines
+from .mending import finding, lines, shown_mend
 from .terms import Terms, standing
 from .words import many
 
@@ -14,7 +16,7 @@ ABOUT = """\
 Shows every fault of a drawing, each with its place, the rule that it breaks and how to mend it. Where levels are
 missing or wrong it infers them from the calls, judges the drawing with these too, and says in its last line which would
 do. Then it warns of what is allowed but looks wrong: a definition that is doomed or never called, a term that is never
-reached, a set that no event can meet.
+reached, a set that no event can meet. The last definition is the start.
 Exit status: 0 no fault, 2 the monitor would refuse it, or an error in the drawing, 3 wrong use. Warnings do not move
 it."""
 
@@ -39,17 +41,27 @@ def judge(drawing):
     graph = None if found.left else Graph(found.mended.table, LIMIT)
     warnings = [] if found.left else [*warned(found.mended, terms, graph)]
     warnings += [] if found.faults else higher_levels(terms)
-    warnings = sorted(warnings, key=lambda pair: (pair[0].line, pair[0].column))
+    warnings = sorted(warnings, key=lambda warning: (warning.at.line, warning.at.column))
     also = f"; {many(len(warnings), 'warning')}" if warnings else ""
     levels = ", ".join(f"{d.name} {d.level}" for d in drawing.assembled.drawing.definitions if d.level)
     also += f"; levels: {levels}" if levels and not found.faults else ""
     also += unsought(graph) if graph else ""
-    shown_warnings = [shown(at, f"warning: {message}") for at, message in warnings]
-    print("\n".join([*shown_faults, *shown_warnings, sum_of_it + also]))
+    print("\n".join([*shown_faults, *map(shown_warning, warnings), sum_of_it + also]))
     return REFUSED if found.faults else 0
 
 
 # ---- warnings
+
+
+class Warned(NamedTuple):
+    at: Token
+    message: str
+    mend: str = ""
+
+
+def shown_warning(warning):
+    mend = [shown_mend(warning.mend)] if warning.mend else []
+    return "\n".join([shown(warning.at, f"warning: {warning.message}"), *mend])
 
 
 def unsought(graph):
@@ -66,14 +78,16 @@ def warned(drawing, terms, graph):
     called = reached(terms, definitions)
     for definition in definitions:
         if definition.name not in called:
-            yield definition.at, f"{definition.name} is never called from {definitions[-1].name}, the start"
+            message = f"{definition.name} is never called from {definitions[-1].name}, the start"
+            mend = "call it or leave it out;\nthe last definition is the start: if another is meant, put it last"
+            yield Warned(definition.at, message, mend)
         elif id(definition.body) in terms.doomed:
-            yield definition.at, f"{definition.name} is doomed: it permits no run, not even one without events"
+            yield Warned(definition.at, f"{definition.name} is doomed: it permits no run, not even one without events")
     empty = []
     for place in terms.places:
         if isinstance(place.term, Prefix) and place.definition.name in called and not any_event(terms, place):
             empty.append(place.number)
-            yield place.term.at, "no event is in this set, so what follows is never reached"
+            yield Warned(place.term.at, "no event is in this set, so what follows is never reached")
     yield from never(terms, graph, called, empty)
 
 
@@ -93,7 +107,7 @@ def higher_levels(terms):
     definitions = terms.assembled.drawing.definitions
     for definition, level in zip(definitions, least(unwritten(definitions), calls(terms))):
         if written(definition) and definition.level > level:
-            yield definition.level_at, f"level {level} would do for {definition.name}"
+            yield Warned(definition.level_at, f"level {level} would do for {definition.name}")
 
 
 def any_event(terms, place):
@@ -118,6 +132,7 @@ def never(terms, graph, called, empty):
         if place.number in taken or id(place.term.follower) in terms.doomed:
             continue
         if place.number in held:
-            yield place.term.at, "no event of this set can ever come here: what stands beside it takes none then"
+            message = "no event of this set can ever come here: what stands beside it takes none then"
+            yield Warned(place.term.at, message)
         elif not place.prefixes or id(place.prefixes[-1]) in {id(terms.places[n].term) for n in taken}:
-            yield place.term.at, "this is never reached"
+            yield Warned(place.term.at, "this is never reached")

@@ -3,6 +3,7 @@
     Finding     every fault of a drawing, which levels to write, and what is left with them
     finding     finds them, beside the proved reader
     lines       a finding in words: each fault with a caret and how to mend it, and what all comes to
+    shown_mend  how to mend a fault, below it
 
 Width and branches are judged only where levels stand. So where other levels would do better, the table is judged with
 these too.
@@ -124,12 +125,19 @@ def lines(found):
 
 def outlook(found):
     if found.hopeless:
-        return "; no levels would do"
+        return f"; no levels would do{start(found)}"
     if not found.levels:
-        return ""
+        return start(found)
     stay = len(found.left)
     rest = " there is none" if not stay else f", {stay} of them {'stays' if stay == 1 else 'stay'}"
-    return f"; with {named(found.levels)}{rest}"
+    return f"; with {named(found.levels)}{rest}{start(found)}"
+
+
+def start(found):
+    """Which definition is the start, where a fault asks to move some."""
+    if not any(fault.order for fault in [*found.faults, *found.left]):
+        return ""
+    return f"; the start is {found.drawing.assembled.drawing.definitions[-1].name}, the last definition"
 
 
 def named(levels):
@@ -142,4 +150,10 @@ def named(levels):
 
 def shown_fault(fault, when=""):
     head = f"{when}refused {fault.number} ({words.NAMES.get(fault.number, 'new')}): {fault.message}"
-    return f"{shown(fault.at, head) if fault.at else head}\n    to mend it: {fault.mend}"
+    return f"{shown(fault.at, head) if fault.at else head}\n{shown_mend(fault.mend)}"
+
+
+def shown_mend(mend):
+    """On further lines below its first words."""
+    head = "    to mend it: "
+    return head + mend.replace("\n", "\n" + " " * len(head))

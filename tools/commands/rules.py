@@ -30,6 +30,7 @@ class Fault(NamedTuple):
     message: str
     mend: str
     levels: bool = False  # whether other levels may mend it
+    order: bool = False  # whether another order of the definitions may mend it
 
 
 def faults(terms, levels=None):
@@ -54,8 +55,8 @@ class Rules:
         for number in self.assembled.numbers:
             self.begins.append(self.begins[-1] + len(written(number.value)))
 
-    def add(self, number, at_number, at, message, mend, levels=False):
-        self.list.append(Fault(number, self.begins[at_number], at, message, mend, levels))
+    def add(self, number, at_number, at, message, mend, levels=False, order=False):
+        self.list.append(Fault(number, self.begins[at_number], at, message, mend, levels, order))
 
     # ---- 5: bounds
 
@@ -134,7 +135,8 @@ class Rules:
             if caller.level < callee.level or (call.parallel and caller.level == callee.level):
                 self.add(7, place.first + 1, place.term.at, *level_fault(call, caller, callee, levels), True)
             elif not place.prefixes and call.callee >= call.caller:
-                self.add(7, place.first + 1, place.term.at, *unguarded(caller, callee))
+                message, mend = unguarded(call, self.definitions)
+                self.add(7, place.first + 1, place.term.at, message, mend, order=caller is not callee)
 
     # ---- 8 and 9: width and branches
 
@@ -209,9 +211,14 @@ def endless(caller, callee):
     return f"no level allows it: {callee.name} comes back to {name}, which {often}; call it outside the parallel"
 
 
-def unguarded(caller, callee):
+def unguarded(call, definitions):
+    """A call before any event of what is not defined above it. The last definition is the start: where it would move,
+    the mend says which one is last then."""
+    caller, callee = definitions[call.caller], definitions[call.callee]
     if caller is callee:
         message = f"{caller.name} calls itself before any event"
         return message, f"put an event before the call, as in `a -> {caller.name}`"
     message = f"{callee.name} is called before any event, and is defined after {caller.name}"
-    return message, f"define {callee.name} above {caller.name}, or put an event before the call"
+    start = f" (then {definitions[-2].name} is the start)" if callee is definitions[-1] else ""
+    move = f"define {callee.name} above {caller.name}{start}"
+    return message, f"{move},\nor put an event before the call: other runs are permitted then"

@@ -63,6 +63,24 @@ class Check(unittest.TestCase):
         mended = mended.replace("S = go", "level 2 S = go")
         self.checked(mended, 0, "no fault; levels: Q 1, R 2, S 2")
 
+    def test_order_and_start(self):
+        """A fault that asks to move a definition: which one is the start, which would be, what an event more does."""
+        event = " " * 16 + "or put an event before the call: other runs are permitted then\n"
+        self.checked(
+            HEAD + "P = Q [] halt -> P\nQ = go -> Q\n",
+            2,
+            f"    to mend it: define Q above P (then P is the start),\n{event}",
+            ": 1 fault; the start is Q, the last definition\n",
+        )
+        self.checked(
+            HEAD + "P = Q\nQ = go -> P\nR = P ||| P\n",
+            2,
+            f"    to mend it: define Q above P,\n{event}",
+            ": 3 faults; with level 1 at R, 1 of them stays; the start is R, the last definition\n",
+        )
+        self.checked(HEAD + "P = Q [] go -> (P ||| P)\nQ = go -> Q\n", 2, "no levels would do; the start is Q, the ")
+        self.assertNotIn("the start is", self.checked(HEAD + "P = go -> P\nQ = P ||| P\n", 2))
+
     def test_faults_that_levels_hide(self):
         """Width and branches with the levels inferred, and what looks wrong then; the last line says what is left."""
         lanes = "P = go -> P\nQ = P ||| P ||| P ||| P ||| P\n"
@@ -93,7 +111,9 @@ class Check(unittest.TestCase):
             0,
             ":3:5: warning: this is never reached",
             ":4:5: warning: no event is in this set",
-            ":5:1: warning: T is never called from Start",
+            ":5:1: warning: T is never called from Start, the start\n    T = FAIL\n    ^\n"
+            "    to mend it: call it or leave it out;\n"
+            "                the last definition is the start: if another is meant, put it last\n",
             ":6:5: warning: no event of this set can ever come here",
             ":7:1: warning: V is doomed",
             ":8:7: warning: level 0 would do for Start",
