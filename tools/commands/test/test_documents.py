@@ -11,6 +11,9 @@ import unittest
 
 from documents import blocks, folder, steps, take, taken
 from places import ROOT
+from notation.assemble import Assembled
+from notation.parse import parse
+from notation.source import Problem, Source
 
 DOCUMENTS = "README.md docs/GUIDE.md docs/USING.md examples/README.md".split()
 DOCUMENTS += [f"tools/{name}/README.md" for name in ("drawing", "commands", "stack")]
@@ -68,6 +71,27 @@ class Documents(unittest.TestCase):
         found = " ".join(re.match(r"(?:[0-9A-F]{2} )+", line)[0].strip() for line in block if line)
         due = next(step[2] for step in steps(text) if step[:2] == ("run", ASSEMBLE))
         self.assertEqual(found, " ".join(due.split()))
+
+
+    def test_what_binds(self):
+        """A term and how it is meant, as the documents have them, are the same table."""
+        found = 0
+        for name in ("docs/GUIDE.md", "tools/drawing/README.md"):
+            text = (ROOT / name).read_text(encoding="utf-8")
+            for term, meant in re.findall(r"`(a -> [^`]+)` is\s`([^`]+)`", text):
+                found += 1
+                self.assertEqual(table(term), table(meant), name)
+                self.assertNotEqual(term, meant)
+        self.assertEqual(found, 2)
+        for apart in ("P ||| Q |[s]| R", "P |[s]| Q |[{b}]| R"):
+            self.assertRaisesRegex(Problem, "Parallels over different sets need parentheses", table, apart)
+        self.assertEqual(table("P |[s]| Q |[s]| R"), table("(P |[s]| Q) |[s]| R"))
+
+
+def table(term):
+    definitions = "".join(f"{name} = {event} -> STOP\n" for name, event in zip("PQR", "aba"))
+    text = f"alphabet a, b\nset s = {{a}}\n{definitions}level 1 T = {term}\n"
+    return Assembled(parse(Source("text", text))).bytes()
 
 
 def mentioned(text):

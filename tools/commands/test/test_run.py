@@ -1,6 +1,7 @@
 """cspe run, explain and step: verdicts in words, live streams, and what is said of wrong input."""
 
 import os
+import pty
 import random
 import re
 import shutil
@@ -327,6 +328,19 @@ class Step(unittest.TestCase):
         self.assertEqual(cspe("step", "table_b", stdin="0 3")[0], 2)
         self.assertEqual(cspe("step", "table_b", stdin="0 0 1")[0], 0)
         self.assertIn("nothing to take back", cspe("step", "table_b", stdin="undo")[1])
+
+    def test_a_terminal(self):
+        """By hand a word that is none is told, and another is typed: it does not move the exit status."""
+        ours, theirs = pty.openpty()
+        how = {"stdin": theirs, "stdout": subprocess.PIPE, "stderr": subprocess.PIPE, "text": True, "cwd": ROOT}
+        with subprocess.Popen([CSPE, "step", PACKING], **how) as live:
+            os.write(ours, b"frob\nquit\n")
+            output, errors = live.communicate(timeout=20)
+        os.close(ours)
+        os.close(theirs)
+        self.assertEqual(live.returncode, 0)
+        self.assertIn("`frob` is not the name of an event", errors)
+        self.assertTrue(output.endswith("\n> > "), output)
 
     def test_an_event_with_a_command_s_name(self):
         with text_of("alphabet undo\nP = undo -> P\n") as own:
