@@ -164,17 +164,22 @@ def residual_lines(drawing, residual, event, doomed):
     return found
 
 
-def side_of(node, leaf, like):
-    """On which side a leaf stands of the parallels that have others like it across, the outermost first."""
-    found = []
-    while node.sides:
-        at = node.place.term.at
-        here = [[one for one in side.leaves() if one in like] for side in node.sides]
-        right = leaf in here[1]
-        if here[0] and here[1]:
-            found.append(f"{'right' if right else 'left'} of the parallel at {at.line}:{at.column}")
-        node = node.sides[right]
-    return f", {', '.join(found)},"
+def side_of(residual, leaf, like):
+    """Words for the side that a leaf stands on: the parallels, the innermost first, that tell it from those like it."""
+    own, *others = (path(residual, one, like) for one in [leaf, *(one for one in like if one is not leaf)])
+    needed = next(n for n in range(1, len(own) + 1) if not any(other[:n] == own[:n] for other in others))
+    told = [f"{side} of {'that' if more else 'the parallel'} at {at}" for more, (side, at) in enumerate(own[:needed])]
+    return f", {' and '.join(told)},"
+
+
+def path(node, leaf, like):
+    """The sides that lead to a leaf, at the parallels with leaves like it on both sides, the innermost first."""
+    if not node.sides:
+        return []
+    at, right = node.place.term.at, leaf in node.sides[1].leaves()
+    inner = path(node.sides[right], leaf, like)
+    both = all(any(one in like for one in side.leaves()) for side in node.sides)
+    return [*inner, ("right" if right else "left", f"{at.line}:{at.column}")] if both else inner
 
 
 def source_lines(at, what):

@@ -1,6 +1,7 @@
 """cspe explain: the reasons belong to the leaves of a residual's tree, also where one text stands on several sides."""
 
 import random
+import re
 import unittest
 
 from places import cspe, text_of
@@ -86,6 +87,15 @@ class Reasons(unittest.TestCase):
                 f"        |       s needs both sides of the parallel at {place}; {name} does not take it\n",
                 output,
             )
+
+    def test_as_many_parallels_as_tell_them_apart(self):
+        """In a chain the sign beside it; where that stands in the tree twice, the one around it too."""
+        chain = CELL.replace("A ||| B", "A ||| B ||| A")
+        sides = ["left of the parallel at 5:18", "right of the parallel at 5:18", "right of the parallel at 5:24"]
+        inner = ["left of the parallel at 5:18", "right of the parallel at 5:18"]
+        twice = [f"{one} and {side} of that at 6:21" for side in ("left", "right") for one in inner]
+        for text, due in [(chain, sides), (f"{CELL}level 3 Hall = Cell ||| Cell\n", twice)]:
+            self.assertEqual(re.findall("2:5 W, (.*), waits for s\n", self.explained(text, "s")), due)
 
     def test_mirrored_ways(self):
         """Two ways that differ in the side alone: each reason once, and that is said."""
