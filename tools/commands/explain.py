@@ -167,7 +167,8 @@ def residual_lines(drawing, residual, event, doomed):
 def side_of(residual, leaf, like):
     """Words for the side that a leaf stands on: the parallels, the innermost first, that tell it from those like it."""
     own, *others = (path(residual, one, like) for one in [leaf, *(one for one in like if one is not leaf)])
-    needed = next(n for n in range(1, len(own) + 1) if not any(other[:n] == own[:n] for other in others))
+    apart = (n for n in range(1, len(own)) if not any(other[:n] == own[:n] for other in others))
+    needed = next(apart, len(own))
     told = [f"{side} of {'that' if more else 'the parallel'} at {at}" for more, (side, at) in enumerate(own[:needed])]
     return f", {' and '.join(told)},"
 
