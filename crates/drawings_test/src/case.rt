@@ -2,7 +2,7 @@
 //     new           what is lent to the first case
 //     take_line     what came of a line, and what is lent after it
 use crate::slots::slots_right;
-use crate::trial::Kept;
+use crate::trial::OpenKept;
 use crate::trial::Stored;
 use crate::trial::StoredLine;
 use crate::trial::line_right;
@@ -123,7 +123,7 @@ fn answer_of(answer: &[u64; 10]) -> Stored {
             a: answer[4],
             b: answer[5],
         },
-        kept: Kept {
+        kept: OpenKept {
             list: answer[6],
             area0: answer[7],
             area1: answer[8],

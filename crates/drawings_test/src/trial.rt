@@ -23,7 +23,7 @@ pub struct StoredLine {
 }
 
 // Of each buffer, 1 if `open` keeps it as it was filled, else 0.
-pub struct Kept {
+pub struct OpenKept {
     pub list: u64,
     pub area0: u64,
     pub area1: u64,
@@ -34,7 +34,7 @@ pub struct Kept {
 pub struct Stored {
     pub whole: StoredLine,
     pub pieces: StoredLine,
-    pub kept: Kept,
+    pub kept: OpenKept,
 }
 
 fn is_stored(kind: u64, a: u64, b: u64, s: StoredLine) -> bool {
@@ -110,7 +110,7 @@ fn is_due(kept: bool, due: u64) -> bool {
     if kept { due == 1 } else { due == 0 }
 }
 
-fn all_due(list: &[u16], area0: &[u64], area1: &[u64], work: &[u64], k: Kept) -> bool {
+fn all_due(list: &[u16], area0: &[u64], area1: &[u64], work: &[u64], k: OpenKept) -> bool {
     if !is_due(kept_numbers(list), k.list) {
         return false;
     }
@@ -199,7 +199,7 @@ fn kept_right(
     area0: &mut [u64],
     area1: &mut [u64],
     work: &mut [u64],
-    k: Kept,
+    k: OpenKept,
 ) -> bool {
     fill(list, area0, area1, work);
     let n = front_end(input.len());

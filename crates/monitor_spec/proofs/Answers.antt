@@ -22,7 +22,7 @@ use Rattle.monitor_spec.specs.Expected.Records.{record-verdict}
 use Rattle.monitor_spec.specs.Expected.Steps.{Fed}
 use Rattle.monitor_spec.specs.History.{Leaves}
 use Rattle.monitor_spec.specs.History.Laws.{extends, measured, feed-refused, feed-goes}
-use Rattle.monitor_spec.specs.Stops.{EventStops, StoppedAt, AnswersOne}
+use Rattle.monitor_spec.specs.Stopping.{EventStops, StoppedAt, AnswersOne}
 use Rattle.numbers.specs.Choice.{T-true, true-T}
 use Rattle.monitor_spec.proofs.Endings.{false-T, not-true, none-answer, some-answer}
 use Rattle.monitor_spec.proofs.Endings.{ending-given, ending-stopped, stops-out, stops-in}

@@ -21,7 +21,7 @@ use Rattle.monitor_spec.specs.Joined.{residualCount}
 use Rattle.monitor_spec.specs.Expected.{monitorAfter}
 use Rattle.monitor_spec.specs.Expected.Records.{length-snoc}
 use Rattle.monitor_spec.specs.Expected.Steps.{Fed, sift, take-sifts}
-use Rattle.monitor_spec.specs.Stops.{EventStops, unknown, full, exceeded}
+use Rattle.monitor_spec.specs.Stopping.{EventStops, unknown, full, exceeded}
 use Rattle.monitor_spec.proofs.Forms.{refused-given, refused-stopped}
 
 pub false-T : (b : Bool) → b ≡ false → T b → ⊥

@@ -8,7 +8,7 @@ use mathlib.Core.Option.{some}
 use Rattle.table.specs.Stands.Laws.{number-at}
 use Rattle.monitor_spec.specs.Regular.Laws.{regular}
 use Rattle.monitor_spec.specs.Refusals.Laws.{accepts}
-use Rattle.monitor_spec.specs.Residual.Traces.{traces-run, traces-definition}
+use Rattle.monitor_spec.specs.ResidualMeaning.Traces.{traces-run, traces-definition}
 use Rattle.residuals.specs.Residual.{Residual, residualsOf}
 use Rattle.residuals.specs.Residual.Counts.{residuals-few}
 use Rattle.residuals.specs.Slots.Laws.{slots-few}

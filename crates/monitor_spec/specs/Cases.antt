@@ -38,8 +38,8 @@ st k c v = peaked k c c v
 abbrev pub givenPeak : ℕ → ℕ → ℕ → Verdict → Answer
 givenPeak k c p v = given (peaked k c p v)
 
-abbrev pub givenSt : ℕ → ℕ → Verdict → Answer
-givenSt k c v = givenPeak k c c v
+abbrev pub givenAtPeak : ℕ → ℕ → Verdict → Answer
+givenAtPeak k c v = givenPeak k c c v
 
 -- Feed on a record and two areas, as they are
 unfoldable pub fed : List ℕ → State → List ℕ → List ℕ → List ℕ → Answer
@@ -141,20 +141,20 @@ behind k = drawn (either (either (either (either (prefix (family 4 k) stop)))))
 abbrev pub cases : List Case
 cases =
     -- "STOP and a prefix give themselves with their memory": STOP after 0 and after 1 are two residuals
-    is (opening 4 twice (0 ∷ 1 ∷ [])) (givenSt 2 2 running)
+    is (opening 4 twice (0 ∷ 1 ∷ [])) (givenAtPeak 2 2 running)
     -- a pair's memory is "kept through later events"
-    ∷ is (opening 4 rowed (0 ∷ 1 ∷ [])) (givenSt 2 1 running)
+    ∷ is (opening 4 rowed (0 ∷ 1 ∷ [])) (givenAtPeak 2 1 running)
     ∷ is (opening 4 rowed (0 ∷ 1 ∷ 1 ∷ [])) (givenPeak 3 0 1 (failedAt 3))
-    ∷ is (opening 4 rowed (1 ∷ 1 ∷ [])) (givenSt 2 2 running)
+    ∷ is (opening 4 rowed (1 ∷ 1 ∷ [])) (givenAtPeak 2 2 running)
     ∷ is (opening 4 rowed (1 ∷ 1 ∷ 1 ∷ 1 ∷ [])) (givenPeak 4 1 2 running)
     -- "A residual already held is not held twice": the same from both sides
-    ∷ is (opening 1 loops (0 ∷ [])) (givenSt 1 1 running)
+    ∷ is (opening 1 loops (0 ∷ [])) (givenAtPeak 1 1 running)
     -- a follower may call a higher definition number
-    ∷ is (opening 1 higher (0 ∷ [])) (givenSt 1 1 running)
+    ∷ is (opening 1 higher (0 ∷ [])) (givenAtPeak 1 1 running)
     ∷ is (opening 1 higher (0 ∷ 0 ∷ [])) (givenPeak 2 0 1 (failedAt 2))
     -- "memory (e, m0, m1, m2)": parameters 0 and 3
-    ∷ is (opening 1 (behind 0) (1 ∷ 1 ∷ 1 ∷ 0 ∷ 1 ∷ [])) (givenSt 5 1 running)
-    ∷ is (opening 1 (behind 3) (0 ∷ 1 ∷ 1 ∷ 1 ∷ 1 ∷ [])) (givenSt 5 1 running)
+    ∷ is (opening 1 (behind 0) (1 ∷ 1 ∷ 1 ∷ 0 ∷ 1 ∷ [])) (givenAtPeak 5 1 running)
+    ∷ is (opening 1 (behind 3) (0 ∷ 1 ∷ 1 ∷ 1 ∷ 1 ∷ [])) (givenAtPeak 5 1 running)
     ∷ is (opening 1 (behind 3) (0 ∷ 1 ∷ 1 ∷ 1 ∷ 0 ∷ [])) (givenPeak 5 0 1 (failedAt 5))
     -- "Later events are taken; the place stays."
     ∷ is (opening 1 tableB (0 ∷ 0 ∷ 1 ∷ [])) (givenPeak 3 0 1 (failedAt 2))
@@ -165,21 +165,21 @@ cases =
     ∷ is (opening 1 (drawn (par (fixed 2) (a stop) (a stop))) (0 ∷ [])) (stopped 13 0 (st 0 1 running))
     ∷ is (opening 1 (drawn (b (par (fixed 2) (a stop) (a stop)))) (1 ∷ 0 ∷ [])) (stopped 13 1 (st 1 1 running))
     -- lists of calls: one event at a time; a refused event is left out; a wrong work length adds none
-    ∷ is (afterOpen 1 tableB []) (givenSt 0 1 running)
+    ∷ is (afterOpen 1 tableB []) (givenAtPeak 0 1 running)
     ∷ is (afterOpen 1 tableB (feeds (0 ∷ []) ∷ feeds (0 ∷ []) ∷ [])) (givenPeak 2 0 1 (failedAt 2))
-    ∷ is (afterOpen 1 tableB (feeds (0 ∷ 9 ∷ []) ∷ feeds [] ∷ feeds (1 ∷ 0 ∷ []) ∷ [])) (givenSt 3 1 running)
-    ∷ is (afterOpen 1 tableB (feeds (0 ∷ []) ∷ short (0 ∷ []) ∷ feeds (1 ∷ []) ∷ [])) (givenSt 2 1 running)
+    ∷ is (afterOpen 1 tableB (feeds (0 ∷ 9 ∷ []) ∷ feeds [] ∷ feeds (1 ∷ 0 ∷ []) ∷ [])) (givenAtPeak 3 1 running)
+    ∷ is (afterOpen 1 tableB (feeds (0 ∷ []) ∷ short (0 ∷ []) ∷ feeds (1 ∷ []) ∷ [])) (givenAtPeak 2 1 running)
     ∷ is (afterOpen 1 (drawn (b (par (fixed 2) (a stop) (a stop)))) (feeds (1 ∷ 0 ∷ []) ∷ feeds (2 ∷ []) ∷ []))
     (givenPeak 2 0 1 (failedAt 2))
     -- 02, W7: an Open refused midway with 11 or 13 begins a history, and nothing from the refused event on joins; after
     -- crowded settling none begins
-    ∷ is (afterFirst 1 tableB (0 ∷ 9 ∷ 0 ∷ []) (feeds (1 ∷ 0 ∷ []) ∷ [])) (givenSt 3 1 running)
-    ∷ is (afterFirst 1 tableB (9 ∷ 0 ∷ []) (feeds (0 ∷ []) ∷ [])) (givenSt 1 1 running)
+    ∷ is (afterFirst 1 tableB (0 ∷ 9 ∷ 0 ∷ []) (feeds (1 ∷ 0 ∷ []) ∷ [])) (givenAtPeak 3 1 running)
+    ∷ is (afterFirst 1 tableB (9 ∷ 0 ∷ []) (feeds (0 ∷ []) ∷ [])) (givenAtPeak 1 1 running)
     ∷ is (afterFirst 1 (drawn (b (par (fixed 2) (a stop) (a stop)))) (1 ∷ 0 ∷ 2 ∷ []) (feeds [] ∷ []))
-    (givenSt 1 1 running)
+    (givenAtPeak 1 1 running)
     ∷ is (afterFirst 1 (drawn (choice (a stop) (a (b stop)))) (0 ∷ []) (feeds (0 ∷ []) ∷ [])) (refused 13 0)
     -- the counter: 11 before 12, 12 only with an event; 2^64-2 and 2^64-1
-    ∷ is (fed tableB (st counterMost 1 running) (zeros 16) (oneNode 0) []) (givenSt counterMost 1 running)
+    ∷ is (fed tableB (st counterMost 1 running) (zeros 16) (oneNode 0) []) (givenAtPeak counterMost 1 running)
     ∷ is (fed tableB (st counterMost 1 running) (zeros 16) (oneNode 0) (3 ∷ []))
     (stopped 11 0 (st counterMost 1 running))
     ∷ is (fed tableB (st counterMost 1 running) (zeros 16) (oneNode 0) (0 ∷ []))
@@ -196,29 +196,29 @@ cases =
     -- 10: the wrong parity; failed above taken; residuals after failure; running with none, or more than fit
     ∷ is (fed tableB (st 1 1 running) (oneNode 0) (zeros 16) []) (refused 10 0)
     ∷ is (fed tableB (st 1 0 (failedAt 2)) (zeros 16) (zeros 16) []) (refused 10 0)
-    ∷ is (fed tableB (st 5 0 (failedAt 0)) (zeros 16) (zeros 16) (0 ∷ [])) (givenSt 6 0 (failedAt 0))
+    ∷ is (fed tableB (st 5 0 (failedAt 0)) (zeros 16) (zeros 16) (0 ∷ [])) (givenAtPeak 6 0 (failedAt 0))
     ∷ is (fed tableB (st 1 1 (failedAt 1)) (zeros 16) (oneNode 0) []) (refused 10 0)
     ∷ is (fed tableB (st 0 0 running) (zeros 16) (zeros 16) []) (refused 10 0)
     ∷ is (fed tableB (st 0 2 running) (oneNode 0) (zeros 16) []) (refused 10 0)
     -- valid: the second prefix with its event; not: an event of 3, one beyond the enclosing prefixes, a call, no such
     -- term
-    ∷ is (fed tableB (st 0 1 running) (oneNode (word 1 2)) (zeros 16) (1 ∷ [])) (givenSt 1 1 running)
+    ∷ is (fed tableB (st 0 1 running) (oneNode (word 1 2)) (zeros 16) (1 ∷ [])) (givenAtPeak 1 1 running)
     ∷ is (fed tableB (st 0 1 running) (oneNode (word 1 3)) (zeros 16) []) (refused 10 0)
     ∷ is (fed tableB (st 0 1 running) (oneNode (word 0 1)) (zeros 16) []) (refused 10 0)
     ∷ is (fed tableB (st 0 1 running) (oneNode (word 2 0)) (zeros 16) []) (refused 10 0)
     ∷ is (fed tableB (st 0 1 running) (oneNode (word 3 0)) (zeros 16) []) (refused 10 0)
     -- "memory is below A, zero beyond the term's enclosing prefixes", event by event: four prefixes, three, two, one
-    ∷ is (fed (behind 0) (st 0 1 running) (oneNode (full 4 2 2 2 2)) (zeros 16) []) (givenSt 0 1 running)
+    ∷ is (fed (behind 0) (st 0 1 running) (oneNode (full 4 2 2 2 2)) (zeros 16) []) (givenAtPeak 0 1 running)
     ∷ is (fed (behind 0) (st 0 1 running) (oneNode (full 4 2 3 2 2)) (zeros 16) []) (refused 10 0)
     ∷ is (fed (behind 0) (st 0 1 running) (oneNode (full 4 2 2 3 2)) (zeros 16) []) (refused 10 0)
     ∷ is (fed (behind 0) (st 0 1 running) (oneNode (full 4 2 2 2 3)) (zeros 16) []) (refused 10 0)
-    ∷ is (fed (behind 0) (st 0 1 running) (oneNode (full 3 2 2 2 0)) (zeros 16) []) (givenSt 0 1 running)
+    ∷ is (fed (behind 0) (st 0 1 running) (oneNode (full 3 2 2 2 0)) (zeros 16) []) (givenAtPeak 0 1 running)
     ∷ is (fed (behind 0) (st 0 1 running) (oneNode (full 3 2 2 2 1)) (zeros 16) []) (refused 10 0)
-    ∷ is (fed (behind 0) (st 0 1 running) (oneNode (full 2 2 2 0 0)) (zeros 16) []) (givenSt 0 1 running)
+    ∷ is (fed (behind 0) (st 0 1 running) (oneNode (full 2 2 2 0 0)) (zeros 16) []) (givenAtPeak 0 1 running)
     ∷ is (fed (behind 0) (st 0 1 running) (oneNode (full 2 2 2 1 0)) (zeros 16) []) (refused 10 0)
     ∷ is (fed (behind 0) (st 0 1 running) (oneNode (full 1 2 1 0 0)) (zeros 16) []) (refused 10 0)
     -- so of a parallel's own memory: an event; an event of 3; one beyond the enclosing prefixes
-    ∷ is (fed rowed (st 1 1 running) (zeros 16) (threeNodes (word 1 2) (word 2 2) (word 5 2)) []) (givenSt 1 1 running)
+    ∷ is (fed rowed (st 1 1 running) (zeros 16) (threeNodes (word 1 2) (word 2 2) (word 5 2)) []) (givenAtPeak 1 1 running)
     ∷ is (fed rowed (st 1 1 running) (zeros 16) (threeNodes (word 1 3) (word 2 2) (word 5 2)) []) (refused 10 0)
     ∷ is (fed eight (st 0 1 running) (threeNodes (word 0 1) (word 1 0) (word 3 0)) (zeros 16) []) (refused 10 0)
     -- equal slots twice; fewer counted than there are; the node count wrong; the other area not zero
@@ -235,15 +235,15 @@ cases =
     ∷ is (fed mixed (st 0 1 running) (oneNode (word 0 0)) (zeros 16) []) (refused 10 0)
     -- one node before three nodes stands, three before one does not
     ∷ is (fed mixed (st 0 2 running) (oneNode (word 1 0) ++ threeNodes (word 3 0) (word 4 0) (word 6 0)) (zeros 32) [])
-    (givenSt 0 2 running)
+    (givenAtPeak 0 2 running)
     ∷ is (fed mixed (st 0 2 running) (threeNodes (word 3 0) (word 4 0) (word 6 0) ++ oneNode (word 1 0)) (zeros 32) [])
     (refused 10 0)
     -- "the leaves' reach sums to at most 8": the prefix beside a STOP has 8 + 1, where there is one STOP less 7 + 1; a
     -- pair of two STOPs stands
     ∷ is (fed wide (st 0 1 running) (threeNodes (word 0 0) (word 3 0) (word 15 0)) (zeros 16) []) (refused 10 0)
     ∷ is (fed narrower (st 0 1 running) (threeNodes (word 0 0) (word 3 0) (word 13 0)) (zeros 16) [])
-    (givenSt 0 1 running)
-    ∷ is (fed wide (st 0 1 running) (threeNodes (word 0 0) (word 3 0) (word 4 0)) (zeros 16) []) (givenSt 0 1 running)
+    (givenAtPeak 0 1 running)
+    ∷ is (fed wide (st 0 1 running) (threeNodes (word 0 0) (word 3 0) (word 4 0)) (zeros 16) []) (givenAtPeak 0 1 running)
     -- 1: lent lengths, before everything else; then 2 to 9, before 10
     ∷ is (fed tableB (st 0 1 running) (zeros 8) (zeros 8) []) (refused 1 0)
     ∷ is (fed tableB (st 0 1 running) (oneNode 0) (zeros 32) []) (refused 1 0)

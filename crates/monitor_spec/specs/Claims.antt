@@ -66,7 +66,7 @@ use Rattle.monitor_spec.specs.Expected.{monitorOnward}
 use Rattle.monitor_spec.specs.Refusals.{OpenRefused, Fresh, CallRefused, Offers, WorkLeft}
 use Rattle.monitor_spec.specs.Progress.{LeavesAt, PeakOnward, FeedStops, FeedGives, OpenStops, OpenGives}
 use Rattle.monitor_spec.specs.History.{callOn, history, Opened, start, Leaves, Along, AfterCalls}
-use Rattle.monitor_spec.specs.Stops.{AnswersOne, JudgesOne}
+use Rattle.monitor_spec.specs.Stopping.{AnswersOne, JudgesOne}
 use Rattle.monitor_spec.specs.Offers.{OffersJust}
 use Rattle.monitor_spec.specs.Views.{PartWay}
 use Rattle.monitor_spec.specs.Tried.{Alike, TryRefused, tried, Foretells}

@@ -1,6 +1,6 @@
 -- The monitor's specification, in reading order: residuals and their words, the state, the operations, lists of
 -- calls; the worked examples; what is claimed. Last, what only the laws and proofs use. Assumes nothing.
-pub mod Residual
+pub mod ResidualMeaning
 pub mod Valid
 pub mod State
 pub mod Consistent
@@ -21,7 +21,7 @@ pub mod Offers
 pub mod Refusals
 pub mod Progress
 pub mod History
-pub mod Stops
+pub mod Stopping
 pub mod Views
 pub mod Tried
 pub mod Examples

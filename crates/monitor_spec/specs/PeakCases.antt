@@ -7,7 +7,7 @@ use Rattle.table.specs.Table.{fixed, stop, par}
 use Rattle.table.specs.Operations.{zeros}
 use Rattle.monitor_spec.specs.State.{running, failedAt, refused, stopped}
 use Rattle.monitor_spec.specs.Examples.{tableB, drawn, a, opening}
-use Rattle.monitor_spec.specs.Cases.{Case, is, peaked, st, givenSt, givenPeak, fed, afterOpen, feeds, oneNode}
+use Rattle.monitor_spec.specs.Cases.{Case, is, peaked, st, givenAtPeak, givenPeak, fed, afterOpen, feeds, oneNode}
 use Rattle.monitor_spec.specs.Cases.{word}
 use Rattle.monitor_spec.specs.Cases.{afterFirst, eight}
 
@@ -23,7 +23,7 @@ peakCases =
     -- so over an Open's own list: "over all beginnings", from the empty one
     ∷ is (afterFirst 2 eight (0 ∷ 0 ∷ []) (feeds (0 ∷ 0 ∷ []) ∷ [])) (givenPeak 4 0 2 (failedAt 3))
     -- a refused event does not move it: 13, where two slots are lent for three residuals; 11
-    ∷ is (opening 3 three (0 ∷ [])) (givenSt 1 3 running)
+    ∷ is (opening 3 three (0 ∷ [])) (givenAtPeak 1 3 running)
     ∷ is (opening 2 three (0 ∷ [])) (stopped 13 0 (st 0 1 running))
     ∷ is (fed tableB (peaked 1 1 2 running) (zeros 32) (oneNode (word 1 0) ++ zeros 16) (1 ∷ 3 ∷ []))
     (stopped 11 1 (peaked 2 1 2 running))

@@ -1,6 +1,6 @@
 -- Residuals as words (01, "Residuals").
---     nodes, slotOf    a residual's node words; its slot
---     slotsOf          the slots of a list of residuals, ascending, each once
+--     nodes, nodesAll, slotOf    a residual's node words; those of residuals one after the other; its slot
+--     slotsOf                    the slots of a list of residuals, ascending, each once
 -- The order of slots stands in slots/specs/Canon; the laws are in `Slots/Laws.antt`. Assumes nothing.
 use Prim.Native.Nat.{ℕ, _-_}
 use mathlib.Core.List.{List, [], _∷_, _++_, map}
@@ -14,6 +14,10 @@ pub mod Laws
 unfoldable pub nodes : Residual → List ℕ
 nodes (leaf n m) = pack n m ∷ []
 nodes (pair n m l r) = pack n m ∷ nodes l ++ nodes r
+
+unfoldable pub nodesAll : List Residual → List ℕ
+nodesAll [] = []
+nodesAll (r ∷ rs) = nodes r ++ nodesAll rs
 
 -- "A slot is 16 words: node count, nodes .., zeros."
 unfoldable pub slotOf : Residual → List ℕ

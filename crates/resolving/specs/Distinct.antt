@@ -23,7 +23,7 @@ use Rattle.residuals.specs.Residual.{resolve}
 use Rattle.residuals.specs.Slots.{nodes}
 use Rattle.slots.specs.Insertion.{stored}
 use Rattle.resolving.specs.Lawful.{Below}
-use Rattle.resolving.specs.Residual.{nth, resolvedInto}
+use Rattle.resolving.specs.ResidualWords.{nth, resolvedInto}
 pub mod Laws
 pub mod Words
 pub mod Keeping

@@ -2,5 +2,5 @@
 -- what resolving gives, and a leaf's distinct results. Assumes nothing.
 pub mod Words
 pub mod Lawful
-pub mod Residual
+pub mod ResidualWords
 pub mod Distinct

@@ -8,7 +8,7 @@ ghost use mathlib.Core.Path.{_≡_};
 ghost use Rattle.table_index.specs.Index.{tableIn, Indexed};
 ghost use Prim.Native.Nat.{_<_};
 ghost use Rattle.node_word.specs.Word.{memoryBound, memoryOf};
-ghost use Rattle.resolving.specs.Residual.{Resolves, resolvedInto, Lands};
+ghost use Rattle.resolving.specs.ResidualWords.{Resolves, resolvedInto, Lands};
 
 // Where the way to a residual comes to: a leaf, by its node word; a parallel, and which of its
 // residuals it is; or nothing, which FAIL has.

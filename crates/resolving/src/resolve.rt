@@ -8,8 +8,8 @@ ghost use Prim.Native.Nat.{ℕ, _+_, _*_, _<_, _≤_};
 ghost use lib.ListN.{length, getD};
 ghost use Rattle.table_index.specs.Index.{tableIn, Indexed};
 ghost use Rattle.node_word.specs.Word.{memoryBound, memoryOf};
-ghost use Rattle.resolving.specs.Residual.{pushed, Resolves, resolvedInto};
-ghost use Rattle.resolving.specs.Residual.{ResolvesDefinition, definitionInto};
+ghost use Rattle.resolving.specs.ResidualWords.{pushed, Resolves, resolvedInto};
+ghost use Rattle.resolving.specs.ResidualWords.{ResolvesDefinition, definitionInto};
 
 // Puts one word more into a slot.
 fn push_into(slot: &mut [u64], w: u64)

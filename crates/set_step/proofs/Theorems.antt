@@ -16,7 +16,7 @@ use Rattle.residuals.specs.Residual.{pairs, resolveIn, resolveDef, resolve, aft
 use Rattle.slots.specs.Canon.{compareWords, insertSorted, canon}
 use Rattle.residuals.specs.Slots.{nodes, slotOf, slotsOf}
 use Rattle.resolving.specs.Words.{kindAt, holdsAt}
-use Rattle.resolving.specs.Residual.{nth}
+use Rattle.resolving.specs.ResidualWords.{nth}
 use Rattle.resolving.specs.Distinct.{sameWords}
 use Rattle.tree_moves.specs.Only.{leafWay, wayOf}
 use Rattle.set_step.specs.Successors.Laws.{stepped, exceeded}

@@ -11,7 +11,7 @@ use Rattle.table.specs.Memory.{noMemory}
 use Rattle.residuals.specs.Residual.{resolve, afterAll}
 use Rattle.residuals.specs.Slots.{slotsOf}
 use Rattle.resolving.specs.Distinct.{sameWords}
-use Rattle.resolving.specs.Residual.{nth}
+use Rattle.resolving.specs.ResidualWords.{nth}
 use Rattle.tree_moves.specs.declared.only.Way.{Way}
 use Rattle.tree_moves.specs.declared.only.Way.the-variants.{Still, Moving, Many}
 use Rattle.tree_moves.specs.Only.{wayOf}

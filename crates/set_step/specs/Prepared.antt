@@ -1,11 +1,11 @@
 -- A store filled for one residual; a tree that cannot take the event is passed over whole.
---     Sound                  the residual in a store: a known tree whose results fit a slot
---     Held, NodeFilled       a prefix's set holds the event; one node is filled
---     Last, TakenOver        the prefix filled last; its part taken over by a node with the same word
---     PreparedAll            trees one after the other are prepared
---     Left, First            the trees that are left from a node on, of one residual; the first of them
---     UpTo                   what holds there
---     Fills                  the promise of `prepare`
+--     Sound                      the residual in a store: a known tree whose results fit a slot
+--     Held, NodeFilled           a prefix's set holds the event; one node is filled
+--     FilledBefore, TakenOver    a prefix filled before; its part taken over by a node with the same word
+--     PreparedAll                trees one after the other are prepared
+--     Left, First                the trees that are left from a node on, of one residual; the first of them
+--     UpTo                       what holds there
+--     Fills                      the promise of `prepare`
 -- The laws are in `Prepared/`: `Below` (what lies below a place), `Nodes` (one node), `Repeats` (a node whose word was
 -- there before), `Asked` (a tree that takes the event, and one that does not), `Turns` (the loop of `prepare`). Assumes
 -- nothing.
@@ -15,12 +15,12 @@ use mathlib.Core.Bool.{true}
 use mathlib.Core.List.{List, [], _∷_, _++_}
 use lib.ListN.{length, getD, take}
 use Rattle.table.specs.Table.{Table}
-use Rattle.residuals.specs.Slots.{nodes}
+use Rattle.residuals.specs.Slots.{nodes, nodesAll}
 use Rattle.residuals.specs.Residual.{Residual}
 use Rattle.resolving.specs.Words.{kindAt, holdsAt}
 use Rattle.resolving.specs.Distinct.{window}
 use Rattle.tree_walk.specs.Walk.{leafKept, room}
-use Rattle.tree_walk.specs.Forest.{Valid, AllValid, nodesAll}
+use Rattle.tree_walk.specs.Forest.{Valid, AllValid}
 use Rattle.tree_walk.specs.Course.{nodeCount, nodesFrom, Node, Prepared, Ready}
 pub mod Below
 pub mod Nodes
@@ -48,8 +48,8 @@ pub record NodeFilled (t : Table) (e : ℕ) (old new : List ℕ) (k : ℕ) : Typ
   pub prefix : kindAt t (getD old k 0) ≡ 2 → Node t e new k (getD old k 0)
   pub other : (kindAt t (getD old k 0) ≡ 2 → ⊥) → getD new (k * 257) 0 ≡ 1
 
--- the prefix filled last, before node k, or 0
-pub record Last (t : Table) (e : ℕ) (store : List ℕ) (k last : ℕ) : Type 0 where
+-- a prefix before node k that is filled, or 0
+pub record FilledBefore (t : Table) (e : ℕ) (store : List ℕ) (k last : ℕ) : Type 0 where
   pub before : last < k
   pub few : 0 < last → length (leafKept t e (getD store last 0)) ≤ 256
   pub node : 0 < last → Node t e store last (getD store last 0)

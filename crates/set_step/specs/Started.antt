@@ -10,7 +10,7 @@ use Rattle.table.specs.Table.{Table}
 use Rattle.meaning.specs.Figure1.{bodyCount}
 use Rattle.residuals.specs.Residual.{resolveDef}
 use Rattle.residuals.specs.Slots.{slotOf}
-use Rattle.resolving.specs.Residual.{ResolvesDefinition}
+use Rattle.resolving.specs.ResidualWords.{ResolvesDefinition}
 use Rattle.resolving.specs.Distinct.{empty}
 pub mod Laws
 

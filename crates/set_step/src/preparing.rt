@@ -17,7 +17,7 @@ ghost use Rattle.table_index.specs.Index.{tableIn, Indexed};
 ghost use Rattle.node_word.specs.Word.{termOfWord};
 ghost use Rattle.resolving.specs.Words.{kindAt};
 ghost use Rattle.tree_walk.specs.Course.{nodeCount};
-ghost use Rattle.set_step.specs.Prepared.{Sound, Held, NodeFilled, Last, TakenOver, Fills};
+ghost use Rattle.set_step.specs.Prepared.{Sound, Held, NodeFilled, FilledBefore, TakenOver, Fills};
 
 // Whether a node is a prefix, by the kind of its term. A residual's other nodes are STOP and pairs.
 fn is_prefix(list: &[u16], work: &[u64], w: u64) -> bool
@@ -34,7 +34,7 @@ fn is_prefix(list: &[u16], work: &[u64], w: u64) -> bool
     }
 }
 
-// Whether there is a node `last`, not 0, and its word is w.
+// True only where there is a node `last`, not 0, and its word is w.
 fn has_word(store: &[u64], last: usize, w: u64) -> bool
     requires { ⌜ last < length (now store) ⌝ }
     ensures { λ r. ⌜ (r ≡ true → (0 < last) × (getD (now (store .entry)) last 0 ≡ w)) ⌝ }
@@ -62,8 +62,8 @@ fn take_over(store: &mut [u64], from: usize, k: usize)
 }
 
 // Fills the part of node k, whose tree takes the event: of a prefix the number of its results and
-// their indices, of a pair that it does. What has the word of the prefix filled last, if there is
-// one, has its results. Gives the prefix filled last, or 0.
+// their indices, of a pair that it does. A prefix with the word of `last`, which was filled before,
+// takes over its part. Gives a prefix that is filled now, or 0.
 fn prepare_node(
     list: &[u16],
     work: &[u64],
@@ -76,11 +76,11 @@ fn prepare_node(
     requires { ⌜ Indexed (now list) (now work) ⌝ }
     requires { ⌜ Sound (tableIn (now list)) bound e (now store) ⌝ }
     requires { ⌜ (1 ≤ k) × (k ≤ nodeCount (now store)) × Held (tableIn (now list)) e (now store) k ⌝ }
-    requires { ⌜ Last (tableIn (now list)) e (now store) k last ⌝ }
+    requires { ⌜ FilledBefore (tableIn (now list)) e (now store) k last ⌝ }
     ensures { λ r.
         ⌜ NodeFilled (tableIn (now (list .entry))) e (now (store .entry))
         (now (store .exit)) k
-        × Last (tableIn (now (list .entry))) e (now (store .exit)) (k + 1) r ⌝ }
+        × FilledBefore (tableIn (now (list .entry))) e (now (store .exit)) (k + 1) r ⌝ }
 {
     let w = store[k];
     let at = k * 257;

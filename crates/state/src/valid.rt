@@ -16,7 +16,7 @@ ghost use Rattle.state.specs.Walk.{wordFits, planted, plantedAll};
 use node_word::digit;
 use node_word::term_of;
 
-// The bits of the eight words from i on.
+// The bits of the eight words from i on: 0 only where the eight are zero.
 fn eight(area: &[u64], i: usize) -> u64
     requires { ⌜ i + 8 ≤ length (now area) ⌝ }
     ensures { λ r.

@@ -13,13 +13,13 @@ use Rattle.table.specs.Memory.{Memory}
 use Rattle.table.specs.Node.{termOf, kindOf}
 use Rattle.table.specs.Rules.{Rules}
 use Rattle.node_word.specs.Word.{pack, Digits}
-use Rattle.resolving.specs.Residual.After.{after-not-kind}
+use Rattle.resolving.specs.ResidualWords.After.{after-not-kind}
 use Rattle.tree_walk.specs.Walk.{leafResults, longest, room}
 use Rattle.set_step.specs.Stepped.{SoundSlot}
 use Rattle.tree_moves.specs.Members.{room-append, node-results}
 use Rattle.monitor_spec.specs.Regular.Laws.{regular}
 use Rattle.residuals.specs.Residual.{Residual, leaf, pair, after}
-use Rattle.monitor_spec.specs.Residual.After.{after-sound}
+use Rattle.monitor_spec.specs.ResidualMeaning.After.{after-sound}
 use Rattle.monitor_spec.specs.Meaning.{Sound}
 use Rattle.residuals.specs.Slots.{nodes}
 use Rattle.monitor_spec.specs.Valid.{reachSum}

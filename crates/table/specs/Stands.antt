@@ -1,6 +1,6 @@
 -- Which term stands where in a table: the term of a node, without its place among the numbers (ours).
 --     Stands    x is the term of number n over definitions, in definition h, under c prefixes
---     Place     in some definition, under some prefixes
+--     SomewhereStands     in some definition, under some prefixes
 -- The laws are in `Stands/Laws.antt`. Assumes nothing.
 use Prim.Native.Nat.{ℕ}
 use mathlib.Core.Path.{_≡_}
@@ -17,7 +17,7 @@ pub record Stands (ds : List Definition) (h c n : ℕ) (x : Term) : Type 0 where
   pub under : spot .prefixes ≡ c
   pub is : NodeStands 0 0 ds h n (node spot index x)
 
-pub record Place (ds : List Definition) (n : ℕ) (x : Term) : Type 0 where
+pub record SomewhereStands (ds : List Definition) (n : ℕ) (x : Term) : Type 0 where
   pub home : ℕ
   pub depth : ℕ
   pub stands : Stands ds home depth n x

@@ -1,6 +1,6 @@
 -- One residual and one event without a store, in reading order: the members of a leaf's results, and of a residual's;
 -- whether it is taken; its way; its results, held. Assumes nothing.
-pub mod Kept
+pub mod Covering
 pub mod Members
 pub mod Takes
 pub mod Only

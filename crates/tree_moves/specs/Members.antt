@@ -1,7 +1,7 @@
 -- The residuals after an event, with and without a leaf's repeats, have the same words.
 --     same-after                 the members of `afterKept` are those of `after`
 --     Short, short-of            a residual whose leaves have short results; it is where they have room
--- A leaf is in `Kept.antt`. Assumes nothing.
+-- A leaf is in `Covering.antt`. Assumes nothing.
 use Prim.Native.Nat.{ℕ, _+_, _≤_}
 use native.Mathlib.Omega.{arith}
 use mathlib.Core.Path.{_≡_, refl}
@@ -17,15 +17,15 @@ use Rattle.node_word.specs.Word.{pack, Digits}
 use Rattle.node_word.specs.Word.Laws.{term-pack, memory-pack}
 use Rattle.residuals.specs.Residual.{Residual, leaf, pair, pairs, resolve, after}
 use Rattle.residuals.specs.Slots.{nodes}
-use Rattle.resolving.specs.Residual.{nth}
-use Rattle.resolving.specs.Residual.After.{after-both, after-either}
+use Rattle.resolving.specs.ResidualWords.{nth}
+use Rattle.resolving.specs.ResidualWords.After.{after-both, after-either}
 use Rattle.tree_walk.specs.Walk.{leafKept, leafResults, joins, before, longest, room}
 use Rattle.tree_walk.specs.Forest.{Valid, afterKept}
 use Rattle.tree_walk.specs.Forest.Words.{nodes-pairs}
 use Rattle.numbers.specs.Some.{any-append-left, any-append-right, any-append-cases}
 use Rattle.slots.specs.Canon.{In, SameMembers}
 use Rattle.slots.specs.Canon.Members.{Sub, map-in, map-out, sub-map, same-refl, same-append}
-use Rattle.tree_moves.specs.Kept.{follower, leaf-both}
+use Rattle.tree_moves.specs.Covering.{follower, leaf-both}
 
 -- ---- products and unions
 

@@ -11,7 +11,7 @@ use resolving::resolve_term;
 ghost use mathlib.Core.Path.{_≡_};
 ghost use Prim.Native.Nat.{_%_};
 ghost use Rattle.table_index.specs.Index.{tableIn, Indexed};
-ghost use Rattle.resolving.specs.Residual.{pushAll};
+ghost use Rattle.resolving.specs.ResidualWords.{pushAll};
 ghost use Rattle.resolving.specs.Distinct.{window};
 ghost use Rattle.tree_moves.specs.Only.{grown, rebuilt, Carries, Rebuilds};
 

@@ -13,8 +13,8 @@ use Rattle.table.specs.Memory.{Memory, remember, digit}
 use Rattle.table.specs.Member.{member}
 use Rattle.node_word.specs.Word.{pack, Digits}
 use Rattle.residuals.specs.Residual.{Residual, leaf, pair, pairs, resolve}
-use Rattle.residuals.specs.Slots.{nodes}
-use Rattle.resolving.specs.Residual.{nth}
+use Rattle.residuals.specs.Slots.{nodesAll}
+use Rattle.resolving.specs.ResidualWords.{nth}
 use Rattle.tree_walk.specs.Walk.{leafKept}
 pub mod Words
 pub mod Results
@@ -40,10 +40,6 @@ afterKept t e (pair n m l r) =
 abbrev pub AllValid : Table → List Residual → Type 0
 AllValid t [] = Unit
 AllValid t (r ∷ rs) = Valid t r × AllValid t rs
-
-unfoldable pub nodesAll : List Residual → List ℕ
-nodesAll [] = []
-nodesAll (r ∷ rs) = nodes r ++ nodesAll rs
 
 pub record Forest (t : Table) (ws : List ℕ) : Type 0 where
   pub trees : List Residual

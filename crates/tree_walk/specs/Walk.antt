@@ -17,7 +17,7 @@ use Rattle.residuals.specs.Residual.{Residual, leaf, resolve, after}
 use Rattle.residuals.specs.Slots.{nodes}
 use Rattle.resolving.specs.Distinct.{kept, slotAt}
 use Rattle.resolving.specs.Words.{kindAt, holdsAt}
-use Rattle.resolving.specs.Residual.{nth, pushAll}
+use Rattle.resolving.specs.ResidualWords.{nth, pushAll}
 pub mod Results
 pub mod Leaves
 

@@ -38,10 +38,10 @@ use Rattle.words.specs.Calls as calls
 
 -- ---- Read and Write
 
-abbrev ZeroWhenDone : Outcome → Type 0
-ZeroWhenDone o = eqb (tables.numberOf (o .answer)) 0 ≡ isDone (o .answer)
+abbrev ZeroJustWhenDone : Outcome → Type 0
+ZeroJustWhenDone o = eqb (tables.numberOf (o .answer)) 0 ≡ isDone (o .answer)
 
-read-judged : (s : List ℕ) → Bytes s → (j : Judgement) → judgeBytes s ≡ j → ZeroWhenDone (readJudged j)
+read-judged : (s : List ℕ) → Bytes s → (j : Judgement) → judgeBytes s ≡ j → ZeroJustWhenDone (readJudged j)
 unfolding readJudged tables.numberOf isDone
 read-judged s w (accepted ns t) e = refl
 read-judged s w (declined n at) e = ne-eqb n 0 (bytes-some s n at w e)
@@ -51,11 +51,11 @@ unfolding readCall tableCall readOf tables.numberOf isDone
 read-zero s out w h = go (measured out 16384 && measured w 8192)
   where
     go : (x : Bool)
-        → ZeroWhenDone (cond x (readJudged (judgeBytes s)) (record { answer = refusal 1 0; output = out; work = w }))
+        → ZeroJustWhenDone (cond x (readJudged (judgeBytes s)) (record { answer = refusal 1 0; output = out; work = w }))
     go true = read-judged s h (judgeBytes s) refl
     go false = refl
 
-write-judged : (l out : List ℕ) (j : Judgement) → judgeList l ≡ j → ZeroWhenDone (writeJudged (listBytes l) out j)
+write-judged : (l out : List ℕ) (j : Judgement) → judgeList l ≡ j → ZeroJustWhenDone (writeJudged (listBytes l) out j)
 unfolding writeJudged tables.numberOf isDone
 write-judged l out (accepted ns t) e = go (leb (length (listBytes l)) (length out))
   where
@@ -63,7 +63,7 @@ write-judged l out (accepted ns t) e = go (leb (length (listBytes l)) (length ou
     bs = listBytes l
 
     go : (x : Bool)
-        → ZeroWhenDone
+        → ZeroJustWhenDone
         (cond x (record { answer = done (length bs); output = bs ++ drop (length bs) out; work = zeros 8192 })
         (record { answer = refusal 1 0; output = out; work = zeros 8192 }))
     go true = refl
@@ -75,7 +75,7 @@ unfolding writeCall tableCall writeOf tables.numberOf isDone
 write-zero l out w = go (measured w 8192)
   where
     go : (x : Bool)
-        → ZeroWhenDone (cond x (writeJudged (listBytes l) out (judgeList l))
+        → ZeroJustWhenDone (cond x (writeJudged (listBytes l) out (judgeList l))
         (record { answer = refusal 1 0; output = out; work = w }))
     go true = write-judged l out (judgeList l) refl
     go false = refl

@@ -15,7 +15,7 @@ use lib.Seq.{drop-cons}
 use borrow.Author.Tests.{le-ltb, lt-ltb, le-leb, lt-leb, eq-eqb, ne-eqb}
 use Rattle.numbers.specs.Number.{Scan, value, truncated, malformed, carry, later, scanWith, limitOf}
 use Rattle.numbers.specs.Number.Groups.{limit-zero, limit-suc, limit-some}
-use Rattle.numbers.specs.Number.Extent.{Found, NumberAt, scan-at}
+use Rattle.numbers.specs.Number.Extent.{Found, ReadsAt, scan-at}
 use Rattle.lot_book.specs.declared.number.Number.{Number}
 use Rattle.lot_book.specs.declared.number.Number.the-variants.{Value, Unread}
 use Rattle.lot_book.specs.Number.{scanNumber, found, numberAt, groupsAt, Small, Grouped}
@@ -169,7 +169,7 @@ value-found at v q (value w n rest) e = record { n = n; rest = rest; scan = cc; 
 value-found at v q truncated e = let z : _≡_ {A = ℕ} 0 1 = cc in absurd (omega arith)
 value-found at v q malformed e = let z : _≡_ {A = ℕ} 0 1 = cc in absurd (omega arith)
 
-pub number-stands : (s : List ℕ) (at v q : ℕ) → Value v q ≡ numberAt s at → NumberAt scanNumber s at v q
+pub number-stands : (s : List ℕ) (at v q : ℕ) → Value v q ≡ numberAt s at → ReadsAt scanNumber s at v q
 unfolding numberAt
 number-stands s at v q e = scan-at 9 1 s at v q (value-found at v q (scanNumber (drop at s)) e)
 

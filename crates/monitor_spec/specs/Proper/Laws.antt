@@ -29,8 +29,8 @@ use Rattle.residuals.specs.Residual.{Residual, leaf, pair, pairs, resolveIn, re
 use Rattle.residuals.specs.Residual.{afterPair, after, afterAll, run, fromDefinition, residualsOf}
 use Rattle.monitor_spec.specs.Meaning.{Sound}
 use Rattle.residuals.specs.Residual.Calls.{resolve-at}
-use Rattle.monitor_spec.specs.Residual.Resolve.{resolveDef-sound}
-use Rattle.monitor_spec.specs.Residual.After.{after-leaf-at, after-pair-at, after-sound}
+use Rattle.monitor_spec.specs.ResidualMeaning.Resolve.{resolveDef-sound}
+use Rattle.monitor_spec.specs.ResidualMeaning.After.{after-leaf-at, after-pair-at, after-sound}
 use Rattle.monitor_spec.specs.Valid.{reachAt, reachSum}
 use Rattle.monitor_spec.specs.Proper.{Remembers, Fits, Fitting, Proper}
 

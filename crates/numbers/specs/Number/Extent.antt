@@ -1,7 +1,7 @@
 -- How far a scan goes, whatever the bytes are: it takes one byte or more of those there, and leaves the rest.
 --     Extent         what n bytes taken and a rest are to the bytes scanned
 --     scan-extent    the extent of a number that was read
---     NumberAt       a number stands at a position of some bytes;  scan-at: it does where a scan found it
+--     ReadsAt       a number stands at a position of some bytes;  scan-at: it does where a scan found it
 -- Not here: what the number is, `Number/Groups.antt`. Assumes nothing.
 use Prim.Native.Nat.{ℕ, zero, suc, _+_, _-_, _≤_, _<_}
 use native.Mathlib.Omega.{arith}
@@ -59,7 +59,7 @@ scan-extent more top s v n rest e = subst (Extends s) e (scan-extends more top s
 
 -- ---- at a position
 -- the number v stands at a position of l, and q is the position after it
-pub record NumberAt (read : List ℕ → Scan) (l : List ℕ) (at v q : ℕ) : Type 0 where
+pub record ReadsAt (read : List ℕ → Scan) (l : List ℕ) (at v q : ℕ) : Type 0 where
   pub scan : read (drop at l) ≡ value v (q - at) (drop q l)
   pub after : at < q
   pub within : q ≤ length l
@@ -75,7 +75,7 @@ scan-path : (v n m : ℕ) (s t : List ℕ) → n ≡ m → s ≡ t → value v n
 scan-path v n m s t p q = cc
 
 pub scan-at : (more top : ℕ) (l : List ℕ) (at v q : ℕ) → Found at v q (scanWith more top (drop at l))
-    → NumberAt (scanWith more top) l at v q
+    → ReadsAt (scanWith more top) l at v q
 scan-at more top l at v q f =
     let k : q ≡ at + f .n = f .next in
     let h = scan-extent more top (drop at l) v (f .n) (f .rest) (f .scan) in

@@ -16,7 +16,7 @@ use Rattle.numbers.specs.declared.Reading.the-variants.{Value, Truncated
 use Rattle.numbers.specs.declared.Written.the-variants.{Next, Full}
 use Rattle.numbers.specs.Number.{Bytes, bytesOf, Scan, value, truncated, malformed, readNumber}
 use Rattle.numbers.specs.Number.{Incomplete, IllWritten}
-use Rattle.numbers.specs.Number.Extent.{Found, NumberAt, scan-at}
+use Rattle.numbers.specs.Number.Extent.{Found, ReadsAt, scan-at}
 use Rattle.numbers.specs.Number.Unread.{read-truncated, incomplete-read, read-malformed, ill-written-read}
 use Rattle.numbers.specs.Position.{found, refusalNumber, readAt, endAt, storedAt}
 
@@ -40,7 +40,7 @@ malformed-found at (value w n rest) e = let z : _≡_ {A = ℕ} 0 1 = cc in absu
 malformed-found at truncated e = let z : _≡_ {A = ℕ} 0 1 = cc in absurd (omega arith)
 malformed-found at malformed e = refl
 
-pub value-read : (l : List ℕ) (at v q : ℕ) → Value v q ≡ readAt l at → NumberAt readNumber l at v q
+pub value-read : (l : List ℕ) (at v q : ℕ) → Value v q ≡ readAt l at → ReadsAt readNumber l at v q
 unfolding readAt readNumber
 value-read l at v q e = scan-at 2 3 l at v q (value-found at v q (readNumber (drop at l)) e)
 
@@ -103,15 +103,15 @@ next-stored l at v q = by-room (leb (at + length (bytesOf v)) (length l)) refl
     by-room false t e = let z : _≡_ {A = ℕ} 0 1 = cc in absurd (omega arith)
 
 -- there was no room, and nothing changed
-pub record Kept (l : List ℕ) (at v : ℕ) : Type 0 where
+pub record NoRoom (l : List ℕ) (at v : ℕ) : Type 0 where
   pub beyond : length l < at + length (bytesOf v)
   pub output : storedAt l at v ≡ l
 
-pub full-kept : (l : List ℕ) (at v : ℕ) → Full ≡ endAt l at v → Kept l at v
+pub full-kept : (l : List ℕ) (at v : ℕ) → Full ≡ endAt l at v → NoRoom l at v
 unfolding endAt storedAt
 full-kept l at v = by-room (leb (at + length (bytesOf v)) (length l)) refl
   where
     by-room : (b : Bool) → leb (at + length (bytesOf v)) (length l) ≡ b
-        → Full ≡ cond b (Next (at + length (bytesOf v))) Full → Kept l at v
+        → Full ≡ cond b (Next (at + length (bytesOf v))) Full → NoRoom l at v
     by-room true t e = let z : _≡_ {A = ℕ} 0 1 = cc in absurd (omega arith)
     by-room false t e = record { beyond = leb-false _ _ t; output = simp t }

@@ -19,10 +19,10 @@ use Rattle.table.specs.Memory.{Memory}
 use Rattle.table.specs.Branches.{branches}
 use Rattle.table.specs.Branches.Capped.{capped}
 use Rattle.table.specs.Node.{termOf}
-use Rattle.resolving.specs.Residual.Resolved.{length-resolved}
+use Rattle.resolving.specs.ResidualWords.Resolved.{length-resolved}
 use Rattle.residuals.specs.Residual.{resolve}
 use Rattle.resolving.specs.Lawful.{Lawful}
-use Rattle.resolving.specs.Residual.{Resolves}
+use Rattle.resolving.specs.ResidualWords.{Resolves}
 use Rattle.resolving.specs.Distinct.{sameWords, window, isKept, keepNew, kept, empty, Resolvable, Indices}
 
 -- ---- sameWords

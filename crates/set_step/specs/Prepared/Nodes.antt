@@ -19,11 +19,11 @@ use Rattle.node_word.specs.Word.Laws.{events-fit}
 use Rattle.residuals.specs.Slots.{nodes}
 use Rattle.residuals.specs.Residual.{Residual, leaf, pair, resolve}
 use Rattle.resolving.specs.Lawful.{Lawful, follower-in}
-use Rattle.resolving.specs.Residual.Resolved.{length-resolved}
+use Rattle.resolving.specs.ResidualWords.Resolved.{length-resolved}
 use Rattle.resolving.specs.Distinct.{window, kept, slotAt, Resolvable, Stored}
 use Rattle.resolving.specs.Distinct.Laws.{at-window, length-window}
 use Rattle.resolving.specs.Words.{kindAt, holdsAt, KnownWord}
-use Rattle.resolving.specs.Residual.{nth}
+use Rattle.resolving.specs.ResidualWords.{nth}
 use Rattle.tree_walk.specs.Walk.{leafKept, leafResults, longest, room}
 use Rattle.tree_walk.specs.Walk.Leaves.{results-yes, kept-yes, nodes-short, leaf-length}
 use Rattle.tree_walk.specs.Forest.{Valid}

@@ -6,7 +6,7 @@
 use Prim.Native.Nat.{ℕ, suc, _+_, _*_, _<_, _≤_}
 use native.Mathlib.Omega.{arith}
 use native.Mathlib.Numerals.{add-one}
-use mathlib.Core.Path.{_≡_, refl, ap, sym, subst, _∙_}
+use mathlib.Core.Path.{_≡_, refl, sym, subst, _∙_}
 use mathlib.Core.Bool.{true}
 use mathlib.Core.List.{List, [], _∷_, _++_}
 use lib.ListN.{length, getD, set, take, drop, length-drop}
@@ -19,7 +19,7 @@ use Rattle.resolving.specs.Lawful.{Lawful}
 use Rattle.tree_walk.specs.Walk.{leafKept}
 use Rattle.tree_walk.specs.Course.{nodeCount, Node}
 use Rattle.tree_walk.specs.Course.Turns.{head-is, tail-is}
-use Rattle.set_step.specs.Prepared.{Sound, NodeFilled, Last, TakenOver}
+use Rattle.set_step.specs.Prepared.{Sound, NodeFilled, FilledBefore, TakenOver}
 use Rattle.set_step.specs.Prepared.Below.{getD-below, node-kept}
 use Rattle.set_step.specs.Prepared.Nodes.{node-few}
 
@@ -56,7 +56,7 @@ module _ (old : List ℕ) (p q : ℕ) where
 
 -- ---- the node is filled
 
-module _ (t : Table) (e : ℕ) (old : List ℕ) (k last : ℕ) (f : Last t e old k last) (h : 0 < last) where
+module _ (t : Table) (e : ℕ) (old : List ℕ) (k last : ℕ) (f : FilledBefore t e old k last) (h : 0 < last) where
   pub over-room : getD old (last * 257) 0 ≤ 256
   over-room = omega (arith, f .node h .number, f .few h)
 
@@ -80,26 +80,27 @@ module _ (t : Table) (e : ℕ) (old : List ℕ) (k last : ℕ) (f : Last t e old
 -- ---- the prefix filled last
 
 module _ (t : Table) (e : ℕ) where
-  pub last-none : (store : List ℕ) → Last t e store 1 0
+  pub last-none : (store : List ℕ) → FilledBefore t e store 1 0
   last-none store = record { before = omega arith; few = λ h. absurd (omega arith); node = λ h. absurd (omega arith) }
 
   module _ (old new : List ℕ) (k : ℕ) (same : take (k * 257) new ≡ take (k * 257) old) where
     word : (i : ℕ) → i < k * 257 → getD new i 0 ≡ getD old i 0
     word i h = getD-below (k * 257) new old i same h
 
-    pub last-kept : (j last : ℕ) → k ≤ j → Last t e old k last → Last t e new j last
+    pub last-kept : (j last : ℕ) → k ≤ j → FilledBefore t e old k last → FilledBefore t e new j last
     last-kept j last h f = record {
       before = omega (arith, f .before);
       few = λ z. rw (word last (omega (arith, f .before))) (f .few z);
       node = λ z.
           rw (word last (omega (arith, f .before)))
-          (node-kept t e (k * 257) old new last (getD old last 0) same (f .few z) (omega (arith, f .before)) (f .node z));
+          (node-kept t e (k * 257) old new last (getD old last 0) same (f .few z) (omega (arith, f .before))
+          (f .node z));
     }
 
 module _ (t : Table) (bound e : ℕ) (store : List ℕ) (s : Sound t bound e store) (k : ℕ) (a : 1 ≤ k)
     (b : k ≤ nodeCount store) where
   pub last-filled : Lawful t → kindAt t (getD store k 0) ≡ 2 → holdsAt t e (getD store k 0) ≡ true → (new : List ℕ)
-      → NodeFilled t e store new k → Last t e new (k + 1) k
+      → NodeFilled t e store new k → FilledBefore t e new (k + 1) k
   last-filled law q h new f =
       let same = getD-below (k * 257) new store k (f .before) (omega arith) in
       record {

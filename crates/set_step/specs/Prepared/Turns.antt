@@ -14,12 +14,12 @@ use lib.Seq.{getD-set-same, take-set-le}
 use lib.Dec.{ltb}
 use borrow.Author.Tests.{ltb-true}
 use Rattle.table.specs.Table.{Table}
-use Rattle.residuals.specs.Slots.{nodes}
+use Rattle.residuals.specs.Slots.{nodes, nodesAll}
 use Rattle.residuals.specs.Residual.{Residual, leaf, pair, after}
 use Rattle.resolving.specs.Words.{kindAt}
 use Rattle.resolving.specs.Lawful.{Lawful}
 use Rattle.tree_walk.specs.Walk.{leafKept}
-use Rattle.tree_walk.specs.Forest.{Valid, AllValid, nodesAll}
+use Rattle.tree_walk.specs.Forest.{Valid, AllValid}
 use Rattle.tree_walk.specs.Forest.Words.{nodes-positive}
 use Rattle.tree_walk.specs.Course.{nodeCount, nodesFrom, Prepared}
 use Rattle.tree_walk.specs.Course.Nodes.{nodes-none, nodes-cons, nodes-skip}

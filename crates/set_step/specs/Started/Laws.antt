@@ -24,10 +24,10 @@ use Rattle.slots.specs.declared.slots.Held.the-variants.{Count, Exceeded}
 use Rattle.slots.specs.Holding.{heldAs, putOne, putAll, Gave}
 use Rattle.slots.specs.Holding.Laws.{put-none, put-single, put-then, put-stop}
 use Rattle.resolving.specs.Lawful.{Lawful}
-use Rattle.resolving.specs.Residual.{nth, definitionInto}
-use Rattle.resolving.specs.Residual.Resolved.{length-resolved, resolved-definition}
+use Rattle.resolving.specs.ResidualWords.{nth, definitionInto}
+use Rattle.resolving.specs.ResidualWords.Resolved.{length-resolved, resolved-definition}
 use Rattle.resolving.specs.Distinct.{empty}
-use Rattle.tree_moves.specs.Kept.{slot-form}
+use Rattle.tree_moves.specs.Covering.{slot-form}
 use Rattle.set_step.specs.Started.{ResolvesAll, initial}
 
 -- ---- the number of residuals

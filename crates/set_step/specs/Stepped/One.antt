@@ -15,7 +15,7 @@ use lib.Seq.{getD-take}
 use lib.Pow.{pow-mono}
 use Rattle.table.specs.Table.{Table}
 use Rattle.residuals.specs.Residual.{after}
-use Rattle.residuals.specs.Slots.{nodes}
+use Rattle.residuals.specs.Slots.{nodes, nodesAll}
 use Rattle.slots.specs.declared.slots.Held.{Held}
 use Rattle.slots.specs.declared.slots.Held.the-variants.{Count}
 use Rattle.slots.specs.Holding.{putOne, putAll, Gave}
@@ -24,9 +24,9 @@ use Rattle.slots.specs.Canon.{SameMembers}
 use Rattle.slots.specs.Canon.Members.{same-refl, same-sym, same-map}
 use Rattle.resolving.specs.Distinct.{window, empty}
 use Rattle.resolving.specs.Distinct.Laws.{at-window, length-window}
-use Rattle.resolving.specs.Residual.{pushAll}
+use Rattle.resolving.specs.ResidualWords.{pushAll}
 use Rattle.tree_walk.specs.Walk.{room, results, onto}
-use Rattle.tree_walk.specs.Forest.{afterKept, nodesAll}
+use Rattle.tree_walk.specs.Forest.{afterKept}
 use Rattle.tree_walk.specs.Course.{nodeCount, nodesFrom, Trees, Place, walked}
 use Rattle.tree_moves.specs.declared.only.Moves.{Moves}
 use Rattle.tree_moves.specs.declared.only.Way.{Way}

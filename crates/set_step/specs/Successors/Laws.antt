@@ -19,7 +19,7 @@ use Rattle.slots.specs.Canon.Areas.{fill-none}
 use Rattle.slots.specs.Canon.Laws.{put-canon, put-exceeded-canon}
 use Rattle.slots.specs.Canon.Canonical.{canon-members}
 use Rattle.slots.specs.Canon.Members.{sub-map, slots-in}
-use Rattle.resolving.specs.Residual.{pushAll}
+use Rattle.resolving.specs.ResidualWords.{pushAll}
 use Rattle.resolving.specs.Distinct.{empty}
 use Rattle.tree_walk.specs.Walk.{results, room, joins, onto}
 use Rattle.tree_walk.specs.Walk.Results.{onto-append}

@@ -17,12 +17,12 @@ use Rattle.table.specs.Node.{termOf, refOf}
 use Rattle.residuals.specs.Residual.{Residual, leaf, pair, pairs, after}
 use Rattle.residuals.specs.Slots.{nodes, slotOf}
 use Rattle.slots.specs.Canon.{AllSixteen}
-use Rattle.resolving.specs.Residual.After.{after-both, after-either}
-use Rattle.resolving.specs.Residual.Pushed.{length-pushAll}
+use Rattle.resolving.specs.ResidualWords.After.{after-both, after-either}
+use Rattle.resolving.specs.ResidualWords.Pushed.{length-pushAll}
 use Rattle.resolving.specs.Distinct.{empty}
 use Rattle.tree_walk.specs.Walk.{longest, room, onto}
 use Rattle.tree_walk.specs.Forest.{Valid}
-use Rattle.tree_moves.specs.Kept.{slot-form}
+use Rattle.tree_moves.specs.Covering.{slot-form}
 use Rattle.tree_moves.specs.Members.{room-append, nodes-room, node-results}
 
 -- ---- at most so many node words

@@ -1,6 +1,6 @@
 -- A walk over node words keeps the number of the trees that they spell and the sum of their reach, and is lost where
 -- they spell none or a memory does not fit.
---     kept, planted-forest    what is kept of trees; the walk is what is kept of `forest`
+--     kept, plantedAll-forest    what is kept of trees; the walk is what is kept of `forest`
 -- Assumes nothing.
 use Prim.Native.Nat.{ℕ, suc, _+_, _-_, _≤_, _<_}
 use native.Mathlib.Omega.{arith}
@@ -178,10 +178,10 @@ module _ (t : Table) where
       by false e = sym (planted-unfit t w Broken e)
 
   -- The walk is what is kept of the trees that the words spell.
-  pub planted-forest : (ws : List ℕ) → plantedAll t ws ≡ kept (forest t ws)
+  pub plantedAll-forest : (ws : List ℕ) → plantedAll t ws ≡ kept (forest t ws)
   unfolding plantedAll
-  planted-forest [] = unfold forest kept countedIf every reachAll in refl
-  planted-forest (w ∷ ws) = by (forest t ws) refl (planted-forest ws)
+  plantedAll-forest [] = unfold forest kept countedIf every reachAll in refl
+  plantedAll-forest (w ∷ ws) = by (forest t ws) refl (plantedAll-forest ws)
     where
       by : (o : Option (List Residual)) → forest t ws ≡ o → plantedAll t ws ≡ kept (forest t ws)
           → planted t w (plantedAll t ws) ≡ kept (forest t (w ∷ ws))

@@ -26,7 +26,7 @@ use Rattle.monitor_spec.specs.Consistent.{every, allZero}
 use Rattle.monitor_spec.specs.Consistent.Reading.{zero-split}
 use Rattle.state.specs.Walk.{plantedAll, isWhole}
 use Rattle.state.specs.Walk.Words.{one-words}
-use Rattle.state.specs.Walk.Spelling.{reachAll, countedIf, kept, planted-forest}
+use Rattle.state.specs.Walk.Spelling.{reachAll, countedIf, kept, plantedAll-forest}
 
 not-same : (a b : List ℕ) → (a ≡ b → ⊥) → isSame (compareWords a b) ≡ false
 not-same a b h = by (compareWords a b) refl
@@ -138,7 +138,7 @@ module _ (t : Table) where
     valid-walk : c ≤ 15 → validSlot t (c ∷ ws) ≡ (allZero (drop c ws) && isWhole (plantedAll t (take c ws)))
     valid-walk h =
         by (forest t (take c ws)) refl
-        ∙ ap (λ (f : Forest). allZero (drop c ws) && isWhole f) (sym (planted-forest t (take c ws)))
+        ∙ ap (λ (f : Forest). allZero (drop c ws) && isWhole f) (sym (plantedAll-forest t (take c ws)))
       where
         false-and : (x : Bool) → x ≡ false → validSlot t (c ∷ ws) ≡ false
             → validSlot t (c ∷ ws) ≡ (allZero (drop c ws) && x)

@@ -10,13 +10,9 @@ use Rattle.table.specs.Memory.{Memory}
 use Rattle.residuals.specs.Residual.{Residual, leaf, pair}
 use Rattle.node_word.specs.Word.{pack, termOfWord, memoryOf}
 use Rattle.node_word.specs.Word.Laws.{word-pack}
-use Rattle.residuals.specs.Slots.{nodes}
+use Rattle.residuals.specs.Slots.{nodes, nodesAll}
 use Rattle.monitor_spec.specs.Valid.{joinTrees, plant, plantWord, forest}
 use Rattle.monitor_spec.specs.Valid.Laws.{some-same, none-some, plant-none, plant-some, forest-none, forest-some}
-
-unfoldable pub nodesAll : List Residual → List ℕ
-nodesAll [] = []
-nodesAll (r ∷ rs) = nodes r ++ nodesAll rs
 
 join-words : (n : ℕ) (m : Memory) (qs rs : List Residual) → joinTrees n m qs ≡ some rs
     → nodesAll rs ≡ pack n m ∷ nodesAll qs

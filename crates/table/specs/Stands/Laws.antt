@@ -19,7 +19,7 @@ use Rattle.table.specs.Node.{node, bodySpot}
 use Rattle.table.specs.Node.Parts.{Part, here, follower, choice-left, choice-right, par-left, par-right}
 use Rattle.table.specs.Node.Homes.{NodeStands, stands-at, stands-part, stands-fits, stands-out, stands-term}
 use Rattle.table.specs.Node.Homes.{stands-around, stands-body, InBody, stands-in-body}
-use Rattle.table.specs.Stands.{Stands, Place}
+use Rattle.table.specs.Stands.{Stands, SomewhereStands}
 
 -- ---- the terms in a term
 
@@ -56,11 +56,11 @@ at-number t s = stands-term (s .is)
 some-same : {x y : Term} → some x ≡ some y → x ≡ y
 some-same e = cc
 
-pub number-at : (t : Table) (n : ℕ) (x : Term) → termAt t n ≡ some x → Place (t .definitions) n x
+pub number-at : (t : Table) (n : ℕ) (x : Term) → termAt t n ≡ some x → SomewhereStands (t .definitions) n x
 unfolding termAt termCount
 number-at t n x e = by (decLt n (termCount t))
   where
-    by : Dec (n < termCount t) → Place (t .definitions) n x
+    by : Dec (n < termCount t) → SomewhereStands (t .definitions) n x
     by (yes l) =
         let (h, y, z) = stands-out 0 0 (t .definitions) n l in
         let same : y .term ≡ x = some-same (sym (stands-term z) ∙ e) in

@@ -22,9 +22,9 @@ use Rattle.residuals.specs.Residual.{resolve}
 use Rattle.residuals.specs.Slots.{nodes}
 use Rattle.resolving.specs.Words.{kindAt}
 use Rattle.resolving.specs.Lawful.{follower-in}
-use Rattle.resolving.specs.Residual.{nth, pushAll, Resolves, resolvedInto}
-use Rattle.resolving.specs.Residual.Resolved.{length-resolved}
-use Rattle.resolving.specs.Residual.Pushed.{length-pushAll, head-pushAll, pushAll-append}
+use Rattle.resolving.specs.ResidualWords.{nth, pushAll, Resolves, resolvedInto}
+use Rattle.resolving.specs.ResidualWords.Resolved.{length-resolved}
+use Rattle.resolving.specs.ResidualWords.Pushed.{length-pushAll, head-pushAll, pushAll-append}
 use Rattle.resolving.specs.Distinct.{window}
 use Rattle.resolving.specs.Distinct.Laws.{window-cons}
 use Rattle.tree_walk.specs.Walk.{room, leafResults, longest, onto}

@@ -14,7 +14,7 @@ use Rattle.table.specs.Table.{Table}
 use Rattle.slots.specs.declared.slots.Held.{Held}
 use Rattle.slots.specs.declared.slots.Held.the-variants.{Count, Exceeded}
 use Rattle.resolving.specs.Lawful.{Lawful}
-use Rattle.resolving.specs.Residual.{pushed, pushAll}
+use Rattle.resolving.specs.ResidualWords.{pushed, pushAll}
 use Rattle.resolving.specs.Distinct.{window}
 use Rattle.resolving.specs.Distinct.Laws.{window-cons, window-none}
 use Rattle.tree_walk.specs.Walk.{onto}

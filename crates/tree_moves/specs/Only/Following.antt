@@ -12,8 +12,8 @@ use Rattle.table.specs.Memory.{remember}
 use Rattle.node_word.specs.Word.{termOfWord, memoryOf}
 use Rattle.resolving.specs.Words.{kindAt}
 use Rattle.resolving.specs.Lawful.{follower-in}
-use Rattle.resolving.specs.Residual.{pushed, pushAll, Resolves, resolvedInto}
-use Rattle.resolving.specs.Residual.Resolved.{length-resolved}
+use Rattle.resolving.specs.ResidualWords.{pushed, pushAll, Resolves, resolvedInto}
+use Rattle.resolving.specs.ResidualWords.Resolved.{length-resolved}
 use Rattle.tree_walk.specs.Walk.{option}
 use Rattle.tree_moves.specs.Only.{grown, Carries}
 use Rattle.tree_moves.specs.Only.Marks.{grown-kept, grown-moved}

@@ -24,12 +24,12 @@ use Rattle.residuals.specs.Residual.{Residual, leaf, after}
 use Rattle.residuals.specs.Slots.{nodes}
 use Rattle.resolving.specs.Words.{kindAt, holdsAt}
 use Rattle.resolving.specs.Lawful.{Lawful}
-use Rattle.resolving.specs.Residual.{nth}
-use Rattle.resolving.specs.Residual.Resolved.{length-resolved}
+use Rattle.resolving.specs.ResidualWords.{nth}
+use Rattle.resolving.specs.ResidualWords.Resolved.{length-resolved}
 use Rattle.tree_walk.specs.Walk.{option, leafResults}
 use Rattle.tree_walk.specs.Forest.{Valid}
 use Rattle.tree_walk.specs.Walk.Leaves.{results-yes}
-use Rattle.tree_moves.specs.Kept.{results-not-kind, results-not-held}
+use Rattle.tree_moves.specs.Covering.{results-not-kind, results-not-held}
 use Rattle.tree_moves.specs.Members.{node-results}
 use Rattle.tree_moves.specs.Only.{leafMoves, countWay, leafWay}
 use Rattle.tree_moves.specs.Only.{rebuilt, ending, tried, moved, Active, Movable, Marked}

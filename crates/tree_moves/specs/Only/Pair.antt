@@ -25,7 +25,7 @@ use Rattle.residuals.specs.Residual.{Residual, leaf, pair, pairs, after}
 use Rattle.residuals.specs.Slots.{nodes}
 use Rattle.resolving.specs.Words.{holdsAt}
 use Rattle.resolving.specs.Lawful.{Lawful}
-use Rattle.resolving.specs.Residual.After.{after-both, after-either}
+use Rattle.resolving.specs.ResidualWords.After.{after-both, after-either}
 use Rattle.tree_walk.specs.Walk.{joins, before}
 use Rattle.tree_walk.specs.Forest.{Valid}
 use Rattle.tree_walk.specs.Forest.Words.{holds-of-node, nodes-pairs}

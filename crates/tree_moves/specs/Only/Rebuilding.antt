@@ -14,9 +14,9 @@ use Rattle.table.specs.Memory.{remember}
 use Rattle.node_word.specs.Word.{termOfWord, memoryOf}
 use Rattle.residuals.specs.Slots.{nodes}
 use Rattle.resolving.specs.Lawful.{Lawful}
-use Rattle.resolving.specs.Residual.{pushed, pushAll}
-use Rattle.resolving.specs.Residual.Resolved.{length-resolved}
-use Rattle.resolving.specs.Residual.Pushed.{length-pushed, head-pushed, length-pushAll, head-pushAll, pushAll-append}
+use Rattle.resolving.specs.ResidualWords.{pushed, pushAll}
+use Rattle.resolving.specs.ResidualWords.Resolved.{length-resolved}
+use Rattle.resolving.specs.ResidualWords.Pushed.{length-pushed, head-pushed, length-pushAll, head-pushAll, pushAll-append}
 use Rattle.resolving.specs.Distinct.{window}
 use Rattle.resolving.specs.Distinct.Laws.{length-window, window-cons, window-none}
 use Rattle.tree_walk.specs.Walk.{option, room, leafResults, longest}

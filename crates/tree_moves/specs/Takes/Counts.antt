@@ -23,8 +23,8 @@ use Rattle.residuals.specs.Residual.{Residual, leaf, pair, pairs, after}
 use Rattle.resolving.specs.Words.{kindAt, holdsAt}
 use Rattle.resolving.specs.Lawful.{Lawful}
 use Rattle.residuals.specs.Residual.Counts.{length-pairs}
-use Rattle.resolving.specs.Residual.Resolved.{length-resolved}
-use Rattle.resolving.specs.Residual.After.{after-held, after-not-held, after-not-kind, after-both, after-either}
+use Rattle.resolving.specs.ResidualWords.Resolved.{length-resolved}
+use Rattle.resolving.specs.ResidualWords.After.{after-held, after-not-held, after-not-kind, after-both, after-either}
 use Rattle.tree_walk.specs.Walk.{leafKept, leafResults}
 use Rattle.tree_walk.specs.Walk.Leaves.{results-yes, kept-not-kind, kept-not-held, leaf-length}
 use Rattle.tree_walk.specs.Forest.{Valid, afterKept}

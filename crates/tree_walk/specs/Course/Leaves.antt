@@ -20,11 +20,11 @@ use Rattle.slots.specs.declared.slots.Held.{Held}
 use Rattle.slots.specs.declared.slots.Held.the-variants.{Count, Exceeded}
 use Rattle.slots.specs.Holding.{heldAs, putAll, Gave}
 use Rattle.slots.specs.Holding.Laws.{put-none, put-then, put-stop}
-use Rattle.resolving.specs.Residual.Pushed.{length-pushAll, head-pushAll}
-use Rattle.resolving.specs.Residual.Resolved.{length-resolved}
+use Rattle.resolving.specs.ResidualWords.Pushed.{length-pushAll, head-pushAll}
+use Rattle.resolving.specs.ResidualWords.Resolved.{length-resolved}
 use Rattle.resolving.specs.Distinct.{Resolvable}
 use Rattle.resolving.specs.Distinct.Laws.{at-window}
-use Rattle.resolving.specs.Residual.{pushAll, Resolves, resolvedInto}
+use Rattle.resolving.specs.ResidualWords.{pushAll, Resolves, resolvedInto}
 use Rattle.resolving.specs.Words.{kindAt, holdsAt}
 use Rattle.tree_walk.specs.Walk.{leafKept, option, options, joins, results, room, onto}
 use Rattle.tree_walk.specs.Walk.Leaves.{kept-not-kind, kept-not-held, leaf-length, leaf-below, options-length}

@@ -19,7 +19,7 @@ use Rattle.slots.specs.declared.slots.Held.the-variants.{Count, Exceeded}
 use Rattle.slots.specs.Holding.{putAll, Gave}
 use Rattle.slots.specs.Holding.Laws.{put-none, put-then, put-stop}
 use Rattle.resolving.specs.Words.{kindAt, holdsAt}
-use Rattle.resolving.specs.Residual.{pushed}
+use Rattle.resolving.specs.ResidualWords.{pushed}
 use Rattle.tree_walk.specs.Walk.{joins, before, results, onto}
 use Rattle.tree_walk.specs.Walk.Results.{onto-before, onto-append, both-sides, one-side, odd, half}
 use Rattle.tree_walk.specs.Forest.{afterKept}

@@ -16,9 +16,9 @@ use Rattle.residuals.specs.Slots.{nodes}
 use Rattle.slots.specs.declared.slots.Held.{Held}
 use Rattle.slots.specs.Holding.{putOne, Gave}
 use Rattle.slots.specs.Holding.Laws.{put-single}
-use Rattle.resolving.specs.Residual.Pushed.{length-pushed, head-pushed}
+use Rattle.resolving.specs.ResidualWords.Pushed.{length-pushed, head-pushed}
 use Rattle.resolving.specs.Words.{kindAt, KnownWord}
-use Rattle.resolving.specs.Residual.{pushed, pushAll}
+use Rattle.resolving.specs.ResidualWords.{pushed, pushAll}
 use Rattle.tree_walk.specs.Walk.{before, results, leafResults, longest, room, onto}
 use Rattle.tree_walk.specs.Walk.Results.{onto-before, kept-pair, kept-leaf}
 use Rattle.tree_walk.specs.Course.{nodeCount, nodesFrom, Ready, Trees, Place, walked}

@@ -12,9 +12,9 @@ use Rattle.table.specs.Table.{Table}
 use Rattle.table.specs.Memory.{Memory}
 use Rattle.node_word.specs.Word.{pack}
 use Rattle.residuals.specs.Residual.{Residual, leaf, pair}
-use Rattle.residuals.specs.Slots.{nodes}
+use Rattle.residuals.specs.Slots.{nodes, nodesAll}
 use Rattle.resolving.specs.Words.{kindAt, KnownWord}
-use Rattle.tree_walk.specs.Forest.{Valid, AllValid, Forest, nodesAll}
+use Rattle.tree_walk.specs.Forest.{Valid, AllValid, Forest}
 use Rattle.tree_walk.specs.Forest.Words.{kind-of-node, known-node}
 use Rattle.tree_walk.specs.Course.{nodesFrom, Node, Prepared, Served, Trees}
 

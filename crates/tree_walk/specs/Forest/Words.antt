@@ -17,7 +17,7 @@ use Rattle.node_word.specs.Word.Laws.{term-pack, memory-pack}
 use Rattle.residuals.specs.Residual.{Residual, leaf, pair, pairs, resolve}
 use Rattle.residuals.specs.Slots.{nodes}
 use Rattle.resolving.specs.Words.{kindAt, holdsAt, KnownWord}
-use Rattle.resolving.specs.Residual.{nth}
+use Rattle.resolving.specs.ResidualWords.{nth}
 use Rattle.tree_walk.specs.Walk.{leafKept, option, options, joins, before}
 use Rattle.tree_walk.specs.Forest.{ValidNode}
 

@@ -19,8 +19,8 @@ use Rattle.residuals.specs.Slots.{nodes}
 use Rattle.resolving.specs.Distinct.{kept, slotAt, Indices}
 use Rattle.resolving.specs.Distinct.Laws.{kept-below, kept-few}
 use Rattle.resolving.specs.Words.{kindAt, holdsAt}
-use Rattle.resolving.specs.Residual.{nth}
-use Rattle.resolving.specs.Residual.After.{after-held}
+use Rattle.resolving.specs.ResidualWords.{nth}
+use Rattle.resolving.specs.ResidualWords.After.{after-held}
 use Rattle.tree_walk.specs.Walk.{leafKept, option, options, leafResults, longest}
 
 pub longest-at : (os : List (List ℕ)) (j : ℕ) → length (getD os j []) ≤ longest os

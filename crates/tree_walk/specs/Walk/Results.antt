@@ -9,9 +9,9 @@ use mathlib.Core.Bool.{true, false}
 use mathlib.Core.List.{List, [], _∷_, _++_, map}
 use borrow.Author.Tests.{eq-eqb, ne-eqb}
 use Rattle.table.specs.Table.{Table}
-use Rattle.resolving.specs.Residual.Pushed.{pushAll-append}
+use Rattle.resolving.specs.ResidualWords.Pushed.{pushAll-append}
 use Rattle.resolving.specs.Words.{kindAt, holdsAt}
-use Rattle.resolving.specs.Residual.{pushed, pushAll}
+use Rattle.resolving.specs.ResidualWords.{pushed, pushAll}
 use Rattle.tree_walk.specs.Walk.{options, joins, before, results, onto}
 
 -- ---- onto

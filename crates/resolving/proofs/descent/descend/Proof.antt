@@ -6,11 +6,11 @@ use Rattle.table_index.specs.Index.{tableIn}
 use Rattle.index.specs.Facts.{terms-few}
 use Rattle.node_word.specs.Word.{memoryOf}
 use Rattle.resolving.specs.Lawful.{lawful}
-use Rattle.resolving.specs.Residual.Ways.{beyond}
-use Rattle.resolving.specs.Residual.Descent.{Descent, height, descent-first, descent-called}
-use Rattle.resolving.specs.Residual.Descent.{call-known, call-less, call-next}
-use Rattle.resolving.specs.Residual.Descent.{choice-known, left-less, left-next, right-less, right-next}
-use Rattle.resolving.specs.Residual.Descent.{descent-node, descent-leaf, descent-pair, descent-none}
+use Rattle.resolving.specs.ResidualWords.Ways.{beyond}
+use Rattle.resolving.specs.ResidualWords.Descent.{Descent, height, descent-first, descent-called}
+use Rattle.resolving.specs.ResidualWords.Descent.{call-known, call-less, call-next}
+use Rattle.resolving.specs.ResidualWords.Descent.{choice-known, left-less, left-next, right-less, right-next}
+use Rattle.resolving.specs.ResidualWords.Descent.{descent-node, descent-leaf, descent-pair, descent-none}
 use Rattle.resolving.proofs.descent.descend.Statement.{statement}
 use Rattle.resolving.proofs.descent.descend.Tie as tie
 

@@ -1,7 +1,7 @@
 -- `resolving::descent::resolve_at` meets its contract: what the way came to is pushed or resolved. Assumes nothing.
 use mathlib.Core.Path.{_∙_}
 use borrow.Author.Needs.{needs}
-use Rattle.resolving.specs.Residual.Descent.{landed-nowhere, landed-leaf, landed-pair}
+use Rattle.resolving.specs.ResidualWords.Descent.{landed-nowhere, landed-leaf, landed-pair}
 use Rattle.resolving.proofs.descent.resolve_at.Statement.{statement}
 use Rattle.resolving.proofs.descent.resolve_at.Tie as tie
 

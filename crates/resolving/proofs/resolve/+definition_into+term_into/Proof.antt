@@ -21,9 +21,9 @@ use Rattle.index.proofs.body.Reads as body-reads
 use Rattle.node_word.specs.Word.{memoryOf}
 use Rattle.node_word.specs.Word.Laws.{memory-zero, zero-below}
 use Rattle.resolving.specs.Lawful.{lawful}
-use Rattle.resolving.specs.Residual.Into.{into-definition}
-use Rattle.resolving.specs.Residual.Ways.{beyond, Way, way-first, way-leaf, way-none, way-call, way-choice}
-use Rattle.resolving.specs.Residual.Ways.{way-left, way-right, way-par, way-room, way-side, way-other}
+use Rattle.resolving.specs.ResidualWords.Into.{into-definition}
+use Rattle.resolving.specs.ResidualWords.Ways.{beyond, Way, way-first, way-leaf, way-none, way-call, way-choice}
+use Rattle.resolving.specs.ResidualWords.Ways.{way-left, way-right, way-par, way-room, way-side, way-other}
 use Rattle.resolving.proofs.resolve.definition_into.Reads as definition
 use Rattle.resolving.proofs.resolve.definition_into.Kinds as definition-kinds
 use Rattle.resolving.proofs.resolve.+definition_into+term_into.Lts-definition_into as definition-lts

@@ -1,7 +1,7 @@
 -- `resolving::resolve::push_into` meets its contract: two stores, as in the definition. Assumes nothing.
 use mathlib.Core.Path.{refl}
 use borrow.Author.Needs.{needs}
-use Rattle.resolving.specs.Residual.{pushed}
+use Rattle.resolving.specs.ResidualWords.{pushed}
 use Rattle.resolving.proofs.resolve.push_into.Statement.{statement}
 use Rattle.resolving.proofs.resolve.push_into.Tie as tie
 use Rattle.resolving.proofs.resolve.push_into.Reads as reads

@@ -7,7 +7,7 @@ use lib.ListN.{length, getD, length-set}
 use lib.Seq.{take-set-le}
 use Rattle.table_index.specs.Index.{tableIn}
 use Rattle.resolving.specs.Lawful.{lawful}
-use Rattle.set_step.specs.Prepared.{UpTo, Last}
+use Rattle.set_step.specs.Prepared.{UpTo, FilledBefore}
 use Rattle.set_step.specs.Prepared.Repeats.{last-none, last-kept}
 use Rattle.set_step.specs.Prepared.Turns.{up-first, up-count, up-sound, up-tree, up-held, up-bounds, up-passes}
 use Rattle.set_step.specs.Prepared.Turns.{up-moves, up-fills}
@@ -17,7 +17,7 @@ use Rattle.set_step.proofs.preparing.prepare.Tie as tie
 abbrev Inv-loop : tie.InvT-loop
 Inv-loop list work bound e store₀ n last₀ k₀ store last k =
     (1 ≤ k) × (k ≤ n + 1) × (length store ≡ 4112) × (n ≡ getD store₀ 0 0) × UpTo (tableIn list) e store₀ store k
-    × Last (tableIn list) e store k last
+    × FilledBefore (tableIn list) e store k last
 
 abbrev μ-loop : tie.MeasureT-loop
 μ-loop list work bound e store₀ n last₀ k₀ store last k = n + 1 - k

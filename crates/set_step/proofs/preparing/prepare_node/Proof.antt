@@ -87,7 +87,8 @@ distinct-requires : tie.Need-distinct-requires
 distinct-requires c κs =
     let at-is-prefix = c .before .before .before .before .before .before .before .before in
     let at-start = at-is-prefix .before .before .before .before .before in
-    let q = kind-yes _ _ 2 (at-is-prefix .is-prefix .ensures) (c .before .before .before .before .before .before .before .if1 .taken) in (
+    let test = c .before .before .before .before .before .before .before .if1 in
+    let q = kind-yes _ _ 2 (at-is-prefix .is-prefix .ensures) (test .taken) in (
       at-start .pre .0,
       (
         (
@@ -116,7 +117,8 @@ returns-2 c =
     let at-term-of = c .before .before .before .before .before .before in
     let at-is-prefix = at-term-of .before .before .before .before .before in
     let at-start = at-is-prefix .before .before .before .before .before in
-    let q = kind-yes _ _ 2 (at-is-prefix .is-prefix .ensures) (at-term-of .before .before .before .before .if1 .taken) in
+    let test = at-term-of .before .before .before .before .if1 in
+    let q = kind-yes _ _ 2 (at-is-prefix .is-prefix .ensures) (test .taken) in
     let f = fill-yes _ _ _ _ (at-start .pre .1 .0) _ (at-start .pre .1 .1 .0 .0) (at-start .pre .1 .1 .0 .1)
     (lawful (at-start .pre .0)) q (at-start .pre .1 .1 .0 .2 q) _ _ _ (at-term-of .term-of .ensures)
     (c .before .before .before .before .before .memory-of .ensures .0)

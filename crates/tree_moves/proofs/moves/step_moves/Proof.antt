@@ -4,7 +4,7 @@ use native.Mathlib.Omega.{arith}
 use mathlib.Core.Path.{_≡_, refl, _∙_}
 use lib.ListN.{length}
 use Rattle.table_index.specs.Index.{tableIn}
-use Rattle.resolving.specs.Residual.{pushed}
+use Rattle.resolving.specs.ResidualWords.{pushed}
 use Rattle.tree_moves.specs.Moving.{steppedMoves}
 use Rattle.tree_moves.specs.Moving.Moves.{MovesLeft, moves-first, left-end, left-head, left-leaf, left-cleared}
 use Rattle.tree_moves.specs.Moving.Moves.{left-exceeded, left-room, left-carries, left-carried, left-pushed}

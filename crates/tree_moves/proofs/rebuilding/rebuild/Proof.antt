@@ -6,8 +6,8 @@ use Prim.Native.Nat.{_+_, _-_, _≤_}
 use lib.ListN.{length, getD}
 use Rattle.table_index.specs.Index.{tableIn}
 use Rattle.index.specs.Facts.{terms-few}
-use Rattle.resolving.specs.Residual.{pushed}
-use Rattle.resolving.specs.Residual.Descent.{landed-nowhere, landed-leaf, landed-pair}
+use Rattle.resolving.specs.ResidualWords.{pushed}
+use Rattle.resolving.specs.ResidualWords.Descent.{landed-nowhere, landed-leaf, landed-pair}
 use Rattle.resolving.specs.Lawful.{event-small}
 use Rattle.tree_moves.specs.Only.Following.{carry-resolves, carry-moved}
 use Rattle.tree_moves.specs.Only.Rebuilding.{Rebuilding, rebuild-first, rebuild-room, rebuild-keep, rebuild-carries}

@@ -15,7 +15,7 @@ use Rattle.table.specs.Member.{member}
 use Rattle.table.specs.Node.{termOf, kindOf, refOf}
 use Rattle.table.specs.Node.Numbers.{term-at}
 use Rattle.residuals.specs.Residual.{Residual, leaf, pair, pairs, resolve, afterLeaf, afterPair, after}
-use Rattle.resolving.specs.Residual.Resolved.{term-beyond, term-none}
+use Rattle.resolving.specs.ResidualWords.Resolved.{term-beyond, term-none}
 
 module _ (t : Table) (e n : ℕ) (m : Memory) where
   -- by the term of the number

@@ -22,10 +22,10 @@ use Rattle.table.specs.Node.{termOf, kindOf, leftSize, calledOf}
 use Rattle.node_word.specs.Word.{pack}
 use Rattle.residuals.specs.Keep.{keep}
 use Rattle.resolving.specs.Lawful.{Lawful}
-use Rattle.resolving.specs.Residual.{pushed, Resolves, resolvedInto, ResolvesDefinition, definitionInto}
-use Rattle.resolving.specs.Residual.Kinds.{resolved-choice, resolved-par, resolved-call}
-use Rattle.resolving.specs.Residual.Into.{into-leaf, into-none, into-call, choice-left, choice-right}
-use Rattle.resolving.specs.Residual.Into.{par-divides, par-left, par-right}
+use Rattle.resolving.specs.ResidualWords.{pushed, Resolves, resolvedInto, ResolvesDefinition, definitionInto}
+use Rattle.resolving.specs.ResidualWords.Kinds.{resolved-choice, resolved-par, resolved-call}
+use Rattle.resolving.specs.ResidualWords.Into.{into-leaf, into-none, into-call, choice-left, choice-right}
+use Rattle.resolving.specs.ResidualWords.Into.{par-divides, par-left, par-right}
 
 pub record Next (t : Table) (b n n' : ℕ) (m : Memory) (i i' : ℕ) (slot slot' : List ℕ) : Type 0 where
   pub lower : depthOf (termOf t n') < depthOf (termOf t n)

@@ -14,7 +14,7 @@ use lib.ListN.{length, getD, length-map, List·getD-append}
 use lib.Seq.{getD-append-add}
 use Rattle.table.specs.Memory.{Memory, noMemory}
 use Rattle.residuals.specs.Residual.{Residual, leaf, pair, pairs}
-use Rattle.resolving.specs.Residual.{nth}
+use Rattle.resolving.specs.ResidualWords.{nth}
 
 pub nth-left : (l r : List Residual) (i : ℕ) → i < length l → nth (l ++ r) i ≡ nth l i
 unfolding nth

@@ -23,14 +23,14 @@ use Rattle.residuals.specs.Keep.{keep}
 use Rattle.residuals.specs.Residual.{pair, pairs, resolve}
 use Rattle.residuals.specs.Slots.{nodes}
 use Rattle.resolving.specs.Lawful.{Lawful}
-use Rattle.resolving.specs.Residual.{nth, pushed, pushAll, Resolves, resolvedInto}
-use Rattle.resolving.specs.Residual.{ResolvesDefinition, definitionInto}
+use Rattle.resolving.specs.ResidualWords.{nth, pushed, pushAll, Resolves, resolvedInto}
+use Rattle.resolving.specs.ResidualWords.{ResolvesDefinition, definitionInto}
 use Rattle.residuals.specs.Residual.Counts.{length-pairs}
-use Rattle.resolving.specs.Residual.Resolved.{length-resolved, resolved-definition}
-use Rattle.resolving.specs.Residual.Kinds.{resolved-leaf, resolved-none, TwoSides, Calls}
-use Rattle.resolving.specs.Residual.Nth.{nth-left, nth-right, nth-pairs, factor-positive}
-use Rattle.resolving.specs.Residual.Pushed.{length-pushed, head-pushed, length-pushAll, head-pushAll}
-use Rattle.resolving.specs.Residual.Pushed.{pushAll-append}
+use Rattle.resolving.specs.ResidualWords.Resolved.{length-resolved, resolved-definition}
+use Rattle.resolving.specs.ResidualWords.Kinds.{resolved-leaf, resolved-none, TwoSides, Calls}
+use Rattle.resolving.specs.ResidualWords.Nth.{nth-left, nth-right, nth-pairs, factor-positive}
+use Rattle.resolving.specs.ResidualWords.Pushed.{length-pushed, head-pushed, length-pushAll, head-pushAll}
+use Rattle.resolving.specs.ResidualWords.Pushed.{pushAll-append}
 
 module _ (t : Table) (law : Lawful t) (b n : ℕ) (m : Memory) (i : ℕ) (slot : List ℕ)
     (s : Resolves t b n m i slot) where

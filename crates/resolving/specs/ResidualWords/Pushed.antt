@@ -8,7 +8,7 @@ use mathlib.Core.Path.{_≡_, refl, _∙_}
 use mathlib.Core.List.{List, [], _∷_, _++_}
 use lib.ListN.{length, getD, set, length-set}
 use lib.Seq.{getD-set-same}
-use Rattle.resolving.specs.Residual.{pushed, pushAll}
+use Rattle.resolving.specs.ResidualWords.{pushed, pushAll}
 
 pub length-pushed : (s : List ℕ) (w : ℕ) → length (pushed s w) ≡ length s
 unfolding pushed

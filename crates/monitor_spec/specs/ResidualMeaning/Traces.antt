@@ -27,9 +27,9 @@ use Rattle.residuals.specs.Residual.{Residual, leaf, pair, resolveDef, resolve,
 use Rattle.residuals.specs.Residual.{residualsOf}
 use Rattle.monitor_spec.specs.Regular.{Regular}
 use Rattle.monitor_spec.specs.Meaning.{joinAt, denote, IsLeaf, IsPar, Sound, Some}
-use Rattle.monitor_spec.specs.Residual.Resolve.{some-map, denote-leaf, denote-join}
-use Rattle.monitor_spec.specs.Residual.Resolve.{resolveDef-denote, resolveDef-sound}
-use Rattle.monitor_spec.specs.Residual.After.{run-denote}
+use Rattle.monitor_spec.specs.ResidualMeaning.Resolve.{some-map, denote-leaf, denote-join}
+use Rattle.monitor_spec.specs.ResidualMeaning.Resolve.{resolveDef-denote, resolveDef-sound}
+use Rattle.monitor_spec.specs.ResidualMeaning.After.{run-denote}
 
 module _ (t : Table) where
   module _ (regular : Regular t) where

@@ -22,9 +22,9 @@ use Rattle.residuals.specs.Keep.{keep}
 use Rattle.resolving.specs.declared.descent.Landed.{Landed}
 use Rattle.resolving.specs.declared.descent.Landed.the-variants.{Nothing, Leaf, Pair}
 use Rattle.resolving.specs.Lawful.{Lawful}
-use Rattle.resolving.specs.Residual.{pushed, Resolves, resolvedInto, Lands, ResolvesDefinition, definitionInto}
-use Rattle.resolving.specs.Residual.Into.{into-definition}
-use Rattle.resolving.specs.Residual.Ways.{Next, choice-next-in, go-left, go-right, go-call, go-leaf, go-none}
+use Rattle.resolving.specs.ResidualWords.{pushed, Resolves, resolvedInto, Lands, ResolvesDefinition, definitionInto}
+use Rattle.resolving.specs.ResidualWords.Into.{into-definition}
+use Rattle.resolving.specs.ResidualWords.Ways.{Next, choice-next-in, go-left, go-right, go-call, go-leaf, go-none}
 
 pub record Descent (t : Table) (n₀ : ℕ) (m₀ : Memory) (i₀ : ℕ) (slot : List ℕ) (b n m j : ℕ) : Type 0 where
   pub law : Lawful t

@@ -22,8 +22,8 @@ use Rattle.node_word.specs.Word.{termOfWord, memoryOf}
 use Rattle.residuals.specs.Residual.{Residual, resolve}
 use Rattle.residuals.specs.Slots.{nodes}
 use Rattle.resolving.specs.Words.{kindAt, holdsAt}
-use Rattle.resolving.specs.Residual.{nth, pushed, pushAll, resolvedInto}
-use Rattle.resolving.specs.Residual.After.{after-not-held, after-not-kind}
+use Rattle.resolving.specs.ResidualWords.{nth, pushed, pushAll, resolvedInto}
+use Rattle.resolving.specs.ResidualWords.After.{after-not-held, after-not-kind}
 use Rattle.resolving.specs.Distinct.{sameWords, isKept, kept, empty, slotAt, Indices}
 use Rattle.resolving.specs.Distinct.Laws.{same-true, kept-held, kept-new, kept-below}
 use Rattle.tree_walk.specs.Walk.{leafKept, leafResults, longest}

@@ -19,7 +19,7 @@ use Rattle.meaning.specs.Figure1.{bodyCount}
 use Rattle.residuals.specs.Keep.{keep}
 use Rattle.residuals.specs.Residual.{Residual, leaf, pairs, resolveIn, resolveDef, resolve}
 use Rattle.resolving.specs.Lawful.{Below}
-use Rattle.resolving.specs.Residual.Resolved.{resolve-of}
+use Rattle.resolving.specs.ResidualWords.Resolved.{resolve-of}
 
 resolve-leaf : (f : ℕ → List Residual) (n : ℕ) (m : Memory) (p : Term) → (kindOf p ≡ 0) ⊎ (kindOf p ≡ 2)
     → resolveIn f p n m ≡ leaf n (keep p m) ∷ []

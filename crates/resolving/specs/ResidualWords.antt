@@ -5,7 +5,7 @@
 --     Resolves, resolvedInto                 what resolving the i-th residual of a term asks; the slot it gives
 --     Lands                                  where the way to it comes to
 --     ResolvesDefinition, definitionInto     the same of a definition
--- The laws are in `Residual/Resolved.antt`, `Kinds.antt`, `After.antt` and `Nth.antt` (lists), `Pushed.antt`,
+-- The laws are in `ResidualWords/Resolved.antt`, `Kinds.antt`, `After.antt` and `Nth.antt` (lists), `Pushed.antt`,
 -- `Into.antt` and `Ways.antt` (slots), and `Descent.antt`. Assumes nothing.
 use Prim.Native.Nat.{ℕ, _+_, _<_, _≤_}
 use mathlib.Core.Path.{_≡_}

@@ -22,10 +22,10 @@ use Rattle.residuals.specs.Residual.{after, afterAll, run}
 use Rattle.residuals.specs.Residual.Calls.{resolve-at}
 use Rattle.monitor_spec.specs.Regular.{Regular}
 use Rattle.monitor_spec.specs.Meaning.{joinAt, denote, IsLeaf, IsPar, Sound}
-use Rattle.monitor_spec.specs.Residual.Resolve.{map-flat, denote-leaf, denote-pair, denote-join}
-use Rattle.monitor_spec.specs.Residual.Resolve.{pairs-denote, resolveIn-denote, pairs-sound}
-use Rattle.monitor_spec.specs.Residual.Resolve.{resolveIn-sound, number-scoped, resolveDef-denote}
-use Rattle.monitor_spec.specs.Residual.Resolve.{resolveDef-sound}
+use Rattle.monitor_spec.specs.ResidualMeaning.Resolve.{map-flat, denote-leaf, denote-pair, denote-join}
+use Rattle.monitor_spec.specs.ResidualMeaning.Resolve.{pairs-denote, resolveIn-denote, pairs-sound}
+use Rattle.monitor_spec.specs.ResidualMeaning.Resolve.{resolveIn-sound, number-scoped, resolveDef-denote}
+use Rattle.monitor_spec.specs.ResidualMeaning.Resolve.{resolveDef-sound}
 
 module _ (t : Table) where
   module _ (regular : Regular t) where
