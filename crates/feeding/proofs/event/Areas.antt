@@ -2,12 +2,11 @@
 --     holding-empty                        the other area is zero
 --     advanced-count, advanced-refused     the event is taken; it is refused
 -- Assumes nothing.
-use Prim.Native.Nat.{ℕ, _+_, _-_, _*_, _≤_}
+use Prim.Native.Nat.{ℕ, _*_}
 use native.Mathlib.Omega.{arith}
 use mathlib.Core.Path.{_≡_, refl, ap, ap₂, sym, subst, _∙_}
-use mathlib.Core.List.{List, [], _++_, flatten}
-use lib.ListN.{length, drop, replicate-append-replicate}
-use lib.Seq.{drop-at}
+use mathlib.Core.List.{List, [], _++_}
+use lib.ListN.{drop}
 use Rattle.numbers.specs.Every.{All}
 use Rattle.table.specs.Table.{Table}
 use Rattle.table.specs.Operations.{zeros}
@@ -18,23 +17,11 @@ use Rattle.residuals.specs.Slots.{slotsOf}
 use Rattle.monitor_spec.specs.Valid.Residuals.{slot-sixteen, slots-all}
 use Rattle.monitor_spec.specs.State.{slotCount, fill}
 use Rattle.slots.specs.Canon.{Sixteen}
-use Rattle.slots.specs.Canon.Areas.{length-flatten, fill-none}
-use Rattle.monitor_spec.specs.State.Areas.{slotCount-fill}
+use Rattle.monitor_spec.specs.State.Areas.{slotCount-fill, cleared-fill}
 use Rattle.step_laws.specs.Holds.{heldIn}
 use Rattle.feeding.specs.declared.event.Next.{Next}
 use Rattle.feeding.specs.declared.event.Next.the-variants.{Count, Refused}
 use Rattle.feeding.specs.Feeding.{Empty, NextBy, Holding, Advanced}
-
--- the words in use are zeroed, and the others were zero
-cleared-fill : (n : ℕ) (ss : List (List ℕ)) → All Sixteen ss → length ss ≤ n
-    → zeros (length ss * 16) ++ drop (length ss * 16) (fill n ss) ≡ fill n []
-unfolding fill
-cleared-fill n ss h room =
-    let k : ℕ = length ss in
-    let rest : ℕ = (n - k) * 16 in
-    let i : k * 16 + rest ≡ n * 16 = omega arith in
-    ap (zeros (k * 16) ++_) (drop-at (flatten ss) (zeros rest) (k * 16) (length-flatten ss h))
-    ∙ replicate-append-replicate (k * 16) rest 0 ∙ ap zeros i ∙ sym (fill-none n)
 
 module _ (t : Table) (rules : Rules t) (p o : List ℕ) (c : ℕ) (h : Holding t p o c) where
   abbrev n : ℕ

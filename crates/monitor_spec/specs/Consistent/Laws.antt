@@ -57,7 +57,7 @@ module _ (t : Table) (regular : Regular t) where
         peak-high = max-least (s .peak) (length (slotsOf (afterAll t e rs))) n (ok .peak-high) room;
       }
 
-  sift-out : (a b c : Bool) (x y : Monitor) → sift a b c x ≡ went y → (a ≡ false) × (c ≡ false) × (x ≡ y)
+  pub sift-out : (a b c : Bool) (x y : Monitor) → sift a b c x ≡ went y → (a ≡ false) × (c ≡ false) × (x ≡ y)
   unfolding sift
   sift-out true b c x y e = absurd (let z : _≡_ {A = ℕ} 0 1 = cc in omega arith)
   sift-out false true c x y e = absurd (let z : _≡_ {A = ℕ} 0 1 = cc in omega arith)

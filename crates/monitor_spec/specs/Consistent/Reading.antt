@@ -86,12 +86,12 @@ slots-held t l h a = ap canon (held-words t l h) ∙ canon-same l a
 
 -- ---- an area is its slots and what follows
 
-length-chunks : (n : ℕ) (a : List ℕ) → length (chunks n a) ≡ n
+pub length-chunks : (n : ℕ) (a : List ℕ) → length (chunks n a) ≡ n
 unfolding chunks
 length-chunks zero a = refl
 length-chunks (suc n) a = ap suc (length-chunks n (drop 16 a))
 
-flatten-chunks : (n : ℕ) (a : List ℕ) → flatten (chunks n a) ++ drop (n * 16) a ≡ a
+pub flatten-chunks : (n : ℕ) (a : List ℕ) → flatten (chunks n a) ++ drop (n * 16) a ≡ a
 unfolding chunks flatten
 flatten-chunks zero a = refl
 flatten-chunks (suc n) a =

@@ -1,16 +1,16 @@
 -- Slots laid into an area are the slots read from it, and zeros follow. Assumes nothing.
-use Prim.Native.Nat.{ℕ, zero, suc, _-_, _*_, _%_, _≤_}
+use Prim.Native.Nat.{ℕ, zero, suc, _+_, _-_, _*_, _%_, _≤_}
 use native.Mathlib.Omega.{arith}
-use mathlib.Core.Path.{_≡_, refl, ap, ap₂, _∙_}
+use mathlib.Core.Path.{_≡_, refl, ap, ap₂, sym, _∙_}
 use mathlib.Core.Bool.{Bool, true, false, not, _&&_}
 use mathlib.Core.List.{List, [], _∷_, _++_, append-assoc, flatten}
-use lib.ListN.{length, take, drop}
+use lib.ListN.{length, take, drop, replicate-append-replicate}
 use lib.Seq.{take-at, drop-at}
 use lib.Dec.{eqb}
 use borrow.Author.Tests.{eq-eqb, ne-eqb}
 use Rattle.numbers.specs.Every.{All}
 use Rattle.slots.specs.Canon.{Sixteen}
-use Rattle.slots.specs.Canon.Areas.{length-flatten, length-fill}
+use Rattle.slots.specs.Canon.Areas.{length-flatten, length-fill, fill-none}
 use Rattle.monitor_spec.specs.State.{slotCount, even, choose, chunks, fill}
 use Rattle.table.specs.Operations.{zeros}
 use Rattle.monitor_spec.specs.Consistent.{every, allZero}
@@ -90,3 +90,14 @@ zero-after n ss h =
 pub zero-fill : (n : ℕ) → allZero (fill n []) ≡ true
 unfolding fill flatten
 zero-fill n = zero-zeros ((n - 0) * 16)
+
+-- the words in use are zeroed, and the others were zero
+pub cleared-fill : (n : ℕ) (ss : List (List ℕ)) → All Sixteen ss → length ss ≤ n
+    → zeros (length ss * 16) ++ drop (length ss * 16) (fill n ss) ≡ fill n []
+unfolding fill
+cleared-fill n ss h room =
+    let k : ℕ = length ss in
+    let rest : ℕ = (n - k) * 16 in
+    let i : k * 16 + rest ≡ n * 16 = omega arith in
+    ap (zeros (k * 16) ++_) (drop-at (flatten ss) (zeros rest) (k * 16) (length-flatten ss h))
+    ∙ replicate-append-replicate (k * 16) rest 0 ∙ ap zeros i ∙ sym (fill-none n)
