@@ -6,6 +6,7 @@
 //     after_piece             a course where the input ended, or did not
 //     take_piece              `resume` on a piece, and then `after_piece`
 //     head                    where the table and the events of an input are
+//     lent_fit                whether lent lengths are the program's
 mod answer;
 mod feeder;
 mod opener;
@@ -20,5 +21,6 @@ pub use format::Head;
 pub use format::Line;
 pub use format::conclude;
 pub use format::head;
+pub use opener::lent_fit;
 pub use opener::open;
 pub use whole::line;

@@ -11,7 +11,7 @@ use state::Answer;
 use table::Refusal;
 
 // Whether lent lengths are the program's: of the list, the areas ("256 slots") and the work area.
-fn lent_fit(list: usize, area0: usize, area1: usize, work: usize) -> bool
+pub fn lent_fit(list: usize, area0: usize, area1: usize, work: usize) -> bool
     ensures { λ r. ⌜ r ≡ lentFit list area0 area1 work ⌝ }
 {
     if list != 16384 {

@@ -2,3 +2,4 @@
 mod offerer;
 
 pub use offerer::offer;
+pub use offerer::offered;

@@ -96,8 +96,8 @@ fn words(list: &[u16], work: &[u64], area: &[u64], count: usize) -> EventBits
 }
 
 // The bits of the residuals held, which are in the area that the parity of the events taken says; 0
-// after failure.
-fn offered(list: &[u16], work: &[u64], state: State, area0: &[u64], area1: &[u64]) -> EventBits
+// after failure. The table's index stands in the work area: no judging, and the areas agree.
+pub fn offered(list: &[u16], work: &[u64], state: State, area0: &[u64], area1: &[u64]) -> EventBits
     requires { ⌜ Indexed (now list) (now work) ⌝ }
     requires { ⌜ areasMeasured (now area0) (now area1) ≡ true ⌝ }
     requires { ⌜ consistent (tableIn (now list))

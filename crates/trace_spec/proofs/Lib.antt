@@ -1,0 +1,3 @@
+-- The proofs of `specs/Claims.antt`. Assumes nothing.
+pub mod Theorems
+pub mod Rows
