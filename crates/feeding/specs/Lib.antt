@@ -1,2 +1,4 @@
 -- What Feed's parts promise in terms of its definition. Assumes nothing.
 pub mod Feeding
+pub mod Runs
+pub mod OverSets

@@ -1,22 +1,124 @@
 // Feed (document 01, "Operations", "When the monitor declines"): what it comes to is `feedOf` of
 // crate monitor_spec.
 ghost use mathlib.Core.Path.{_≡_};
+ghost use Prim.Native.Nat.{_≤_};
+ghost use lib.ListN.{length};
 ghost use Rattle.table_index.specs.Index.{tableIn, Indexed};
 ghost use Rattle.monitor_spec.specs.Feed.{feedOf};
 ghost use Rattle.state.specs.Record.{monitorOf};
 ghost use Rattle.state.specs.Answers.{outcome};
 ghost use Rattle.feeding.specs.Feeding.{Standing, EndedBy};
-use crate::event::Taken;
-use crate::event::take_event;
+ghost use Rattle.feeding.specs.Runs.{EndedFrom, RunBy};
+use crate::met::take_met;
+use crate::run::Run;
+use crate::run::take_part;
 use entering::enter_on;
 use state::Answer;
 use state::State;
 use state::clear_all;
 use table::Judged;
-use table::Refusal;
+
+// The smaller of two numbers.
+fn least(a: usize, b: usize) -> usize
+    ensures { λ r. ⌜ r ≤ a ⌝ }
+{
+    if a < b {
+        return a;
+    }
+    b
+}
+
+// Takes the events from one place on: over at most so many sets met, and where that gives up, one
+// after the other up to another place.
+fn take_stretch(
+    list: &[u16],
+    work: &[u64],
+    most: usize,
+    state: State,
+    area0: &mut [u64],
+    area1: &mut [u64],
+    events: &[u8],
+    from: usize,
+    to: usize,
+    store: &mut [u64],
+) -> Run
+    requires { ⌜ Indexed (now list) (now work) ⌝ }
+    requires { ⌜ Standing (tableIn (now list)) (monitorOf state (now area0) (now area1)) ⌝ }
+    requires { ⌜ (from ≤ length (now events)) × (to ≤ length (now events)) ⌝ }
+    requires { ⌜ (length (now store) ≡ 4112) × (most ≤ 63) ⌝ }
+    ensures { λ r.
+        ⌜ RunBy (tableIn (now (list .entry)))
+        (monitorOf state (now (area0 .entry)) (now (area1 .entry))) (now (events .entry)) from to
+        r (now (area0 .exit)) (now (area1 .exit)) ⌝ }
+{
+    if events.len() <= from {
+        return Run::Left(state, from);
+    }
+    match take_met(list, work, most, state, area0, area1, events, from, store) {
+        Run::Ended(answer) => Run::Ended(answer),
+        Run::Left(reached, i) => {
+            take_part(list, work, reached, area0, area1, events, i, to, store)
+        }
+    }
+}
+
+// Takes the events from a place on, all of them: over many sets met.
+fn take_rest(
+    list: &[u16],
+    work: &[u64],
+    state: State,
+    area0: &mut [u64],
+    area1: &mut [u64],
+    events: &[u8],
+    from: usize,
+    store: &mut [u64],
+) -> Answer
+    requires { ⌜ Indexed (now list) (now work) ⌝ }
+    requires { ⌜ Standing (tableIn (now list)) (monitorOf state (now area0) (now area1)) ⌝ }
+    requires { ⌜ from ≤ length (now events) ⌝ }
+    requires { ⌜ length (now store) ≡ 4112 ⌝ }
+    ensures { λ r.
+        ⌜ EndedFrom (tableIn (now (list .entry)))
+        (monitorOf state (now (area0 .entry)) (now (area1 .entry))) (now (events .entry)) from
+        r (now (area0 .exit)) (now (area1 .exit)) ⌝ }
+{
+    let to = events.len();
+    match take_stretch(list, work, 63, state, area0, area1, events, from, to, store) {
+        Run::Ended(answer) => answer,
+        Run::Left(reached, i) => Answer::Given(reached),
+    }
+}
+
+// Takes the events from a place on, all of them: first over few sets met.
+fn take_long(
+    list: &[u16],
+    work: &[u64],
+    state: State,
+    area0: &mut [u64],
+    area1: &mut [u64],
+    events: &[u8],
+    from: usize,
+    store: &mut [u64],
+) -> Answer
+    requires { ⌜ Indexed (now list) (now work) ⌝ }
+    requires { ⌜ Standing (tableIn (now list)) (monitorOf state (now area0) (now area1)) ⌝ }
+    requires { ⌜ from ≤ length (now events) ⌝ }
+    requires { ⌜ length (now store) ≡ 4112 ⌝ }
+    ensures { λ r.
+        ⌜ EndedFrom (tableIn (now (list .entry)))
+        (monitorOf state (now (area0 .entry)) (now (area1 .entry))) (now (events .entry)) from
+        r (now (area0 .exit)) (now (area1 .exit)) ⌝ }
+{
+    let to = least(events.len(), 2048);
+    match take_stretch(list, work, 8, state, area0, area1, events, from, to, store) {
+        Run::Ended(answer) => answer,
+        Run::Left(reached, i) => { take_rest(list, work, reached, area0, area1, events, i, store) }
+    }
+}
 
 // Takes the events from the first, until one is refused, where the table's index stands in the work
-// area: the run of an operation that is entered, without a judging.
+// area: the run of an operation that is entered, without a judging. The first sixteen are taken one
+// after the other, so that a short call keeps no sets.
 pub fn take_all(
     list: &[u16],
     work: &[u64],
@@ -33,20 +135,13 @@ pub fn take_all(
         r (now (area0 .exit)) (now (area1 .exit)) ⌝ }
 {
     let mut store = [0u64; 4112];
-    let mut reached = state;
-    let mut i = 0;
-    while i < events.len() {
-        match take_event(list, work, events[i], reached, area0, area1, &mut store) {
-            Taken::Went(next) => {
-                reached = next;
-                i += 1;
-            }
-            Taken::Stopped(number) => {
-                return Answer::Stopped(Refusal { number, place: i }, reached);
-            }
+    let to = least(events.len(), 16);
+    match take_part(list, work, state, area0, area1, events, 0, to, &mut store) {
+        Run::Ended(answer) => answer,
+        Run::Left(reached, i) => {
+            take_long(list, work, reached, area0, area1, events, i, &mut store)
         }
     }
-    Answer::Given(reached)
 }
 
 // Takes events: the record after them, or a refusal.

@@ -2,6 +2,8 @@
 // event, and all of a call.
 mod event;
 mod feeder;
+mod met;
+mod run;
 
 pub use event::Next;
 pub use event::Taken;

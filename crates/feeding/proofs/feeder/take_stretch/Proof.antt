@@ -1,0 +1,75 @@
+-- `feeding::feeder::take_stretch` meets its contract: a run from where another one left. Assumes nothing.
+use native.Mathlib.Omega.{arith}
+use mathlib.Core.Path.{_∙_}
+use Rattle.feeding.specs.Runs.{RunBy}
+use Rattle.feeding.proofs.run.Turn.{reached-start, run-ended, run-left, run-then}
+use borrow.Author.Needs.{needs}
+use Rattle.feeding.proofs.feeder.take_stretch.Statement.{statement}
+use Rattle.feeding.proofs.feeder.take_stretch.Tie as tie
+
+returns : tie.Need-returns
+unfolding RunBy
+returns c =
+    let at-start = c .before .before .before .before .before .before .before in
+    (reached-start _ _ _ _ (at-start .pre .1 .0), omega arith, at-start .pre .1 .1 .0 .0)
+
+take-met-requires : tie.Need-take-met-requires
+take-met-requires c κs =
+    (c .before .before .before .before .before .before .before .before .before .before .pre .0, (c .before .before .before .before .before .before .before .before .before .before .pre .1 .0, (c .before .before .before .before .before .before .before .before .before .before .pre .1 .1 .0 .0, (c .before .before .before .before .before .before .before .before .before .before .pre .1 .1 .1 .0, c .before .before .before .before .before .before .before .before .before .before .pre .1 .1 .1 .1))))
+
+enum-known-answer : tie.Need-enum-known-answer
+enum-known-answer c = search needs
+
+enum-known-reached : tie.Need-enum-known-reached
+enum-known-reached c = search needs
+
+take-part-requires : tie.Need-take-part-requires
+take-part-requires c κs =
+    let g = run-left _ _ _ _ _ _ _ _ (c .before .before .before .before .before .before .before .before .before .before .before .before .take-met .ensures) _ _ (c .before .before .before .before .reached .given .1) in
+    (c .before .before .before .before .before .before .before .before .before .before .before .before .before .before .before .before .before .before .before .before .before .before .before .pre .0, (g .0 .standing, ((g .2, c .before .before .before .before .before .before .before .before .before .before .before .before .before .before .before .before .before .before .before .before .before .before .before .pre .1 .1 .0 .1), c .before .before .before .before .before .before .before .before .before .before .before .before .take-met .kept .1 .1 .1 .1 .1 .1 .1 .1 .0 ∙ c .before .before .before .before .before .before .before .before .before .before .before .before .before .before .before .before .before .before .before .before .before .before .before .pre .1 .1 .1 .0)))
+
+same-length : tie.Need-same-length
+same-length c = search needs
+
+same-length-2 : tie.Need-same-length-2
+same-length-2 c = search needs
+
+same-length-3 : tie.Need-same-length-3
+same-length-3 c = search needs
+
+returns-2 : tie.Need-returns-2
+unfolding RunBy
+returns-2 c =
+    run-ended _ _ _ _ _ _ _ _ (c .before .before .before .before .before .before .before .before .before .take-met .ensures) _ (c .before .answer .given .1)
+
+same-length-4 : tie.Need-same-length-4
+same-length-4 c = search needs
+
+same-length-5 : tie.Need-same-length-5
+same-length-5 c = search needs
+
+same-length-6 : tie.Need-same-length-6
+same-length-6 c = search needs
+
+returns-3 : tie.Need-returns-3
+returns-3 c =
+    let g = run-left _ _ _ _ _ _ _ _ (c .before .before .before .before .before .before .before .before .before .before .before .before .before .before .before .before .before .before .before .take-met .ensures) _ _ (c .before .before .before .before .before .before .before .before .before .before .before .reached .given .1) in
+    run-then _ _ _ _ _ _ (g .0) _ _ _ _ (c .before .before .before .before .before .before .take-part .ensures)
+
+pub take-stretch-spec : {M : Type 1} → statement M
+take-stretch-spec =
+    tie.close
+    (tie.spec
+    returns
+    take-met-requires
+    enum-known-answer
+    enum-known-reached
+    take-part-requires
+    same-length
+    same-length-2
+    same-length-3
+    returns-2
+    same-length-4
+    same-length-5
+    same-length-6
+    returns-3)

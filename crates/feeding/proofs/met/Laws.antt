@@ -1,0 +1,244 @@
+-- Events over the sets met, on plain values: one law for each way out of a turn.
+--     going-within, -stands, -room, -out    along known transitions: what is asked for; the set is laid out
+--     out-reached, out-room, out-shape      a set that is laid out is reached; what picking up the next one asks for
+--     learn-full, learn-link, learn-kept    it has no room; it is linked, and kept
+--     first-shape, -full, -kept, -goes      the set of the monitor that a run begins with
+--     turn-learnt, since-goes, -kept, -ended, -left    a turn, and turns one after the other
+-- Assumes nothing.
+use Prim.Native.Nat.{ℕ, suc, _+_, _*_, _<_, _≤_}
+use native.Mathlib.Omega.{arith}
+use mathlib.Core.Path.{_≡_, refl, ap, sym, subst, _∙_}
+use mathlib.Core.List.{List}
+use lib.ListN.{length, getD, set}
+use Rattle.table.specs.Table.{Table}
+use Rattle.monitor_spec.specs.Regular.{Regular}
+use Rattle.monitor_spec.specs.State.{Monitor}
+use Rattle.monitor_spec.specs.Fold.{went}
+use Rattle.monitor_spec.specs.Feed.{takeEvent}
+use Rattle.monitor_spec.specs.Sensible.{Laid}
+use Rattle.state.specs.declared.record.State.{State}
+use Rattle.state.specs.Record.{monitorOf}
+use Rattle.met_sets.specs.declared.run.Followed.{Followed}
+use Rattle.met_sets.specs.declared.pick.Pick.{Pick}
+use Rattle.met_sets.specs.declared.pick.Pick.the-variants.{Set, Full}
+use Rattle.met_sets.specs.Sets.{countAt, Shape, SetStands, Met}
+use Rattle.met_sets.specs.Sets.Laws.{met-none, link-inside, met-linked}
+use Rattle.met_sets.specs.Runs.{Reached, Follows, Within, FollowedBy, Zeroed, Picked, PickedAs, PickedBy, LaidBy}
+use Rattle.met_sets.specs.Runs.Laws.{reached-first, reached-next, went-known, within-met, stands-met, picked-follows}
+use Rattle.met_sets.specs.Runs.Laws.{laid-reached, step-leads}
+use Rattle.met_sets.specs.Runs.Areas.{zeroed-room, laid-room}
+use Rattle.feeding.specs.declared.event.Taken.{Taken}
+use Rattle.feeding.specs.declared.event.Taken.the-variants.{Went}
+use Rattle.feeding.specs.Feeding.{Standing, TakenBy}
+use Rattle.state.specs.declared.answer.Answer.{Answer}
+use Rattle.feeding.specs.declared.run.Run.{Run}
+use Rattle.feeding.specs.declared.run.Run.the-variants as run
+use Rattle.feeding.specs.declared.met.Turn.{Turn}
+use Rattle.feeding.specs.declared.met.Turn.the-variants as turn
+use Rattle.feeding.specs.Runs.{EndedFrom, ReachedAt, RunBy}
+use Rattle.feeding.specs.OverSets.{Going, LaidOut, Goes, TurnTo, TurnBy, LearnBy, GoesBy, Since}
+
+as-reached : {t : Table} {cap : ℕ} {m m' : Monitor} {es : List ℕ} {i j : ℕ} → Reached t cap m es i m' j
+    → ReachedAt t m es i m' j
+as-reached {cap = cap} h = record { standing = record { slots = cap; laid = h .laid }; rest = h .rest }
+
+-- ---- along transitions that are known
+
+module _ {t : Table} (regular : Regular t) {m : Monitor} {es : List ℕ} {i k : ℕ} {sets starts next : List ℕ} {s : State}
+    {n j : ℕ} {a b : List ℕ} (h : Going t m es i k sets starts next s n j a b) {A : ℕ} (ea : A ≡ t .alphabet) where
+  pub going-within : Within A starts next n
+  going-within = subst (λ (x : ℕ). Within x starts next n) (sym ea) (within-met (h .met) n (h .follows .inside))
+
+  module _ {to : ℕ} {r : Followed} (f : FollowedBy A starts next es s n j to r) where
+    on : Follows t (h .cap) k sets starts es m i (r .state) (r .set) (r .place)
+    on = f .follows t regular (sym ea) (h .cap) k sets (h .met) m i (h .follows)
+
+    pub going-stands : SetStands sets starts (r .set)
+    going-stands = stands-met (h .met) (r .set) (on .inside)
+
+    pub going-room : (countAt starts (r .set) * 16 ≤ length a) × (countAt starts (r .set) * 16 ≤ length b)
+    going-room = zeroed-room (h .met) (r .set) (on .inside) (h .zeroed)
+
+    pub going-out : (a' b' : List ℕ) → LaidBy sets starts (r .state) (r .set) a b a' b'
+        → LaidOut t m es i k sets starts next (r .state) (r .set) (r .place) a' b'
+    unfolding LaidBy
+    going-out a' b' g =
+        record {
+          cap = h .cap;
+          met = h .met;
+          follows = on;
+          same = g (h .cap) (h .zeroed) (h .met .stored (r .set) (on .inside) .room);
+        }
+
+-- ---- one event more
+
+module _ {t : Table} (regular : Regular t) {m : Monitor} {es : List ℕ} {i k : ℕ} {sets starts next : List ℕ} {s : State}
+    {n j : ℕ} {a b : List ℕ} (h : LaidOut t m es i k sets starts next s n j a b) where
+  here : Reached t (h .cap) m es i (monitorOf s a b) j
+  here = laid-reached regular (h .met) (h .follows) (h .same)
+
+  pub out-reached : ReachedAt t m es i (monitorOf s a b) j
+  out-reached = as-reached here
+
+  module _ (l : j < length es) (r : Taken) (a' b' : List ℕ) (g : TakenBy t (monitorOf s a b) (getD es j 0) r a' b')
+      (s' : State) (q : r ≡ Went s') where
+    took : takeEvent t (monitorOf s a b) (getD es j 0) ≡ went (monitorOf s' a' b')
+    took = rw q at g
+
+    next-reached : Reached t (h .cap) m es i (monitorOf s' a' b') (j + 1)
+    next-reached = reached-next here regular l took
+
+    pub out-room : (s' .count * 16 ≤ length a') × (s' .count * 16 ≤ length b')
+    out-room = laid-room regular s' a' b' (next-reached .laid)
+
+    module _ {A : ℕ} (ea : A ≡ t .alphabet) where
+      pub out-shape : Shape A k sets starts next
+      out-shape = subst (λ (x : ℕ). Shape x k sets starts next) (sym ea) (h .met .shape)
+
+      module _ (p : Pick) (sets' starts' next' a'' b'' : List ℕ)
+          (f : PickedBy A k sets starts next (monitorOf s' a' b') p sets' starts' next' a'' b'') where
+        pick-is : PickedAs t (h .cap) k sets starts next (monitorOf s' a' b') p sets' starts' next' a'' b''
+        unfolding PickedBy
+        pick-is = f t regular (sym ea) (h .cap) (h .met) (next-reached .laid)
+
+        pub learn-full : p ≡ Full → ReachedAt t m es i (monitorOf s' a'' b'') (j + 1)
+        learn-full z =
+            let u : PickedAs t (h .cap) k sets starts next (monitorOf s' a' b') Full sets' starts' next' a'' b''
+            = rw z at pick-is in
+            rw (u .1, u .2) (as-reached next-reached)
+
+        module _ (l' k' : ℕ) (z : p ≡ Set l' k') where
+          picked : Picked t (h .cap) k sets starts (monitorOf s' a' b') l' k' sets' starts' next' a'' b''
+          picked = rw z at pick-is
+
+          known : getD es j 0 < t .alphabet
+          known = went-known t (monitorOf s a b) (monitorOf s' a' b') (getD es j 0) took
+
+          before : n < k'
+          before = let x = h .follows .inside in let y = picked .more in omega arith
+
+          pub learn-link : (n * A + getD es j 0 < length next') × (l' < 63)
+          learn-link =
+              let x = link-inside (picked .met) n (getD es j 0) 0 before known in
+              let y = picked .met .shape .few in
+              let z = picked .inside in
+              (rw ea x, omega arith)
+
+          pub learn-kept : (next'' : List ℕ) → next'' ≡ set next' (n * A + getD es j 0) (suc l')
+              → Going t m es i k' sets' starts' next'' s' l' (j + 1) a'' b''
+          learn-kept next'' w =
+              record {
+                cap = h .cap;
+                met = rw (w, ea) (met-linked (picked .met) n (getD es j 0) l' before known (picked .inside)
+                    (step-leads regular (h .met) (h .follows) (monitorOf s a b) (monitorOf s' a' b') (getD es j 0)
+                    (h .same) took picked));
+                follows = picked-follows next-reached picked;
+                zeroed = picked .zeroed;
+              }
+
+-- ---- the first set
+
+module _ {t : Table} (regular : Regular t) (s : State) (a b : List ℕ)
+    (h : Standing t (monitorOf s a b)) (sets starts next : List ℕ) (x : length sets ≡ 1664) (y : length starts ≡ 64)
+    (z : length next ≡ 2560) (o : getD starts 0 0 ≡ 0) (small : t .alphabet ≤ 128) {A : ℕ} (ea : A ≡ t .alphabet) where
+  none : Met t (h .slots) 0 sets starts next
+  none = met-none t (h .slots) sets starts next small x y z (omega arith)
+
+  pub first-shape : Shape A 0 sets starts next
+  first-shape = subst (λ (v : ℕ). Shape v 0 sets starts next) (sym ea) (none .shape)
+
+  module _ (p : Pick) (sets' starts' next' a' b' : List ℕ)
+      (f : PickedBy A 0 sets starts next (monitorOf s a b) p sets' starts' next' a' b') where
+    as-first : PickedAs t (h .slots) 0 sets starts next (monitorOf s a b) p sets' starts' next' a' b'
+    unfolding PickedBy
+    as-first = f t regular (sym ea) (h .slots) none (h .laid)
+
+    pub first-full : p ≡ Full → (es : List ℕ) (i : ℕ) → ReachedAt t (monitorOf s a b) es i (monitorOf s a' b') i
+    first-full q es i =
+        let u : PickedAs t (h .slots) 0 sets starts next (monitorOf s a b) Full sets' starts' next' a' b'
+        = rw q at as-first in
+        rw (u .1, u .2) (as-reached (reached-first (h .laid)))
+
+    pub first-kept : (n k : ℕ) → p ≡ Set n k → (es : List ℕ) (i : ℕ)
+        → Going t (monitorOf s a b) es i k sets' starts' next' s n i a' b'
+    first-kept n k q es i =
+        let u : Picked t (h .slots) 0 sets starts (monitorOf s a b) n k sets' starts' next' a' b' = rw q at as-first in
+        record {
+          cap = h .slots;
+          met = u .met;
+          follows = picked-follows (reached-first (h .laid)) u;
+          zeroed = u .zeroed;
+        }
+
+    pub first-goes : (n k : ℕ) → p ≡ Set n k → (es : List ℕ) (i : ℕ) → Goes t es k sets' starts' next' s n i a' b'
+    first-goes n k q es i = record { m = monitorOf s a b; i = i; going = first-kept n k q es i }
+
+-- ---- a turn, and turns
+
+turn-sooner : (t : Table) (m : Monitor) (es : List ℕ) (i j p : ℕ) → j ≤ p → (r : Turn) (sets starts next a b : List ℕ)
+    → TurnTo t m es i p r sets starts next a b → TurnTo t m es i j r sets starts next a b
+turn-sooner t m es i j p h (turn.Ended x) sets starts next a b g = g
+turn-sooner t m es i j p h (turn.Left s l) sets starts next a b g = (g .0, omega (arith, g .1), g .2)
+turn-sooner t m es i j p h (turn.Kept s n k l) sets starts next a b g = (g .0, omega (arith, g .1), g .2)
+
+module _ {t : Table} {es : List ℕ} {k : ℕ} {sets starts next : List ℕ} {s : State} {n j : ℕ} {a b : List ℕ} where
+  pub turn-learnt : Regular t → {A : ℕ} → A ≡ t .alphabet → {to : ℕ} {r : Followed}
+      → FollowedBy A starts next es s n j to r → {a' b' : List ℕ} → LaidBy sets starts (r .state) (r .set) a b a' b'
+      → {x : Turn} {sets' starts' next' a'' b'' : List ℕ}
+      → LearnBy t es k sets starts next (r .state) (r .set) (r .place) a' b' x sets' starts' next' a'' b''
+      → TurnBy t es k sets starts next s n j a b x sets' starts' next' a'' b''
+  turn-learnt regular ea {r = r} f {a'} {b'} g {x} {sets'} {starts'} {next'} {a''} {b''} d = record {
+    from = λ m i h.
+        turn-sooner t m es i j (r .place) (f .onward) x sets' starts' next' a'' b''
+        (d .from m i (going-out regular h ea f a' b' g));
+  }
+
+  module _ {x : Turn} {sets' starts' next' a' b' : List ℕ}
+      (d : TurnBy t es k sets starts next s n j a b x sets' starts' next' a' b') where
+    pub turn-kept : {s' : State} {n' k' l : ℕ} → x ≡ turn.Kept s' n' k' l → {m : Monitor} {i : ℕ}
+        → Going t m es i k sets starts next s n j a b
+        → Going t m es i k' sets' starts' next' s' n' l a' b' × (j < l) × (l ≤ length es)
+    turn-kept q {m} {i} h =
+        let g : TurnTo t m es i j x sets' starts' next' a' b' = d .from m i h in rw q at g
+
+    pub turn-ended : {y : Answer} → x ≡ turn.Ended y → {m : Monitor} {i : ℕ}
+        → Going t m es i k sets starts next s n j a b → EndedFrom t m es i y a' b'
+    turn-ended q {m} {i} h = let g : TurnTo t m es i j x sets' starts' next' a' b' = d .from m i h in rw q at g
+
+    pub turn-left : {s' : State} {l : ℕ} → x ≡ turn.Left s' l → {m : Monitor} {i : ℕ}
+        → Going t m es i k sets starts next s n j a b
+        → ReachedAt t m es i (monitorOf s' a' b') l × (j ≤ l) × (l ≤ length es)
+    turn-left q {m} {i} h = let g : TurnTo t m es i j x sets' starts' next' a' b' = d .from m i h in rw q at g
+
+-- wherever a run began
+module _ {t : Table} {es : List ℕ} {k : ℕ} {sets starts next : List ℕ} {s : State} {n j : ℕ} {a b : List ℕ} where
+  module _ {k₁ : ℕ} {sets₁ starts₁ next₁ : List ℕ} {s₁ : State} {n₁ j₁ : ℕ} {a₁ b₁ : List ℕ} where
+    pub since-goes : Since t es k sets starts next s n j a b k₁ sets₁ starts₁ next₁ s₁ n₁ j₁ a₁ b₁
+        → Goes t es k sets starts next s n j a b → Goes t es k₁ sets₁ starts₁ next₁ s₁ n₁ j₁ a₁ b₁
+    since-goes f h = record { m = h .m; i = h .i; going = f .from (h .m) (h .i) (h .going) }
+
+    module _ (f : Since t es k sets starts next s n j a b k₁ sets₁ starts₁ next₁ s₁ n₁ j₁ a₁ b₁) {x : Turn}
+        {sets' starts' next' a' b' : List ℕ}
+        (d : TurnBy t es k₁ sets₁ starts₁ next₁ s₁ n₁ j₁ a₁ b₁ x sets' starts' next' a' b') where
+      pub since-kept : {s' : State} {n' k' l : ℕ} → x ≡ turn.Kept s' n' k' l
+          → Since t es k sets starts next s n j a b k' sets' starts' next' s' n' l a' b'
+      since-kept q = record { from = λ m i h. turn-kept d q (f .from m i h) .0 }
+
+      pub since-ended : {y : Answer} → x ≡ turn.Ended y
+          → GoesBy t es k sets starts next s n j a b (run.Ended y) a' b'
+      unfolding RunBy
+      since-ended q = record { from = λ m i h. turn-ended d q (f .from m i h) }
+
+      pub since-left : {s' : State} {l : ℕ} → x ≡ turn.Left s' l → j ≤ j₁
+          → GoesBy t es k sets starts next s n j a b (run.Left s' l) a' b'
+      unfolding RunBy
+      since-left q o = record {
+        from = λ m i h. let g = turn-left d q (f .from m i h) in (g .0, omega (arith, g .1), g .2);
+      }
+
+  pub since-first : Since t es k sets starts next s n j a b k sets starts next s n j a b
+  since-first = record { from = λ m i h. h }
+
+  pub goes-run : {r : Run} {a' b' : List ℕ} → GoesBy t es k sets starts next s n j a b r a' b' → {m : Monitor} {i : ℕ}
+      → Going t m es i k sets starts next s n j a b → RunBy t m es i j r a' b'
+  goes-run g {m} {i} h = g .from m i h

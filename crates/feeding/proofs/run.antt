@@ -1,0 +1,2 @@
+-- What the proofs on runs over events share. Assumes nothing.
+pub mod Turn

@@ -1,0 +1,305 @@
+// Events over the residual sets that a call has met (crate met_sets). The promises are in
+// `specs/OverSets.antt` and `specs/Runs.antt`.
+ghost use mathlib.Core.Path.{_≡_};
+ghost use Prim.Native.Nat.{_≤_, _<_, _^_};
+ghost use lib.ListN.{length};
+ghost use Rattle.table_index.specs.Index.{tableIn, Indexed};
+ghost use Rattle.state.specs.Record.{monitorOf};
+ghost use Rattle.feeding.specs.Feeding.{Standing};
+ghost use Rattle.feeding.specs.Runs.{RunBy};
+ghost use Rattle.feeding.specs.OverSets.{Goes, Stays, TurnBy, LearnBy, GoesBy};
+use crate::event::Taken;
+use crate::event::take_event;
+use crate::run::Run;
+use met_sets::Pick;
+use met_sets::follow;
+use met_sets::lay_out;
+use met_sets::link;
+use met_sets::pick_up;
+use state::Answer;
+use state::State;
+use table::Refusal;
+
+// Where a turn comes to: the call's answer; a record that stands in the areas, and at which event;
+// or a record, the number of a set kept, how many sets are kept, and at which event.
+pub enum Turn {
+    Ended(Answer),
+    Left(State, usize),
+    Kept(State, usize, usize, usize),
+}
+
+// Takes an event whose transition from set n is not known, where that set stands in the areas, and
+// keeps the set that it leads to.
+fn learn(
+    list: &[u16],
+    work: &[u64],
+    alphabet: usize,
+    most: usize,
+    k: usize,
+    sets: &mut [u64],
+    starts: &mut [usize],
+    next: &mut [u8],
+    state: State,
+    n: usize,
+    area0: &mut [u64],
+    area1: &mut [u64],
+    events: &[u8],
+    i: usize,
+    store: &mut [u64],
+) -> Turn
+    requires { ⌜ Indexed (now list) (now work) ⌝ }
+    requires { ⌜ (alphabet ≡ tableIn (now list) .alphabet) × (length (now store) ≡ 4112) ⌝ }
+    requires { ⌜ (i < length (now events)) × (length (now events) < 2 ^ 64) ⌝ }
+    requires { ⌜ Stays (tableIn (now list)) (now events) k (now sets) (now starts) (now next)
+        state n i (now area0) (now area1) ⌝ }
+    ensures { λ r.
+        ⌜ LearnBy (tableIn (now (list .entry))) (now (events .entry)) k (now (sets .entry))
+        (now (starts .entry)) (now (next .entry)) state n i (now (area0 .entry))
+        (now (area1 .entry)) r (now (sets .exit)) (now (starts .exit)) (now (next .exit))
+        (now (area0 .exit)) (now (area1 .exit)) ⌝ }
+{
+    let e = events[i];
+    match take_event(list, work, e, state, area0, area1, store) {
+        Taken::Stopped(number) => Turn::Ended(Answer::Stopped(Refusal { number, place: i }, state)),
+        Taken::Went(reached) => {
+            match pick_up(alphabet, most, k, sets, starts, next, reached, area0, area1) {
+                Pick::Full => Turn::Left(reached, i + 1),
+                Pick::Set(j, c) => {
+                    link(alphabet, next, n, e, j);
+                    Turn::Kept(reached, j, c, i + 1)
+                }
+            }
+        }
+    }
+}
+
+// Takes the events whose transitions are known, from set n on, and then one more.
+fn take_turn(
+    list: &[u16],
+    work: &[u64],
+    alphabet: usize,
+    most: usize,
+    k: usize,
+    sets: &mut [u64],
+    starts: &mut [usize],
+    next: &mut [u8],
+    state: State,
+    n: usize,
+    area0: &mut [u64],
+    area1: &mut [u64],
+    events: &[u8],
+    i: usize,
+    store: &mut [u64],
+) -> Turn
+    requires { ⌜ Indexed (now list) (now work) ⌝ }
+    requires { ⌜ (alphabet ≡ tableIn (now list) .alphabet) × (length (now store) ≡ 4112) ⌝ }
+    requires { ⌜ (i ≤ length (now events)) × (length (now events) < 2 ^ 64) ⌝ }
+    requires { ⌜ Goes (tableIn (now list)) (now events) k (now sets) (now starts) (now next)
+        state n i (now area0) (now area1) ⌝ }
+    ensures { λ r.
+        ⌜ TurnBy (tableIn (now (list .entry))) (now (events .entry)) k (now (sets .entry))
+        (now (starts .entry)) (now (next .entry)) state n i (now (area0 .entry))
+        (now (area1 .entry)) r (now (sets .exit)) (now (starts .exit)) (now (next .exit))
+        (now (area0 .exit)) (now (area1 .exit)) ⌝ }
+{
+    let to = events.len();
+    let f = follow(alphabet, starts, next, events, state, n, i, to);
+    let reached = f.state;
+    let at = f.set;
+    let place = f.place;
+    lay_out(sets, starts, at, reached, area0, area1);
+    if to <= place {
+        return Turn::Left(reached, place);
+    }
+    learn(
+        list,
+        work,
+        alphabet,
+        most,
+        k,
+        sets,
+        starts,
+        next,
+        reached,
+        at,
+        area0,
+        area1,
+        events,
+        place,
+        store,
+    )
+}
+
+// Takes events from set n on, turn by turn, until one has no room or none is left.
+fn take_turns(
+    list: &[u16],
+    work: &[u64],
+    alphabet: usize,
+    most: usize,
+    k: usize,
+    sets: &mut [u64],
+    starts: &mut [usize],
+    next: &mut [u8],
+    state: State,
+    n: usize,
+    area0: &mut [u64],
+    area1: &mut [u64],
+    events: &[u8],
+    from: usize,
+    store: &mut [u64],
+) -> Run
+    requires { ⌜ Indexed (now list) (now work) ⌝ }
+    requires { ⌜ (alphabet ≡ tableIn (now list) .alphabet) × (length (now store) ≡ 4112) ⌝ }
+    requires { ⌜ from ≤ length (now events) ⌝ }
+    requires { ⌜ Goes (tableIn (now list)) (now events) k (now sets) (now starts) (now next)
+        state n from (now area0) (now area1) ⌝ }
+    ensures { λ r.
+        ⌜ GoesBy (tableIn (now (list .entry))) (now (events .entry)) k (now (sets .entry))
+        (now (starts .entry)) (now (next .entry)) state n from (now (area0 .entry))
+        (now (area1 .entry)) r (now (area0 .exit)) (now (area1 .exit)) ⌝ }
+{
+    let mut reached = state;
+    let mut at = n;
+    let mut kept = k;
+    let mut i = from;
+    loop {
+        match take_turn(
+            list,
+            work,
+            alphabet,
+            most,
+            kept,
+            sets,
+            starts,
+            next,
+            reached,
+            at,
+            area0,
+            area1,
+            events,
+            i,
+            store,
+        ) {
+            Turn::Ended(answer) => {
+                return Run::Ended(answer);
+            }
+            Turn::Left(s, j) => {
+                return Run::Left(s, j);
+            }
+            Turn::Kept(s, set, count, j) => {
+                reached = s;
+                at = set;
+                kept = count;
+                i = j;
+            }
+        }
+    }
+}
+
+// Takes events from a place on over at most so many sets, none of which is known yet, until one has
+// no room or none is left.
+fn take_kept(
+    list: &[u16],
+    work: &[u64],
+    most: usize,
+    sets: &mut [u64],
+    starts: &mut [usize],
+    next: &mut [u8],
+    state: State,
+    area0: &mut [u64],
+    area1: &mut [u64],
+    events: &[u8],
+    from: usize,
+    store: &mut [u64],
+) -> Run
+    requires { ⌜ Indexed (now list) (now work) ⌝ }
+    requires { ⌜ Standing (tableIn (now list)) (monitorOf state (now area0) (now area1)) ⌝ }
+    requires { ⌜ (length (now sets) ≡ 1664) × (length (now starts) ≡ 64)
+        × (length (now next) ≡ 2560) ⌝ }
+    requires { ⌜ (from ≤ length (now events)) × (length (now store) ≡ 4112) ⌝ }
+    ensures { λ r.
+        ⌜ RunBy (tableIn (now (list .entry)))
+        (monitorOf state (now (area0 .entry)) (now (area1 .entry))) (now (events .entry)) from from
+        r (now (area0 .exit)) (now (area1 .exit)) ⌝ }
+{
+    let alphabet = index::alphabet(list, work) as usize;
+    starts[0] = 0;
+    match pick_up(alphabet, most, 0, sets, starts, next, state, area0, area1) {
+        Pick::Full => Run::Left(state, from),
+        Pick::Set(n, k) => take_turns(
+            list,
+            work,
+            alphabet,
+            most,
+            k,
+            sets,
+            starts,
+            next,
+            state,
+            n,
+            area0,
+            area1,
+            events,
+            from,
+            store,
+        ),
+    }
+}
+
+// Takes events from a place on over at most so many sets. Where one more has no room, all are
+// forgotten if more than sixteen events were taken for each that may be kept; else that is given
+// up.
+pub fn take_met(
+    list: &[u16],
+    work: &[u64],
+    most: usize,
+    state: State,
+    area0: &mut [u64],
+    area1: &mut [u64],
+    events: &[u8],
+    from: usize,
+    store: &mut [u64],
+) -> Run
+    requires { ⌜ Indexed (now list) (now work) ⌝ }
+    requires { ⌜ Standing (tableIn (now list)) (monitorOf state (now area0) (now area1)) ⌝ }
+    requires { ⌜ from ≤ length (now events) ⌝ }
+    requires { ⌜ (length (now store) ≡ 4112) × (most ≤ 63) ⌝ }
+    ensures { λ r.
+        ⌜ RunBy (tableIn (now (list .entry)))
+        (monitorOf state (now (area0 .entry)) (now (area1 .entry))) (now (events .entry)) from from
+        r (now (area0 .exit)) (now (area1 .exit)) ⌝ }
+{
+    let mut sets = [0u64; 1664];
+    let mut starts = [0usize; 64];
+    let mut next = [0u8; 2560];
+    let mut reached = state;
+    let mut i = from;
+    while i < events.len() {
+        match take_kept(
+            list,
+            work,
+            most,
+            &mut sets,
+            &mut starts,
+            &mut next,
+            reached,
+            area0,
+            area1,
+            events,
+            i,
+            store,
+        ) {
+            Run::Ended(answer) => {
+                return Run::Ended(answer);
+            }
+            Run::Left(s, j) => {
+                if j - i <= 16 * most {
+                    return Run::Left(s, j);
+                }
+                reached = s;
+                i = j;
+            }
+        }
+    }
+    Run::Left(reached, i)
+}
