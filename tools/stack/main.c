@@ -13,6 +13,8 @@
 
 #define STACK_BYTES (4u << 20)
 #define PATTERN 0xA5
+/* so many events of a call are taken before it keeps residual sets */
+#define LATE 16
 
 static uint16_t list[CSPE_NUMBERS];
 static size_t length;
@@ -20,7 +22,7 @@ static uint64_t record[CSPE_RECORD_WORDS];
 static uint64_t area0[CSPE_AREA_WORDS_MOST], area1[CSPE_AREA_WORDS_MOST], work[CSPE_WORK_WORDS];
 static uint64_t further_record[CSPE_RECORD_WORDS], further0[CSPE_AREA_WORDS_MOST], further1[CSPE_AREA_WORDS_MOST];
 static uint64_t timed_record[CSPE_TIMED_RECORD_WORDS];
-static uint8_t events[1] = {0};
+static uint8_t events[LATE + 1];
 static uint64_t minutes[1] = {0};
 static uint16_t windows[1];
 static uint32_t said;
@@ -54,11 +56,13 @@ static void head(int definitions, int chains, int deep) {
 /*
  * The last definition, of level 1: `leaves` prefixes in parallel over {0}, each before two of the longest chains, in
  * parallel over {}, with STOP as another choice where `several`. Eight leaves are all that a residual may have, so of
- * eight each is before one chain.
+ * eight each is before one chain. Before them there are `late` prefixes.
  */
-static void deep_feed(int leaves, int several) {
+static void deep_feed(int leaves, int several, int late) {
     head(32, 31, 15);
     put(1);
+    for (int i = 0; i < late; i++)
+        put(2), put(0);
     for (int i = 0; i < leaves; i++) {
         if (i + 1 < leaves)
             put(4), put(0);
@@ -91,6 +95,14 @@ static void *feed(void *unused) {
     (void)unused;
     said = cspe_feed(list, length, record, CSPE_RECORD_WORDS, area0, CSPE_AREA_WORDS_MOST, area1, CSPE_AREA_WORDS_MOST,
                      events, 1, work, CSPE_WORK_WORDS, &word);
+    return NULL;
+}
+
+/* a long call, whose last event is the deep one */
+static void *feed_late(void *unused) {
+    (void)unused;
+    said = cspe_feed(list, length, record, CSPE_RECORD_WORDS, area0, CSPE_AREA_WORDS_MOST, area1, CSPE_AREA_WORDS_MOST,
+                     events, LATE + 1, work, CSPE_WORK_WORDS, &word);
     return NULL;
 }
 
@@ -165,14 +177,19 @@ int main(void) {
     for (int several = 0; several < 2; several++) {
         for (int leaves = 1; leaves <= 8; leaves *= 2) {
             char what[64];
-            deep_feed(leaves, several);
+            deep_feed(leaves, several, 0);
             settle(NULL);
             snprintf(what, sizeof what, "feed, %d leaves, %s", leaves, several ? "several results" : "one result");
             show(what, feed, base);
             snprintf(what, sizeof what, "timed feed, %d leaves, %s", leaves, several ? "several" : "one result");
             show_timed(what, base);
+            deep_feed(leaves, several, LATE);
+            settle(NULL);
+            snprintf(what, sizeof what, "long feed, %d leaves, %s", leaves, several ? "several" : "one result");
+            show(what, feed_late, base);
         }
     }
+    deep_feed(8, 1, 0);
     settle(NULL);
     show("try, 8 leaves, several results", try_feed, base);
     show("open, 8 leaves, several results", open_one, base);

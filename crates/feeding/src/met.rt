@@ -48,7 +48,8 @@ fn learn(
     store: &mut [u64],
 ) -> Turn
     requires { ⌜ Indexed (now list) (now work) ⌝ }
-    requires { ⌜ (alphabet ≡ tableIn (now list) .alphabet) × (length (now store) ≡ 4112) ⌝ }
+    requires { ⌜ (alphabet ≡ tableIn (now list) .alphabet)
+        × (length (now store) ≡ 4112) ⌝ }
     requires { ⌜ (i < length (now events)) × (length (now events) < 2 ^ 64) ⌝ }
     requires { ⌜ Stays (tableIn (now list)) (now events) k (now sets) (now starts) (now next)
         state n i (now area0) (now area1) ⌝ }
@@ -92,7 +93,8 @@ fn take_turn(
     store: &mut [u64],
 ) -> Turn
     requires { ⌜ Indexed (now list) (now work) ⌝ }
-    requires { ⌜ (alphabet ≡ tableIn (now list) .alphabet) × (length (now store) ≡ 4112) ⌝ }
+    requires { ⌜ (alphabet ≡ tableIn (now list) .alphabet)
+        × (length (now store) ≡ 4112) ⌝ }
     requires { ⌜ (i ≤ length (now events)) × (length (now events) < 2 ^ 64) ⌝ }
     requires { ⌜ Goes (tableIn (now list)) (now events) k (now sets) (now starts) (now next)
         state n i (now area0) (now area1) ⌝ }
@@ -149,7 +151,8 @@ fn take_turns(
     store: &mut [u64],
 ) -> Run
     requires { ⌜ Indexed (now list) (now work) ⌝ }
-    requires { ⌜ (alphabet ≡ tableIn (now list) .alphabet) × (length (now store) ≡ 4112) ⌝ }
+    requires { ⌜ (alphabet ≡ tableIn (now list) .alphabet)
+        × (length (now store) ≡ 4112) ⌝ }
     requires { ⌜ from ≤ length (now events) ⌝ }
     requires { ⌜ Goes (tableIn (now list)) (now events) k (now sets) (now starts) (now next)
         state n from (now area0) (now area1) ⌝ }

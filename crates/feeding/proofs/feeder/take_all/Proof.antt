@@ -15,7 +15,9 @@ slice-aggregate-take-part c = search needs
 
 take-part-requires : tie.Need-take-part-requires
 take-part-requires c κs =
-    (c .before .before .before .before .before .before .before .before .before .pre .0, (c .before .before .before .before .before .before .before .before .before .pre .1, ((omega arith, c .before .before .before .least .ensures), search needs)))
+    let at-least = c .before .before .before in
+    let at-start = at-least .before .before .before .before .before .before in
+    (at-start .pre .0, (at-start .pre .1, ((omega arith, at-least .least .ensures), search needs)))
 
 enum-known-answer : tie.Need-enum-known-answer
 enum-known-answer c = search needs
@@ -28,8 +30,21 @@ slice-aggregate-take-long c = search needs
 
 take-long-requires : tie.Need-take-long-requires
 take-long-requires c κs =
-    let g = run-left _ _ _ _ _ _ _ _ (c .before .before .before .before .before .before .before .before .before .before .before .take-part .ensures) _ _ (c .before .before .before .before .reached .given .1) in
-    (c .before .before .before .before .before .before .before .before .before .before .before .before .before .before .before .before .before .before .before .before .before .pre .0, (g .0 .standing, (g .2, c .before .before .before .before .before .before .before .before .before .before .before .take-part .kept .1 .1 .1 .1 .1 .1 .1 .1 .0 ∙ search needs)))
+    let at-reached = c .before .before .before .before in
+    let at-take-part = at-reached .before .before .before .before .before .before .before in
+    let at-shared-slice-known2 = at-take-part .before .before .before .before .before .before .before .before in
+    let at-start = at-shared-slice-known2 .before .before in
+    let g = run-left _ _ _ _ _ _ _ _ (at-take-part .take-part .ensures) _ _ (at-reached .reached .given .1) in (
+      at-start .pre .0,
+      (
+        g .0 .standing,
+        (
+          g .2,
+          at-take-part .take-part .kept .1 .1 .1 .1 .1 .1 .1 .1 .0 ∙ search
+              needs,
+        ),
+      ),
+    )
 
 same-length : tie.Need-same-length
 same-length c = search needs
@@ -39,7 +54,10 @@ same-length-2 c = search needs
 
 returns : tie.Need-returns
 returns c =
-    ended-all _ _ _ _ _ _ (run-ended _ _ _ _ _ _ _ _ (c .before .before .before .before .before .before .before .before .take-part .ensures) _ (c .before .answer .given .1))
+    let at-answer = c .before in
+    let at-take-part = at-answer .before .before .before .before .before .before .before in
+    ended-all _ _ _ _ _ _ (run-ended _ _ _ _ _ _ _ _ (at-take-part .take-part .ensures) _
+    (at-answer .answer .given .1))
 
 same-length-3 : tie.Need-same-length-3
 same-length-3 c = search needs
@@ -49,8 +67,11 @@ same-length-4 c = search needs
 
 returns-2 : tie.Need-returns-2
 returns-2 c =
-    let g = run-left _ _ _ _ _ _ _ _ (c .before .before .before .before .before .before .before .before .before .before .before .before .before .before .before .before .before .take-part .ensures) _ _ (c .before .before .before .before .before .before .before .before .before .before .reached .given .1) in
-    ended-all _ _ _ _ _ _ (ended-then _ _ _ _ _ _ (g .0) _ _ _ (c .before .before .before .before .before .take-long .ensures))
+    let at-take-long = c .before .before .before .before .before in
+    let at-reached = at-take-long .before .before .before .before .before in
+    let at-take-part = at-reached .before .before .before .before .before .before .before in
+    let g = run-left _ _ _ _ _ _ _ _ (at-take-part .take-part .ensures) _ _ (at-reached .reached .given .1) in
+    ended-all _ _ _ _ _ _ (ended-then _ _ _ _ _ _ (g .0) _ _ _ (at-take-long .take-long .ensures))
 
 pub take-all-spec : {M : Type 1} → statement M
 take-all-spec =

@@ -11,7 +11,17 @@ least-requires c κs = search needs
 
 take-stretch-requires : tie.Need-take-stretch-requires
 take-stretch-requires c κs =
-    (c .before .before .before .before .before .before .before .before .before .before .pre .0, (c .before .before .before .before .before .before .before .before .before .before .pre .1 .0, ((c .before .before .before .before .before .before .before .before .before .before .pre .1 .1 .0, c .before .before .before .least .ensures), (c .before .before .before .before .before .before .before .before .before .before .pre .1 .1 .1, omega arith))))
+    let at-least = c .before .before .before in
+    let at-start = at-least .before .before .before .before .before .before .before in (
+      at-start .pre .0,
+      (
+        at-start .pre .1 .0,
+        (
+          (at-start .pre .1 .1 .0, at-least .least .ensures),
+          (at-start .pre .1 .1 .1, omega arith),
+        ),
+      ),
+    )
 
 enum-known-answer : tie.Need-enum-known-answer
 enum-known-answer c = search needs
@@ -21,8 +31,21 @@ enum-known-reached c = search needs
 
 take-rest-requires : tie.Need-take-rest-requires
 take-rest-requires c κs =
-    let g = run-left _ _ _ _ _ _ _ _ (c .before .before .before .before .before .before .before .before .before .before .before .before .take-stretch .ensures) _ _ (c .before .before .before .before .reached .given .1) in
-    (c .before .before .before .before .before .before .before .before .before .before .before .before .before .before .before .before .before .before .before .before .before .before .before .pre .0, (g .0 .standing, (g .2, c .before .before .before .before .before .before .before .before .before .before .before .before .take-stretch .kept .1 .1 .1 .1 .1 .1 .1 .1 .1 .0 ∙ c .before .before .before .before .before .before .before .before .before .before .before .before .before .before .before .before .before .before .before .before .before .before .before .pre .1 .1 .1)))
+    let at-reached = c .before .before .before .before in
+    let at-take-stretch = at-reached .before .before .before .before .before .before .before .before in
+    let at-slice-known = at-take-stretch .before .before .before .before .before .before .before .before in
+    let at-start = at-slice-known .before .before .before in
+    let g = run-left _ _ _ _ _ _ _ _ (at-take-stretch .take-stretch .ensures) _ _ (at-reached .reached .given .1) in (
+      at-start .pre .0,
+      (
+        g .0 .standing,
+        (
+          g .2,
+          at-take-stretch .take-stretch .kept .1 .1 .1 .1 .1 .1 .1 .1 .1 .0 ∙
+              at-start .pre .1 .1 .1,
+        ),
+      ),
+    )
 
 same-length : tie.Need-same-length
 same-length c = search needs
@@ -35,7 +58,9 @@ same-length-3 c = search needs
 
 returns : tie.Need-returns
 returns c =
-    run-ended _ _ _ _ _ _ _ _ (c .before .before .before .before .before .before .before .before .before .take-stretch .ensures) _ (c .before .answer .given .1)
+    let at-answer = c .before in
+    let at-take-stretch = at-answer .before .before .before .before .before .before .before .before in
+    run-ended _ _ _ _ _ _ _ _ (at-take-stretch .take-stretch .ensures) _ (at-answer .answer .given .1)
 
 same-length-4 : tie.Need-same-length-4
 same-length-4 c = search needs
@@ -48,8 +73,11 @@ same-length-6 c = search needs
 
 returns-2 : tie.Need-returns-2
 returns-2 c =
-    let g = run-left _ _ _ _ _ _ _ _ (c .before .before .before .before .before .before .before .before .before .before .before .before .before .before .before .before .before .before .before .take-stretch .ensures) _ _ (c .before .before .before .before .before .before .before .before .before .before .before .reached .given .1) in
-    ended-then _ _ _ _ _ _ (g .0) _ _ _ (c .before .before .before .before .before .before .take-rest .ensures)
+    let at-take-rest = c .before .before .before .before .before .before in
+    let at-reached = at-take-rest .before .before .before .before .before in
+    let at-take-stretch = at-reached .before .before .before .before .before .before .before .before in
+    let g = run-left _ _ _ _ _ _ _ _ (at-take-stretch .take-stretch .ensures) _ _ (at-reached .reached .given .1) in
+    ended-then _ _ _ _ _ _ (g .0) _ _ _ (at-take-rest .take-rest .ensures)
 
 pub take-long-spec : {M : Type 1} → statement M
 take-long-spec =

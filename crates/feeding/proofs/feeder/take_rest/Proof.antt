@@ -7,7 +7,21 @@ use Rattle.feeding.proofs.feeder.take_rest.Tie as tie
 
 take-stretch-requires : tie.Need-take-stretch-requires
 take-stretch-requires c κs =
-    (c .before .before .before .before .before .before .before .before .before .pre .0, (c .before .before .before .before .before .before .before .before .before .pre .1 .0, ((c .before .before .before .before .before .before .before .before .before .pre .1 .1 .0, omega arith), (c .before .before .before .before .before .before .before .before .before .pre .1 .1 .1, omega arith))))
+    let at-shared-slice-known = c .before .before .before .before .before .before .before .before in
+    let at-start = at-shared-slice-known .before in (
+      at-start .pre .0,
+      (
+        at-start .pre .1 .0,
+        (
+          (at-start .pre .1 .1 .0, omega arith),
+          (
+            at-start .pre .1 .1 .1,
+            omega
+                arith,
+          ),
+        ),
+      ),
+    )
 
 enum-known-answer : tie.Need-enum-known-answer
 enum-known-answer c = search needs
@@ -26,7 +40,9 @@ same-length-3 c = search needs
 
 returns : tie.Need-returns
 returns c =
-    run-ended _ _ _ _ _ _ _ _ (c .before .before .before .before .before .before .before .before .before .take-stretch .ensures) _ (c .before .answer .given .1)
+    let at-answer = c .before in
+    let at-take-stretch = at-answer .before .before .before .before .before .before .before .before in
+    run-ended _ _ _ _ _ _ _ _ (at-take-stretch .take-stretch .ensures) _ (at-answer .answer .given .1)
 
 same-length-4 : tie.Need-same-length-4
 same-length-4 c = search needs
@@ -39,7 +55,9 @@ same-length-6 c = search needs
 
 returns-2 : tie.Need-returns-2
 returns-2 c =
-    let g = run-left _ _ _ _ _ _ _ _ (c .before .before .before .before .before .before .before .before .before .take-stretch .ensures) _ _ (c .before .reached .given .1) in
+    let at-reached = c .before in
+    let at-take-stretch = at-reached .before .before .before .before .before .before .before .before in
+    let g = run-left _ _ _ _ _ _ _ _ (at-take-stretch .take-stretch .ensures) _ _ (at-reached .reached .given .1) in
     ended-done _ _ _ _ _ _ _ _ (g .0) (g .1)
 
 pub take-rest-spec : {M : Type 1} → statement M

@@ -15,7 +15,20 @@ returns c =
 
 take-met-requires : tie.Need-take-met-requires
 take-met-requires c κs =
-    (c .before .before .before .before .before .before .before .before .before .before .pre .0, (c .before .before .before .before .before .before .before .before .before .before .pre .1 .0, (c .before .before .before .before .before .before .before .before .before .before .pre .1 .1 .0 .0, (c .before .before .before .before .before .before .before .before .before .before .pre .1 .1 .1 .0, c .before .before .before .before .before .before .before .before .before .before .pre .1 .1 .1 .1))))
+    let at-shared-slice-known2 = c .before .before .before .before .before .before .before .before in
+    let at-start = at-shared-slice-known2 .before .before in (
+      at-start .pre .0,
+      (
+        at-start .pre .1 .0,
+        (
+          at-start .pre .1 .1 .0 .0,
+          (
+            at-start .pre .1 .1 .1 .0,
+            at-start .pre .1 .1 .1 .1,
+          ),
+        ),
+      ),
+    )
 
 enum-known-answer : tie.Need-enum-known-answer
 enum-known-answer c = search needs
@@ -25,8 +38,20 @@ enum-known-reached c = search needs
 
 take-part-requires : tie.Need-take-part-requires
 take-part-requires c κs =
-    let g = run-left _ _ _ _ _ _ _ _ (c .before .before .before .before .before .before .before .before .before .before .before .before .take-met .ensures) _ _ (c .before .before .before .before .reached .given .1) in
-    (c .before .before .before .before .before .before .before .before .before .before .before .before .before .before .before .before .before .before .before .before .before .before .before .pre .0, (g .0 .standing, ((g .2, c .before .before .before .before .before .before .before .before .before .before .before .before .before .before .before .before .before .before .before .before .before .before .before .pre .1 .1 .0 .1), c .before .before .before .before .before .before .before .before .before .before .before .before .take-met .kept .1 .1 .1 .1 .1 .1 .1 .1 .0 ∙ c .before .before .before .before .before .before .before .before .before .before .before .before .before .before .before .before .before .before .before .before .before .before .before .pre .1 .1 .1 .0)))
+    let at-reached = c .before .before .before .before in
+    let at-take-met = at-reached .before .before .before .before .before .before .before .before in
+    let at-slice-known = at-take-met .before .before .before .before .before .before .before .before in
+    let at-start = at-slice-known .before .before .before in
+    let g = run-left _ _ _ _ _ _ _ _ (at-take-met .take-met .ensures) _ _ (at-reached .reached .given .1) in (
+      at-start .pre .0,
+      (
+        g .0 .standing,
+        (
+          (g .2, at-start .pre .1 .1 .0 .1),
+          at-take-met .take-met .kept .1 .1 .1 .1 .1 .1 .1 .1 .0 ∙ at-start .pre .1 .1 .1 .0,
+        ),
+      ),
+    )
 
 same-length : tie.Need-same-length
 same-length c = search needs
@@ -40,7 +65,9 @@ same-length-3 c = search needs
 returns-2 : tie.Need-returns-2
 unfolding RunBy
 returns-2 c =
-    run-ended _ _ _ _ _ _ _ _ (c .before .before .before .before .before .before .before .before .before .take-met .ensures) _ (c .before .answer .given .1)
+    let at-answer = c .before in
+    let at-take-met = at-answer .before .before .before .before .before .before .before .before in
+    run-ended _ _ _ _ _ _ _ _ (at-take-met .take-met .ensures) _ (at-answer .answer .given .1)
 
 same-length-4 : tie.Need-same-length-4
 same-length-4 c = search needs
@@ -53,8 +80,11 @@ same-length-6 c = search needs
 
 returns-3 : tie.Need-returns-3
 returns-3 c =
-    let g = run-left _ _ _ _ _ _ _ _ (c .before .before .before .before .before .before .before .before .before .before .before .before .before .before .before .before .before .before .before .take-met .ensures) _ _ (c .before .before .before .before .before .before .before .before .before .before .before .reached .given .1) in
-    run-then _ _ _ _ _ _ (g .0) _ _ _ _ (c .before .before .before .before .before .before .take-part .ensures)
+    let at-take-part = c .before .before .before .before .before .before in
+    let at-reached = at-take-part .before .before .before .before .before in
+    let at-take-met = at-reached .before .before .before .before .before .before .before .before in
+    let g = run-left _ _ _ _ _ _ _ _ (at-take-met .take-met .ensures) _ _ (at-reached .reached .given .1) in
+    run-then _ _ _ _ _ _ (g .0) _ _ _ _ (at-take-part .take-part .ensures)
 
 pub take-stretch-spec : {M : Type 1} → statement M
 take-stretch-spec =

@@ -13,7 +13,15 @@ shared-slice-read-e c = search needs
 
 take-event-requires : tie.Need-take-event-requires
 take-event-requires c κs =
-    (c .before .before .before .before .before .before .before .before .before .before .before .before .before .pre .0, (out-reached (regular _ (indexed-rules (c .before .before .before .before .before .before .before .before .before .before .before .before .before .pre .0))) (c .before .before .before .before .before .before .before .before .before .before .before .before .before .pre .1 .1 .1 .out) .standing, c .before .before .before .before .before .before .before .before .before .before .before .before .before .pre .1 .0 .1))
+    let at-slice-known3 = c .before .before .before .before .before .before .before .before in
+    let at-start = at-slice-known3 .before .before .before .before .before in (
+      at-start .pre .0,
+      (
+        out-reached (regular _ (indexed-rules (at-start .pre .0)))
+            (at-start .pre .1 .1 .1 .out) .standing,
+        at-start .pre .1 .0 .1,
+      ),
+    )
 
 enum-known-number : tie.Need-enum-known-number
 enum-known-number c = search needs
@@ -23,25 +31,55 @@ enum-known-reached c = search needs
 
 pick-up-requires : tie.Need-pick-up-requires
 pick-up-requires c κs =
-    (out-shape (regular _ (indexed-rules (c .before .before .before .before .before .before .before .before .before .before .before .before .before .before .before .before .before .before .before .before .before .before .before .before .before .before .before .before .pre .0))) (c .before .before .before .before .before .before .before .before .before .before .before .before .before .before .before .before .before .before .before .before .before .before .before .before .before .before .before .before .pre .1 .1 .1 .out) (c .before .before .before .before .before .before .before .before .before .before .before .before .before .before .before .before .before .before .before .before .before .before .before .before .before .before .before .before .pre .1 .1 .0 .0) _ _ _ (c .before .before .before .before .before .before .before .before .before .before .before .before .before .before .take-event .ensures) _ (c .before .before .before .before .before .before .reached .given .1) (c .before .before .before .before .before .before .before .before .before .before .before .before .before .before .before .before .before .before .before .before .before .before .before .before .before .before .before .before .pre .1 .0 .0), out-room (regular _ (indexed-rules (c .before .before .before .before .before .before .before .before .before .before .before .before .before .before .before .before .before .before .before .before .before .before .before .before .before .before .before .before .pre .0))) (c .before .before .before .before .before .before .before .before .before .before .before .before .before .before .before .before .before .before .before .before .before .before .before .before .before .before .before .before .pre .1 .1 .1 .out) (c .before .before .before .before .before .before .before .before .before .before .before .before .before .before .before .before .before .before .before .before .before .before .before .before .before .before .before .before .pre .1 .1 .0 .0) _ _ _ (c .before .before .before .before .before .before .before .before .before .before .before .before .before .before .take-event .ensures) _ (c .before .before .before .before .before .before .reached .given .1))
+    let at-reached = c .before .before .before .before .before .before in
+    let at-take-event = at-reached .before .before .before .before .before .before .before .before in
+    let at-slice-known4 = at-take-event .before .before .before .before .before .before .before .before in
+    let at-start = at-slice-known4 .before .before .before .before .before .before in (
+      out-shape (regular _ (indexed-rules (at-start .pre .0))) (at-start .pre .1 .1 .1 .out)
+          (at-start .pre .1 .1 .0 .0) _ _ _ (at-take-event .take-event .ensures) _ (at-reached .reached .given .1)
+          (at-start .pre .1 .0 .0),
+      out-room (regular _ (indexed-rules (at-start .pre .0))) (at-start .pre .1 .1 .1 .out)
+          (at-start .pre .1 .1 .0 .0) _ _ _ (at-take-event .take-event .ensures) _ (at-reached .reached .given .1),
+    )
 
 enum-told : tie.Need-enum-told
 enum-told c = search needs
 
 add-t45 : tie.Need-add-t45
 add-t45 c =
-    omega (arith, c .before .before .before .before .before .before .before .before .before .before .before .before .before .before .before .before .before .before .before .before .before .before .before .before .before .before .before .before .before .before .before .before .before .before .before .before .before .before .before .before .before .pre .1 .1 .0)
+    let at-slice-known11 = c .before .before .before .before .before .before .before .before in
+    let at-pick-up-arg2 = at-slice-known11 .before .before .before .before .before .before .before .before in
+    let at-area1 = at-pick-up-arg2 .before .before .before .before .before .before .before .before in
+    let at-slice-known6 = at-area1 .before .before .before .before .before .before .before .before in
+    let at-shared-slice-known = at-slice-known6 .before .before .before .before .before .before .before .before in
+    let at-start = at-shared-slice-known .before in
+    omega (arith, at-start .pre .1 .1 .0)
 
 enum-known-j : tie.Need-enum-known-j
 enum-known-j c = search needs
 
 link-requires : tie.Need-link-requires
 link-requires c κs =
-    learn-link (regular _ (indexed-rules (c .before .before .before .before .before .before .before .before .before .before .before .before .before .before .before .before .before .before .before .before .before .before .before .before .before .before .before .before .before .before .before .before .before .before .before .before .before .before .before .before .before .before .before .pre .0))) (c .before .before .before .before .before .before .before .before .before .before .before .before .before .before .before .before .before .before .before .before .before .before .before .before .before .before .before .before .before .before .before .before .before .before .before .before .before .before .before .before .before .before .before .pre .1 .1 .1 .out) (c .before .before .before .before .before .before .before .before .before .before .before .before .before .before .before .before .before .before .before .before .before .before .before .before .before .before .before .before .before .before .before .before .before .before .before .before .before .before .before .before .before .before .before .pre .1 .1 .0 .0) _ _ _ (c .before .before .before .before .before .before .before .before .before .before .before .before .before .before .before .before .before .before .before .before .before .before .before .before .before .before .before .before .before .take-event .ensures) _ (c .before .before .before .before .before .before .before .before .before .before .before .before .before .before .before .before .before .before .before .before .before .reached .given .1) (c .before .before .before .before .before .before .before .before .before .before .before .before .before .before .before .before .before .before .before .before .before .before .before .before .before .before .before .before .before .before .before .before .before .before .before .before .before .before .before .before .before .before .before .pre .1 .0 .0) _ _ _ _ _ _ (c .before .before .before .before .before .before .before .before .before .before .before .before .before .before .pick-up .ensures) _ _ (c .before .before .j .given .1)
+    let at-j = c .before .before in
+    let at-slice-known11 = at-j .before .before .before .before .before .before .before .before in
+    let at-pick-up = at-slice-known11 .before .before .before .before in
+    let at-reached = at-pick-up .before .before .before .before .before .before .before in
+    let at-take-event = at-reached .before .before .before .before .before .before .before .before in
+    let at-slice-known4 = at-take-event .before .before .before .before .before .before .before .before in
+    let at-start = at-slice-known4 .before .before .before .before .before .before in
+    learn-link (regular _ (indexed-rules (at-start .pre .0))) (at-start .pre .1 .1 .1 .out)
+    (at-start .pre .1 .1 .0 .0) _ _ _ (at-take-event .take-event .ensures) _ (at-reached .reached .given .1)
+    (at-start .pre .1 .0 .0) _ _ _ _ _ _ (at-pick-up .pick-up .ensures) _ _ (at-j .j .given .1)
 
 add-t49 : tie.Need-add-t49
 add-t49 c =
-    omega (arith, c .before .before .before .before .before .before .before .before .before .before .before .before .before .before .before .before .before .before .before .before .before .before .before .before .before .before .before .before .before .before .before .before .before .before .before .before .before .before .before .before .before .before .before .before .before .before .pre .1 .1 .0)
+    let at-area12 = c .before .before .before .before .before .before .before .before in
+    let at-sets = at-area12 .before .before .before .before .before .before .before .before in
+    let at-reached = at-sets .before .before .before .before .before .before .before .before in
+    let at-take-event = at-reached .before .before .before .before .before .before .before .before in
+    let at-slice-known4 = at-take-event .before .before .before .before .before .before .before .before in
+    let at-start = at-slice-known4 .before .before .before .before .before .before in
+    omega (arith, at-start .pre .1 .1 .0)
 
 same-length : tie.Need-same-length
 same-length c = search needs
@@ -54,9 +92,14 @@ same-length-3 c = search needs
 
 returns : tie.Need-returns
 returns c =
+    let at-number = c .before in
+    let at-take-event = at-number .before .before .before .before .before .before .before .before in
+    let at-slice-known4 = at-take-event .before .before .before .before .before .before .before .before in
+    let at-start = at-slice-known4 .before .before .before .before .before .before in
     record {
-      from = λ m i h. ended-refused _ _ _ _ _ _ _ _ (out-reached (regular _ (indexed-rules (c .before .before .before .before .before .before .before .before .before .before .before .before .before .before .before .before .before .before .before .before .before .before .before .pre .0))) h) (c .before .before .before .before .before .before .before .before .before .before .before .before .before .before .before .before .before .before .before .before .before .before .before .pre .1 .1 .0 .0) _ _ _ (c .before .before .before .before .before .before .before .before .before .take-event .ensures) _
-          (c .before .number .given .1);
+      from = λ m i h. ended-refused _ _ _ _ _ _ _ _ (out-reached (regular _ (indexed-rules
+          (at-start .pre .0))) h) (at-start .pre .1 .1 .0 .0) _ _ _ (at-take-event .take-event .ensures) _
+          (at-number .number .given .1);
     }
 
 same-length-4 : tie.Need-same-length-4
@@ -79,10 +122,18 @@ same-length-9 c = search needs
 
 returns-2 : tie.Need-returns-2
 returns-2 c =
+    let at-slice-known11 = c .before .before .before .before .before .before .before .before in
+    let at-pick-up = at-slice-known11 .before .before .before .before in
+    let at-reached = at-pick-up .before .before .before .before .before .before .before in
+    let at-take-event = at-reached .before .before .before .before .before .before .before .before in
+    let at-slice-known4 = at-take-event .before .before .before .before .before .before .before .before in
+    let at-start = at-slice-known4 .before .before .before .before .before .before in
     record {
-      from = λ m i h. let l = c .before .before .before .before .before .before .before .before .before .before .before .before .before .before .before .before .before .before .before .before .before .before .before .before .before .before .before .before .before .before .before .before .before .before .before .before .before .before .before .before .before .pre .1 .1 .0 .0 in (
-        learn-full (regular _ (indexed-rules (c .before .before .before .before .before .before .before .before .before .before .before .before .before .before .before .before .before .before .before .before .before .before .before .before .before .before .before .before .before .before .before .before .before .before .before .before .before .before .before .before .before .pre .0))) h (c .before .before .before .before .before .before .before .before .before .before .before .before .before .before .before .before .before .before .before .before .before .before .before .before .before .before .before .before .before .before .before .before .before .before .before .before .before .before .before .before .before .pre .1 .1 .0 .0) _ _ _ (c .before .before .before .before .before .before .before .before .before .before .before .before .before .before .before .before .before .before .before .before .before .before .before .before .before .before .before .take-event .ensures) _ (c .before .before .before .before .before .before .before .before .before .before .before .before .before .before .before .before .before .before .before .reached .given .1) (c .before .before .before .before .before .before .before .before .before .before .before .before .before .before .before .before .before .before .before .before .before .before .before .before .before .before .before .before .before .before .before .before .before .before .before .before .before .before .before .before .before .pre .1 .0 .0)
-            _ _ _ _ _ _ (c .before .before .before .before .before .before .before .before .before .before .before .before .pick-up .ensures) (c .enum-told .given .1),
+      from = λ m i h. let l = at-start .pre .1 .1 .0 .0 in (
+        learn-full (regular _ (indexed-rules
+            (at-start .pre .0))) h (at-start .pre .1 .1 .0 .0) _ _ _ (at-take-event .take-event .ensures) _
+            (at-reached .reached .given .1) (at-start .pre .1 .0 .0) _ _ _ _ _ _ (at-pick-up .pick-up .ensures)
+            (c .enum-told .given .1),
         omega arith,
         omega (arith, l),
       );
@@ -108,10 +159,20 @@ same-length-15 c = search needs
 
 returns-3 : tie.Need-returns-3
 returns-3 c =
+    let at-link = c .before .before in
+    let at-j = at-link .before .before .before in
+    let at-slice-known11 = at-j .before .before .before .before .before .before .before .before in
+    let at-pick-up = at-slice-known11 .before .before .before .before in
+    let at-reached = at-pick-up .before .before .before .before .before .before .before in
+    let at-take-event = at-reached .before .before .before .before .before .before .before .before in
+    let at-slice-known4 = at-take-event .before .before .before .before .before .before .before .before in
+    let at-start = at-slice-known4 .before .before .before .before .before .before in
     record {
-      from = λ m i h. let l = c .before .before .before .before .before .before .before .before .before .before .before .before .before .before .before .before .before .before .before .before .before .before .before .before .before .before .before .before .before .before .before .before .before .before .before .before .before .before .before .before .before .before .before .before .before .before .pre .1 .1 .0 .0 in (
-        learn-kept (regular _ (indexed-rules (c .before .before .before .before .before .before .before .before .before .before .before .before .before .before .before .before .before .before .before .before .before .before .before .before .before .before .before .before .before .before .before .before .before .before .before .before .before .before .before .before .before .before .before .before .before .before .pre .0))) h (c .before .before .before .before .before .before .before .before .before .before .before .before .before .before .before .before .before .before .before .before .before .before .before .before .before .before .before .before .before .before .before .before .before .before .before .before .before .before .before .before .before .before .before .before .before .before .pre .1 .1 .0 .0) _ _ _ (c .before .before .before .before .before .before .before .before .before .before .before .before .before .before .before .before .before .before .before .before .before .before .before .before .before .before .before .before .before .before .before .before .take-event .ensures) _ (c .before .before .before .before .before .before .before .before .before .before .before .before .before .before .before .before .before .before .before .before .before .before .before .before .reached .given .1) (c .before .before .before .before .before .before .before .before .before .before .before .before .before .before .before .before .before .before .before .before .before .before .before .before .before .before .before .before .before .before .before .before .before .before .before .before .before .before .before .before .before .before .before .before .before .before .pre .1 .0 .0)
-            _ _ _ _ _ _ (c .before .before .before .before .before .before .before .before .before .before .before .before .before .before .before .before .before .pick-up .ensures) _ _ (c .before .before .before .before .before .j .given .1) _ (c .before .before .link .ensures),
+      from = λ m i h. let l = at-start .pre .1 .1 .0 .0 in (
+        learn-kept (regular _ (indexed-rules
+            (at-start .pre .0))) h (at-start .pre .1 .1 .0 .0) _ _ _ (at-take-event .take-event .ensures) _
+            (at-reached .reached .given .1) (at-start .pre .1 .0 .0) _ _ _ _ _ _ (at-pick-up .pick-up .ensures) _ _
+            (at-j .j .given .1) _ (at-link .link .ensures),
         omega arith,
         omega (arith, l),
       );

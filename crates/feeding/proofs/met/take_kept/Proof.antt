@@ -17,15 +17,24 @@ alphabet-requires c κs = search needs
 
 slice-write-starts : tie.Need-slice-write-starts
 slice-write-starts c =
-    omega (arith, (c .before .before .before .before .before .before .before .before .before .before .pre .1 .1 .0 .1))
+    let at-shared-slice-known2 = c .before .before .before .before .before .before .before .before in
+    let at-start = at-shared-slice-known2 .before .before in
+    omega (arith, (at-start .pre .1 .1 .0 .1))
 
 pick-up-requires : tie.Need-pick-up-requires
-pick-up-requires c κs = (
-  first-shape (regular _ (indexed-rules (c .before .before .before .before .before .before .before .before .before .before .before .before .before .before .before .pre .0))) (c .before .before .before .before .before .before .before .before .before .before .before .before .before .before .before .args .state) _ _ (c .before .before .before .before .before .before .before .before .before .before .before .before .before .before .before .pre .1 .0) _ _ _ (c .before .before .before .before .before .before .before .before .before .before .before .before .before .before .before .pre .1 .1 .0 .0)
-      (length-set (c .before .before .before .before .before .before .before .before .before .before .before .before .before .before .before .args .starts .now) 0 0 ∙ c .before .before .before .before .before .before .before .before .before .before .before .before .before .before .before .pre .1 .1 .0 .1) (c .before .before .before .before .before .before .before .before .before .before .before .before .before .before .before .pre .1 .1 .0 .2)
-      (getD-set-same (c .before .before .before .before .before .before .before .before .before .before .before .before .before .before .before .args .starts .now) 0 0 0 (omega (arith, (c .before .before .before .before .before .before .before .before .before .before .before .before .before .before .before .pre .1 .1 .0 .1)))) (events-few (c .before .before .before .before .before .before .before .before .before .before .before .before .before .before .before .pre .0)) (c .before .before .before .before .before .alphabet .ensures .0),
-  laid-room (regular _ (indexed-rules (c .before .before .before .before .before .before .before .before .before .before .before .before .before .before .before .pre .0))) (c .before .before .before .before .before .before .before .before .before .before .before .before .before .before .before .args .state) _ _ (c .before .before .before .before .before .before .before .before .before .before .before .before .before .before .before .pre .1 .0 .laid),
-)
+pick-up-requires c κs =
+    let at-alphabet = c .before .before .before .before .before in
+    let at-shared-slice-known2 = at-alphabet .before .before .before .before .before .before .before .before in
+    let at-start = at-shared-slice-known2 .before .before in (
+      first-shape (regular _ (indexed-rules (at-start .pre .0))) (at-start .args .state) _ _ (at-start .pre .1 .0) _
+          _ _ (at-start .pre .1 .1 .0 .0) (length-set (at-start .args .starts .now) 0 0 ∙ at-start .pre .1 .1 .0 .1)
+          (at-start .pre .1 .1 .0 .2) (getD-set-same (at-start .args .starts .now) 0 0 0 (omega (
+            arith,
+            (at-start .pre .1 .1 .0 .1),
+          ))) (events-few (at-start .pre .0)) (at-alphabet .alphabet .ensures .0),
+      laid-room
+          (regular _ (indexed-rules (at-start .pre .0))) (at-start .args .state) _ _ (at-start .pre .1 .0 .laid),
+    )
 
 enum-told : tie.Need-enum-told
 enum-told c = search needs
@@ -34,82 +43,152 @@ enum-known-n : tie.Need-enum-known-n
 enum-known-n c = search needs
 
 take-turns-requires : tie.Need-take-turns-requires
-take-turns-requires c κs = (
-  c .before .before .before .before .before .before .before .before .before .before .before .before .before .before .before .before .before .before .before .before .before .before .before .before .before .before .before .before .before .before .before .before .before .before .before .pre .0,
-  (
-    (c .before .before .before .before .before .before .before .before .before .before .before .before .before .before .before .before .before .before .before .before .before .before .before .before .before .alphabet .ensures .0, c .before .before .before .before .before .before .before .before .before .before .before .before .before .before .before .before .before .before .before .before .before .before .before .before .before .before .before .before .before .before .before .before .before .before .before .pre .1 .1 .1 .1),
-    (
-      c .before .before .before .before .before .before .before .before .before .before .before .before .before .before .before .before .before .before .before .before .before .before .before .before .before .before .before .before .before .before .before .before .before .before .before .pre .1 .1 .1 .0,
-      first-goes (regular _ (indexed-rules (c .before .before .before .before .before .before .before .before .before .before .before .before .before .before .before .before .before .before .before .before .before .before .before .before .before .before .before .before .before .before .before .before .before .before .before .pre .0))) (c .before .before .before .before .before .before .before .before .before .before .before .before .before .before .before .before .before .before .before .before .before .before .before .before .before .before .before .before .before .before .before .before .before .before .before .args .state) _ _ (c .before .before .before .before .before .before .before .before .before .before .before .before .before .before .before .before .before .before .before .before .before .before .before .before .before .before .before .before .before .before .before .before .before .before .before .pre .1 .0) _ _ _ (c .before .before .before .before .before .before .before .before .before .before .before .before .before .before .before .before .before .before .before .before .before .before .before .before .before .before .before .before .before .before .before .before .before .before .before .pre .1 .1 .0 .0)
-          (length-set (c .before .before .before .before .before .before .before .before .before .before .before .before .before .before .before .before .before .before .before .before .before .before .before .before .before .before .before .before .before .before .before .before .before .before .before .args .starts .now) 0 0 ∙ c .before .before .before .before .before .before .before .before .before .before .before .before .before .before .before .before .before .before .before .before .before .before .before .before .before .before .before .before .before .before .before .before .before .before .before .pre .1 .1 .0 .1) (c .before .before .before .before .before .before .before .before .before .before .before .before .before .before .before .before .before .before .before .before .before .before .before .before .before .before .before .before .before .before .before .before .before .before .before .pre .1 .1 .0 .2)
-          (getD-set-same (c .before .before .before .before .before .before .before .before .before .before .before .before .before .before .before .before .before .before .before .before .before .before .before .before .before .before .before .before .before .before .before .before .before .before .before .args .starts .now) 0 0 0 (omega (arith, (c .before .before .before .before .before .before .before .before .before .before .before .before .before .before .before .before .before .before .before .before .before .before .before .before .before .before .before .before .before .before .before .before .before .before .before .pre .1 .1 .0 .1)))) (events-few (c .before .before .before .before .before .before .before .before .before .before .before .before .before .before .before .before .before .before .before .before .before .before .before .before .before .before .before .before .before .before .before .before .before .before .before .pre .0)) (c .before .before .before .before .before .before .before .before .before .before .before .before .before .before .before .before .before .before .before .before .before .before .before .before .before .alphabet .ensures .0)
-          _ _ _ _ _ _ (c .before .before .before .before .before .before .before .before .before .before .before .before .before .before .before .before .before .before .before .pick-up .ensures) _ _ (c .before .before .before .before .before .before .before .n .given .1) _ _,
-    ),
-  ),
-)
+take-turns-requires c κs =
+    let at-n = c .before .before .before .before .before .before .before in
+    let at-slice-known8 = at-n .before .before .before .before .before .before .before .before in
+    let at-pick-up = at-slice-known8 .before .before .before .before in
+    let at-alphabet = at-pick-up .before .before .before .before .before .before in
+    let at-shared-slice-known2 = at-alphabet .before .before .before .before .before .before .before .before in
+    let at-start = at-shared-slice-known2 .before .before in (
+      at-start .pre .0,
+      (
+        (at-alphabet .alphabet .ensures .0, at-start .pre .1 .1 .1 .1),
+        (
+          at-start .pre .1 .1 .1 .0,
+          first-goes (regular _ (indexed-rules (at-start .pre .0))) (at-start .args .state) _ _ (at-start .pre .1 .0) _ _
+              _ (at-start .pre .1 .1 .0 .0) (length-set (at-start .args .starts .now) 0 0 ∙ at-start .pre .1 .1 .0 .1)
+              (at-start .pre .1 .1 .0 .2) (getD-set-same (at-start .args .starts .now) 0 0 0 (omega (
+                arith,
+                (at-start .pre .1 .1 .0 .1),
+              ))) (events-few (at-start .pre .0)) (at-alphabet .alphabet .ensures .0) _ _ _ _ _ _
+              (at-pick-up .pick-up .ensures) _ _ (at-n .n .given .1) _ _,
+        ),
+      ),
+    )
 
 same-length : tie.Need-same-length
 same-length c =
-    c .before .before .before .before .before .before .before .before .before .before .before .before .pick-up .kept .1 .1 .1 .0
+    let at-slice-known8 = c .before .before .before .before .before .before .before .before in
+    let at-pick-up = at-slice-known8 .before .before .before .before in
+    at-pick-up .pick-up .kept .1 .1 .1 .0
 
 same-length-2 : tie.Need-same-length-2
 same-length-2 c =
-    c .before .before .before .before .before .before .before .before .before .before .before .before .pick-up .kept .1 .1 .1 .1 .0 ∙ length-set (c .before .before .before .before .before .before .before .before .before .before .before .before .before .before .before .before .before .before .before .before .before .before .before .before .before .before .before .before .args .starts .now) 0 0
+    let at-slice-known8 = c .before .before .before .before .before .before .before .before in
+    let at-pick-up = at-slice-known8 .before .before .before .before in
+    let at-shared-slice-known3 = at-pick-up .before .before .before .before .before .before .before .before in
+    let at-start = at-shared-slice-known3 .before .before .before .before .before .before .before .before in
+    at-pick-up .pick-up .kept .1 .1 .1 .1 .0 ∙ length-set (at-start .args .starts .now) 0 0
 
 same-length-3 : tie.Need-same-length-3
 same-length-3 c =
-    c .before .before .before .before .before .before .before .before .before .before .before .before .pick-up .kept .1 .1 .1 .1 .1 .0
+    let at-slice-known8 = c .before .before .before .before .before .before .before .before in
+    let at-pick-up = at-slice-known8 .before .before .before .before in
+    at-pick-up .pick-up .kept .1 .1 .1 .1 .1 .0
 
 same-length-4 : tie.Need-same-length-4
 same-length-4 c =
-    c .before .before .before .before .before .before .before .before .before .before .before .before .pick-up .kept .1 .1 .1 .1 .1 .1 .1 .0
+    let at-slice-known8 = c .before .before .before .before .before .before .before .before in
+    let at-pick-up = at-slice-known8 .before .before .before .before in
+    at-pick-up .pick-up .kept .1 .1 .1 .1 .1 .1 .1 .0
 
 same-length-5 : tie.Need-same-length-5
 same-length-5 c =
-    c .before .before .before .before .before .before .before .before .before .before .before .before .pick-up .kept .1 .1 .1 .1 .1 .1 .1 .1 .0
+    let at-slice-known8 = c .before .before .before .before .before .before .before .before in
+    let at-pick-up = at-slice-known8 .before .before .before .before in
+    at-pick-up .pick-up .kept .1 .1 .1 .1 .1 .1 .1 .1 .0
 
 returns : tie.Need-returns
 unfolding RunBy
-returns c = (
-  first-full (regular _ (indexed-rules (c .before .before .before .before .before .before .before .before .before .before .before .before .before .before .before .before .before .before .before .before .before .before .before .before .before .before .before .before .pre .0))) (c .before .before .before .before .before .before .before .before .before .before .before .before .before .before .before .before .before .before .before .before .before .before .before .before .before .before .before .before .args .state) _ _ (c .before .before .before .before .before .before .before .before .before .before .before .before .before .before .before .before .before .before .before .before .before .before .before .before .before .before .before .before .pre .1 .0) _ _ _ (c .before .before .before .before .before .before .before .before .before .before .before .before .before .before .before .before .before .before .before .before .before .before .before .before .before .before .before .before .pre .1 .1 .0 .0)
-      (length-set (c .before .before .before .before .before .before .before .before .before .before .before .before .before .before .before .before .before .before .before .before .before .before .before .before .before .before .before .before .args .starts .now) 0 0 ∙ c .before .before .before .before .before .before .before .before .before .before .before .before .before .before .before .before .before .before .before .before .before .before .before .before .before .before .before .before .pre .1 .1 .0 .1) (c .before .before .before .before .before .before .before .before .before .before .before .before .before .before .before .before .before .before .before .before .before .before .before .before .before .before .before .before .pre .1 .1 .0 .2)
-      (getD-set-same (c .before .before .before .before .before .before .before .before .before .before .before .before .before .before .before .before .before .before .before .before .before .before .before .before .before .before .before .before .args .starts .now) 0 0 0 (omega (arith, (c .before .before .before .before .before .before .before .before .before .before .before .before .before .before .before .before .before .before .before .before .before .before .before .before .before .before .before .before .pre .1 .1 .0 .1)))) (events-few (c .before .before .before .before .before .before .before .before .before .before .before .before .before .before .before .before .before .before .before .before .before .before .before .before .before .before .before .before .pre .0)) (c .before .before .before .before .before .before .before .before .before .before .before .before .before .before .before .before .before .before .alphabet .ensures .0)
-      _ _ _ _ _ _ (c .before .before .before .before .before .before .before .before .before .before .before .before .pick-up .ensures) (c .enum-told .given .1) _ _,
-  omega arith,
-  c .before .before .before .before .before .before .before .before .before .before .before .before .before .before .before .before .before .before .before .before .before .before .before .before .before .before .before .before .pre .1 .1 .1 .0,
-)
+returns c =
+    let at-slice-known8 = c .before .before .before .before .before .before .before .before in
+    let at-pick-up = at-slice-known8 .before .before .before .before in
+    let at-alphabet = at-pick-up .before .before .before .before .before .before in
+    let at-shared-slice-known2 = at-alphabet .before .before .before .before .before .before .before .before in
+    let at-start = at-shared-slice-known2 .before .before in (
+      first-full (regular _ (indexed-rules (at-start .pre .0))) (at-start .args .state) _ _ (at-start .pre .1 .0) _ _
+          _ (at-start .pre .1 .1 .0 .0) (length-set (at-start .args .starts .now) 0 0 ∙ at-start .pre .1 .1 .0 .1)
+          (at-start .pre .1 .1 .0 .2) (getD-set-same (at-start .args .starts .now) 0 0 0 (omega (
+            arith,
+            (at-start .pre .1 .1 .0 .1),
+          ))) (events-few (at-start .pre .0)) (at-alphabet .alphabet .ensures .0) _ _ _ _ _ _
+          (at-pick-up .pick-up .ensures) (c .enum-told .given .1) _ _,
+      omega arith,
+      at-start .pre .1 .1 .1 .0,
+    )
 
 same-length-6 : tie.Need-same-length-6
 same-length-6 c =
-    c .before .before .before .before .before .before .before .before .before .before .before .before .take-turns .kept .1 .1 .1 .1 .1 .0 ∙ c .before .before .before .before .before .before .before .before .before .before .before .before .before .before .before .before .before .before .before .before .before .before .before .before .before .before .before .before .before .before .before .before .pick-up .kept .1 .1 .1 .0
+    let at-slice-known13 = c .before .before .before .before .before .before .before .before in
+    let at-take-turns = at-slice-known13 .before .before .before .before in
+    let at-n = at-take-turns .before .before .before .before .before .before .before .before in
+    let at-slice-known8 = at-n .before .before .before .before .before .before .before .before in
+    let at-pick-up = at-slice-known8 .before .before .before .before in
+    at-take-turns .take-turns .kept .1 .1 .1 .1 .1 .0 ∙ at-pick-up .pick-up .kept .1 .1 .1 .0
 
 same-length-7 : tie.Need-same-length-7
 same-length-7 c =
-    c .before .before .before .before .before .before .before .before .before .before .before .before .take-turns .kept .1 .1 .1 .1 .1 .1 .0 ∙ c .before .before .before .before .before .before .before .before .before .before .before .before .before .before .before .before .before .before .before .before .before .before .before .before .before .before .before .before .before .before .before .before .pick-up .kept .1 .1 .1 .1 .0 ∙ length-set (c .before .before .before .before .before .before .before .before .before .before .before .before .before .before .before .before .before .before .before .before .before .before .before .before .before .before .before .before .before .before .before .before .before .before .before .before .before .before .before .before .before .before .before .before .before .before .before .before .args .starts .now) 0 0
+    let at-slice-known13 = c .before .before .before .before .before .before .before .before in
+    let at-take-turns = at-slice-known13 .before .before .before .before in
+    let at-n = at-take-turns .before .before .before .before .before .before .before .before in
+    let at-slice-known8 = at-n .before .before .before .before .before .before .before .before in
+    let at-pick-up = at-slice-known8 .before .before .before .before in
+    let at-shared-slice-known3 = at-pick-up .before .before .before .before .before .before .before .before in
+    let at-start = at-shared-slice-known3 .before .before .before .before .before .before .before .before in
+    at-take-turns .take-turns .kept .1 .1 .1 .1 .1 .1 .0 ∙ at-pick-up .pick-up .kept .1 .1 .1 .1 .0 ∙ length-set
+    (at-start .args .starts .now) 0 0
 
 same-length-8 : tie.Need-same-length-8
 same-length-8 c =
-    c .before .before .before .before .before .before .before .before .before .before .before .before .take-turns .kept .1 .1 .1 .1 .1 .1 .1 .0 ∙ c .before .before .before .before .before .before .before .before .before .before .before .before .before .before .before .before .before .before .before .before .before .before .before .before .before .before .before .before .before .before .before .before .pick-up .kept .1 .1 .1 .1 .1 .0
+    let at-slice-known13 = c .before .before .before .before .before .before .before .before in
+    let at-take-turns = at-slice-known13 .before .before .before .before in
+    let at-n = at-take-turns .before .before .before .before .before .before .before .before in
+    let at-slice-known8 = at-n .before .before .before .before .before .before .before .before in
+    let at-pick-up = at-slice-known8 .before .before .before .before in
+    at-take-turns .take-turns .kept .1 .1 .1 .1 .1 .1 .1 .0 ∙ at-pick-up .pick-up .kept .1 .1 .1 .1 .1 .0
 
 same-length-9 : tie.Need-same-length-9
 same-length-9 c =
-    c .before .before .before .before .before .before .before .before .before .before .before .before .take-turns .kept .1 .1 .1 .1 .1 .1 .1 .1 .1 .1 .0 ∙ c .before .before .before .before .before .before .before .before .before .before .before .before .before .before .before .before .before .before .before .before .before .before .before .before .before .before .before .before .before .before .before .before .pick-up .kept .1 .1 .1 .1 .1 .1 .1 .0
+    let at-slice-known13 = c .before .before .before .before .before .before .before .before in
+    let at-take-turns = at-slice-known13 .before .before .before .before in
+    let at-n = at-take-turns .before .before .before .before .before .before .before .before in
+    let at-slice-known8 = at-n .before .before .before .before .before .before .before .before in
+    let at-pick-up = at-slice-known8 .before .before .before .before in
+    at-take-turns .take-turns .kept .1 .1 .1 .1 .1 .1 .1 .1 .1 .1 .0 ∙
+    at-pick-up .pick-up .kept .1 .1 .1 .1 .1 .1 .1 .0
 
 same-length-10 : tie.Need-same-length-10
 same-length-10 c =
-    c .before .before .before .before .before .before .before .before .before .before .before .before .take-turns .kept .1 .1 .1 .1 .1 .1 .1 .1 .1 .1 .1 .0 ∙ c .before .before .before .before .before .before .before .before .before .before .before .before .before .before .before .before .before .before .before .before .before .before .before .before .before .before .before .before .before .before .before .before .pick-up .kept .1 .1 .1 .1 .1 .1 .1 .1 .0
+    let at-slice-known13 = c .before .before .before .before .before .before .before .before in
+    let at-take-turns = at-slice-known13 .before .before .before .before in
+    let at-n = at-take-turns .before .before .before .before .before .before .before .before in
+    let at-slice-known8 = at-n .before .before .before .before .before .before .before .before in
+    let at-pick-up = at-slice-known8 .before .before .before .before in
+    at-take-turns .take-turns .kept .1 .1 .1 .1 .1 .1 .1 .1 .1 .1 .1 .0 ∙
+    at-pick-up .pick-up .kept .1 .1 .1 .1 .1 .1 .1 .1 .0
 
 same-length-11 : tie.Need-same-length-11
 same-length-11 c =
-    c .before .before .before .before .before .before .before .before .before .before .before .before .take-turns .kept .1 .1 .1 .1 .1 .1 .1 .1 .1 .1 .1 .1 .1 .1 .0
+    let at-slice-known13 = c .before .before .before .before .before .before .before .before in
+    let at-take-turns = at-slice-known13 .before .before .before .before in
+    at-take-turns .take-turns .kept .1 .1 .1 .1 .1 .1 .1 .1 .1 .1 .1 .1 .1 .1 .0
 
 returns-2 : tie.Need-returns-2
 returns-2 c =
-    goes-run (c .before .before .before .before .before .before .before .before .before .before .before .before .take-turns .ensures)
-    (first-kept (regular _ (indexed-rules (c .before .before .before .before .before .before .before .before .before .before .before .before .before .before .before .before .before .before .before .before .before .before .before .before .before .before .before .before .before .before .before .before .before .before .before .before .before .before .before .before .before .before .before .before .before .before .before .before .pre .0))) (c .before .before .before .before .before .before .before .before .before .before .before .before .before .before .before .before .before .before .before .before .before .before .before .before .before .before .before .before .before .before .before .before .before .before .before .before .before .before .before .before .before .before .before .before .before .before .before .before .args .state) _ _ (c .before .before .before .before .before .before .before .before .before .before .before .before .before .before .before .before .before .before .before .before .before .before .before .before .before .before .before .before .before .before .before .before .before .before .before .before .before .before .before .before .before .before .before .before .before .before .before .before .pre .1 .0) _ _ _ (c .before .before .before .before .before .before .before .before .before .before .before .before .before .before .before .before .before .before .before .before .before .before .before .before .before .before .before .before .before .before .before .before .before .before .before .before .before .before .before .before .before .before .before .before .before .before .before .before .pre .1 .1 .0 .0)
-    (length-set (c .before .before .before .before .before .before .before .before .before .before .before .before .before .before .before .before .before .before .before .before .before .before .before .before .before .before .before .before .before .before .before .before .before .before .before .before .before .before .before .before .before .before .before .before .before .before .before .before .args .starts .now) 0 0 ∙ c .before .before .before .before .before .before .before .before .before .before .before .before .before .before .before .before .before .before .before .before .before .before .before .before .before .before .before .before .before .before .before .before .before .before .before .before .before .before .before .before .before .before .before .before .before .before .before .before .pre .1 .1 .0 .1) (c .before .before .before .before .before .before .before .before .before .before .before .before .before .before .before .before .before .before .before .before .before .before .before .before .before .before .before .before .before .before .before .before .before .before .before .before .before .before .before .before .before .before .before .before .before .before .before .before .pre .1 .1 .0 .2)
-    (getD-set-same (c .before .before .before .before .before .before .before .before .before .before .before .before .before .before .before .before .before .before .before .before .before .before .before .before .before .before .before .before .before .before .before .before .before .before .before .before .before .before .before .before .before .before .before .before .before .before .before .before .args .starts .now) 0 0 0 (omega (arith, (c .before .before .before .before .before .before .before .before .before .before .before .before .before .before .before .before .before .before .before .before .before .before .before .before .before .before .before .before .before .before .before .before .before .before .before .before .before .before .before .before .before .before .before .before .before .before .before .before .pre .1 .1 .0 .1)))) (events-few (c .before .before .before .before .before .before .before .before .before .before .before .before .before .before .before .before .before .before .before .before .before .before .before .before .before .before .before .before .before .before .before .before .before .before .before .before .before .before .before .before .before .before .before .before .before .before .before .before .pre .0)) (c .before .before .before .before .before .before .before .before .before .before .before .before .before .before .before .before .before .before .before .before .before .before .before .before .before .before .before .before .before .before .before .before .before .before .before .before .before .before .alphabet .ensures .0)
-    _ _ _ _ _ _ (c .before .before .before .before .before .before .before .before .before .before .before .before .before .before .before .before .before .before .before .before .before .before .before .before .before .before .before .before .before .before .before .before .pick-up .ensures) _ _ (c .before .before .before .before .before .before .before .before .before .before .before .before .before .before .before .before .before .before .before .before .n .given .1) _ _)
+    let at-slice-known13 = c .before .before .before .before .before .before .before .before in
+    let at-take-turns = at-slice-known13 .before .before .before .before in
+    let at-n = at-take-turns .before .before .before .before .before .before .before .before in
+    let at-slice-known8 = at-n .before .before .before .before .before .before .before .before in
+    let at-pick-up = at-slice-known8 .before .before .before .before in
+    let at-alphabet = at-pick-up .before .before .before .before .before .before in
+    let at-shared-slice-known2 = at-alphabet .before .before .before .before .before .before .before .before in
+    let at-start = at-shared-slice-known2 .before .before in
+    goes-run (at-take-turns .take-turns .ensures) (first-kept (regular _ (indexed-rules (at-start .pre .0)))
+    (at-start .args .state) _ _ (at-start .pre .1 .0) _ _ _ (at-start .pre .1 .1 .0 .0) (length-set
+    (at-start .args .starts .now) 0 0 ∙ at-start .pre .1 .1 .0 .1) (at-start .pre .1 .1 .0 .2) (getD-set-same
+    (at-start .args .starts .now) 0 0 0 (omega (arith, (at-start .pre .1 .1 .0 .1)))) (events-few
+    (at-start .pre .0)) (at-alphabet .alphabet .ensures .0) _ _ _ _ _ _ (at-pick-up .pick-up .ensures) _ _
+    (at-n .n .given .1) _ _)
 
 pub take-kept-spec : {M : Type 1} → statement M
 take-kept-spec =

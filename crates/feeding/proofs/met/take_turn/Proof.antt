@@ -2,18 +2,31 @@
 use native.Mathlib.Omega.{arith}
 use Rattle.index.specs.Facts.{indexed-rules}
 use Rattle.monitor_spec.specs.Regular.Laws.{regular}
-use Rattle.feeding.proofs.met.Laws.{going-within, going-stands, going-room, going-out, out-reached, turn-learnt}
+use Rattle.feeding.proofs.met.Laws.{going-within, going-stands, going-room, going-out, out-reached}
+use Rattle.feeding.proofs.met.Laws.{turn-learnt}
 use borrow.Author.Needs.{needs}
 use Rattle.feeding.proofs.met.take_turn.Statement.{statement}
 use Rattle.feeding.proofs.met.take_turn.Tie as tie
 
 follow-requires : tie.Need-follow-requires
 follow-requires c κs =
-    (going-within (regular _ (indexed-rules (c .before .before .before .before .before .before .before .before .before .before .before .pre .0))) (c .before .before .before .before .before .before .before .before .before .before .before .pre .1 .1 .1 .going) (c .before .before .before .before .before .before .before .before .before .before .before .pre .1 .0 .0), (c .before .before .before .before .before .before .before .before .before .before .before .pre .1 .1 .0 .0, omega arith))
+    let at-slice-known = c .before .before .before .before .before .before .before .before in
+    let at-start = at-slice-known .before .before .before in (
+      going-within (regular _ (indexed-rules (at-start .pre .0))) (at-start .pre .1 .1 .1 .going)
+          (at-start .pre .1 .0 .0),
+      (at-start .pre .1 .1 .0 .0, omega arith),
+    )
 
 lay-out-requires : tie.Need-lay-out-requires
 lay-out-requires c κs =
-    (going-stands (regular _ (indexed-rules (c .before .before .before .before .before .before .before .before .before .before .before .before .before .before .before .before .before .pre .0))) (c .before .before .before .before .before .before .before .before .before .before .before .before .before .before .before .before .before .pre .1 .1 .1 .going) (c .before .before .before .before .before .before .before .before .before .before .before .before .before .before .before .before .before .pre .1 .0 .0) (c .before .before .before .before .before .follow .ensures), going-room (regular _ (indexed-rules (c .before .before .before .before .before .before .before .before .before .before .before .before .before .before .before .before .before .pre .0))) (c .before .before .before .before .before .before .before .before .before .before .before .before .before .before .before .before .before .pre .1 .1 .1 .going) (c .before .before .before .before .before .before .before .before .before .before .before .before .before .before .before .before .before .pre .1 .0 .0) (c .before .before .before .before .before .follow .ensures))
+    let at-follow = c .before .before .before .before .before in
+    let at-slice-known2 = at-follow .before .before .before .before .before .before .before .before in
+    let at-start = at-slice-known2 .before .before .before .before in (
+      going-stands (regular _ (indexed-rules (at-start .pre .0))) (at-start .pre .1 .1 .1 .going)
+          (at-start .pre .1 .0 .0) (at-follow .follow .ensures),
+      going-room (regular _ (indexed-rules (at-start .pre .0)))
+          (at-start .pre .1 .1 .1 .going) (at-start .pre .1 .0 .0) (at-follow .follow .ensures),
+    )
 
 same-length : tie.Need-same-length
 same-length c = search needs
@@ -32,29 +45,41 @@ same-length-5 c = search needs
 
 returns : tie.Need-returns
 returns c =
+    let at-lay-out = c .before .before .before .before .before in
+    let at-follow = at-lay-out .before .before .before .before .before .before in
+    let at-slice-known2 = at-follow .before .before .before .before .before .before .before .before in
+    let at-start = at-slice-known2 .before .before .before .before in
     record {
       from = λ m i h. (
-        out-reached (regular _ (indexed-rules (c .before .before .before .before .before .before .before .before .before .before .before .before .before .before .before .before .before .before .before .before .before .before .before .pre .0))) (going-out (regular _ (indexed-rules (c .before .before .before .before .before .before .before .before .before .before .before .before .before .before .before .before .before .before .before .before .before .before .before .pre .0))) h (c .before .before .before .before .before .before .before .before .before .before .before .before .before .before .before .before .before .before .before .before .before .before .before .pre .1 .0 .0) (c .before .before .before .before .before .before .before .before .before .before .before .follow .ensures) _ _ (c .before .before .before .before .before .lay-out .ensures)),
-        c .before .before .before .before .before .before .before .before .before .before .before .follow .ensures .onward,
-        c .before .before .before .before .before .before .before .before .before .before .before .follow .ensures .within,
+        out-reached (regular _ (indexed-rules (at-start .pre .0))) (going-out (regular _
+            (indexed-rules (at-start .pre .0))) h (at-start .pre .1 .0 .0) (at-follow .follow .ensures) _ _
+            (at-lay-out .lay-out .ensures)),
+        at-follow .follow .ensures .onward,
+        at-follow .follow .ensures .within,
       );
     }
 
 learn-requires : tie.Need-learn-requires
-learn-requires c κs = (
-  c .before .before .before .before .before .before .before .before .before .before .before .before .before .before .before .before .before .before .before .before .before .before .before .before .before .before .before .before .before .pre .0,
-  (
-    (c .before .before .before .before .before .before .before .before .before .before .before .before .before .before .before .before .before .before .before .before .before .before .before .before .before .before .before .before .before .pre .1 .0 .0, c .before .before .before .before .before .before .before .before .before .before .before .before .before .before .before .before .before .before .before .before .before .before .before .before .before .before .before .before .before .pre .1 .0 .1),
-    (
-      (c .before .before .before .before .before .before .if1 .left, c .before .before .before .before .before .before .before .before .before .before .before .before .before .before .before .before .before .before .before .before .before .before .before .before .before .before .before .before .before .pre .1 .1 .0 .1),
-      record {
-        m = c .before .before .before .before .before .before .before .before .before .before .before .before .before .before .before .before .before .before .before .before .before .before .before .before .before .before .before .before .before .pre .1 .1 .1 .m;
-        i = c .before .before .before .before .before .before .before .before .before .before .before .before .before .before .before .before .before .before .before .before .before .before .before .before .before .before .before .before .before .pre .1 .1 .1 .i;
-        out = going-out (regular _ (indexed-rules (c .before .before .before .before .before .before .before .before .before .before .before .before .before .before .before .before .before .before .before .before .before .before .before .before .before .before .before .before .before .pre .0))) (c .before .before .before .before .before .before .before .before .before .before .before .before .before .before .before .before .before .before .before .before .before .before .before .before .before .before .before .before .before .pre .1 .1 .1 .going) (c .before .before .before .before .before .before .before .before .before .before .before .before .before .before .before .before .before .before .before .before .before .before .before .before .before .before .before .before .before .pre .1 .0 .0) (c .before .before .before .before .before .before .before .before .before .before .before .before .before .before .before .before .before .follow .ensures) _ _ (c .before .before .before .before .before .before .before .before .before .before .before .lay-out .ensures);
-      },
-    ),
-  ),
-)
+learn-requires c κs =
+    let at-if1 = c .before .before .before .before .before .before in
+    let at-lay-out = at-if1 .before .before .before .before .before in
+    let at-follow = at-lay-out .before .before .before .before .before .before in
+    let at-slice-known2 = at-follow .before .before .before .before .before .before .before .before in
+    let at-start = at-slice-known2 .before .before .before .before in (
+      at-start .pre .0,
+      (
+        (at-start .pre .1 .0 .0, at-start .pre .1 .0 .1),
+        (
+          (at-if1 .if1 .left, at-start .pre .1 .1 .0 .1),
+          record {
+            m = at-start .pre .1 .1 .1 .m;
+            i = at-start .pre .1 .1 .1 .i;
+            out = going-out (regular _ (indexed-rules (at-start .pre .0))) (at-start .pre .1 .1 .1 .going)
+                (at-start .pre .1 .0 .0) (at-follow .follow .ensures) _ _ (at-lay-out .lay-out .ensures);
+          },
+        ),
+      ),
+    )
 
 same-length-6 : tie.Need-same-length-6
 same-length-6 c = search needs
@@ -76,7 +101,15 @@ same-length-11 c = search needs
 
 returns-2 : tie.Need-returns-2
 returns-2 c =
-    turn-learnt (regular _ (indexed-rules (c .before .before .before .before .before .before .before .before .before .before .before .before .before .before .before .before .before .before .before .before .before .before .before .before .before .before .before .before .before .before .before .before .before .before .before .before .before .before .before .before .before .before .pre .0))) (c .before .before .before .before .before .before .before .before .before .before .before .before .before .before .before .before .before .before .before .before .before .before .before .before .before .before .before .before .before .before .before .before .before .before .before .before .before .before .before .before .before .before .pre .1 .0 .0) (c .before .before .before .before .before .before .before .before .before .before .before .before .before .before .before .before .before .before .before .before .before .before .before .before .before .before .before .before .before .before .follow .ensures) (c .before .before .before .before .before .before .before .before .before .before .before .before .before .before .before .before .before .before .before .before .before .before .before .before .lay-out .ensures) (c .before .before .before .before .before .before .before .before .before .before .before .before .learn .ensures)
+    let at-slice-known10 = c .before .before .before .before .before .before .before .before in
+    let at-learn = at-slice-known10 .before .before .before .before in
+    let at-slice-known8 = at-learn .before .before .before .before .before .before .before .before in
+    let at-lay-out = at-slice-known8 .before .before .before .before in
+    let at-follow = at-lay-out .before .before .before .before .before .before in
+    let at-slice-known2 = at-follow .before .before .before .before .before .before .before .before in
+    let at-start = at-slice-known2 .before .before .before .before in
+    turn-learnt (regular _ (indexed-rules (at-start .pre .0))) (at-start .pre .1 .0 .0) (at-follow .follow .ensures)
+    (at-lay-out .lay-out .ensures) (at-learn .learn .ensures)
 
 pub take-turn-spec : {M : Type 1} → statement M
 take-turn-spec =

@@ -24,15 +24,23 @@ abbrev μ-loop : tie.MeasureT-loop
 μ-loop list work area0₀ area1₀ events from to store₀ reached₀ i₀ area0 area1 store reached i = to - i
 
 loop-holds : tie.Need-loop-holds Inv-loop μ-loop
-loop-holds c =
-    (omega arith, search needs, refl, refl, c .before .before .before .before .before .before .pre .1 .1 .1, reached-start _ _ _ _ (c .before .before .before .before .before .before .pre .1 .0))
+loop-holds c = (
+  omega arith,
+  search needs,
+  refl,
+  refl,
+  c .before .before .before .before .before .before .pre .1 .1 .1,
+  reached-start _ _ _ _ (c .before .before .before .before .before .before .pre .1 .0),
+)
 
 shared-slice-read-take-event : tie.Need-shared-slice-read-take-event Inv-loop μ-loop
 shared-slice-read-take-event c = search needs
 
 take-event-requires : tie.Need-take-event-requires Inv-loop μ-loop
 take-event-requires c κs =
-    (c .before .before .before .before .before .before .before .before .before .before .before .before .pre .0, (c .before .before .before .before .before .loop .inv .5 .standing, c .before .before .before .before .before .loop .inv .4))
+    let at-loop = c .before .before .before .before .before in
+    let at-start = at-loop .before .before .before .before .before .before .before in
+    (at-start .pre .0, (at-loop .loop .inv .5 .standing, at-loop .loop .inv .4))
 
 enum-known-next : tie.Need-enum-known-next Inv-loop μ-loop
 enum-known-next c = search needs
@@ -43,16 +51,26 @@ add-i c = search needs
 loop-less : tie.Need-loop-less Inv-loop μ-loop
 loop-less c = search needs
 
+-- the event is taken
 loop-again : tie.Need-loop-again Inv-loop μ-loop
-loop-again c = (
-  omega arith,
-  c .before .before .before .before .before .before .before .before .before .before .before .before .before .before .before .loop .inv .1,
-  c .before .before .before .before .before .before .before .before .before .take-event .kept .1 .1 .1 .1 .0 ∙ c .before .before .before .before .before .before .before .before .before .before .before .before .before .before .before .loop .inv .2,
-  c .before .before .before .before .before .before .before .before .before .take-event .kept .1 .1 .1 .1 .1 .0 ∙ c .before .before .before .before .before .before .before .before .before .before .before .before .before .before .before .loop .inv .3,
-  c .before .before .before .before .before .before .before .before .before .take-event .kept .1 .1 .1 .1 .1 .1 .0 ∙ c .before .before .before .before .before .before .before .before .before .before .before .before .before .before .before .loop .inv .4,
-  reached-next _ _ _ _ (c .before .before .before .before .before .before .before .before .before .before .before .before .before .before .before .loop .reached) _ _ _ (c .before .before .before .before .before .before .before .before .before .before .before .before .before .before .before .loop .inv .5) (omega arith) _ _ _ (c .before .before .before .before .before .before .before .before .before .take-event .ensures)
-      (regular _ (indexed-rules (c .before .before .before .before .before .before .before .before .before .before .before .before .before .before .before .before .before .before .before .before .before .before .pre .0))) _ (c .before .next .given .1),
-)
+loop-again c =
+    let at-next = c .before in
+    let at-take-event = at-next .before .before .before .before .before .before .before .before in
+    let at-loop-test = at-take-event .before .before .before .before .before in
+    let at-loop = at-loop-test .before in
+    let at-start = at-loop .before .before .before .before .before .before .before in (
+      omega (arith, at-loop-test .loop-test .taken, at-start .pre .1 .1 .0 .1),
+      at-loop .loop .inv .1,
+      at-take-event .take-event .kept .1 .1 .1 .1 .0 ∙ at-loop .loop .inv .2,
+      at-take-event .take-event .kept .1 .1 .1 .1 .1 .0 ∙ at-loop .loop .inv .3,
+      at-take-event .take-event .kept .1 .1 .1 .1 .1 .1 .0 ∙ at-loop .loop .inv .4,
+      reached-next _ _ _ _ (at-loop .loop .reached) _ _ _ (at-loop .loop .inv .5) (omega (
+        arith,
+        at-loop-test .loop-test .taken,
+        at-start .pre .1 .1 .0 .1,
+      )) _ _ _ (at-take-event .take-event .ensures)
+          (regular _ (indexed-rules (at-start .pre .0))) _ (at-next .next .given .1),
+    )
 
 enum-known-number : tie.Need-enum-known-number Inv-loop μ-loop
 enum-known-number c = search needs
@@ -66,11 +84,21 @@ same-length-2 c = search needs
 same-length-3 : tie.Need-same-length-3 Inv-loop μ-loop
 same-length-3 c = search needs
 
+-- it is refused
 returns : tie.Need-returns Inv-loop μ-loop
 unfolding RunBy
 returns c =
-    ended-refused _ _ _ _ (c .before .before .before .before .before .before .before .before .before .before .before .before .before .before .before .loop .reached) _ _ _ (c .before .before .before .before .before .before .before .before .before .before .before .before .before .before .before .loop .inv .5) (omega arith) _ _ _ (c .before .before .before .before .before .before .before .before .before .take-event .ensures) _
-    (c .before .number .given .1)
+    let at-number = c .before in
+    let at-take-event = at-number .before .before .before .before .before .before .before .before in
+    let at-loop-test = at-take-event .before .before .before .before .before in
+    let at-loop = at-loop-test .before in
+    let at-start = at-loop .before .before .before .before .before .before .before in
+    ended-refused _ _ _ _ (at-loop .loop .reached) _ _ _ (at-loop .loop .inv .5) (omega (
+      arith,
+      at-loop-test .loop-test .taken,
+      at-start .pre .1 .1 .0 .1,
+    )) _ _ _ (at-take-event .take-event .ensures) _
+    (at-number .number .given .1)
 
 same-length-4 : tie.Need-same-length-4 Inv-loop μ-loop
 same-length-4 c = search needs
@@ -84,7 +112,8 @@ same-length-6 c = search needs
 returns-2 : tie.Need-returns-2 Inv-loop μ-loop
 unfolding RunBy
 returns-2 c =
-    (c .before .loop .inv .5, c .loop-test .left, c .before .loop .inv .0)
+    let at-loop = c .before in
+    (at-loop .loop .inv .5, c .loop-test .left, at-loop .loop .inv .0)
 
 pub take-part-spec : {M : Type 1} → statement M
 take-part-spec =
