@@ -1,2 +1,4 @@
--- What a read leaves of a buffer, and what a filled buffer holds. Assumes nothing.
+-- What a read leaves of a buffer that is being filled, and what a filled buffer holds; what one read brings. Assumes
+-- nothing.
 pub mod Reading
+pub mod Arrival

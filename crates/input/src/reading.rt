@@ -1,9 +1,12 @@
-// What one read leaves of a buffer that is being filled.
+// What one read leaves of a buffer: of one that is being filled, and of one that is read into once.
 //     Part, Failure, Filled     what a filled buffer holds
 //     after_read                by what `read` answered
+//     End, Arrived              what one read brought
+//     after_arrival             by what `read` answered
 ghost use Prim.Native.Nat.{_≤_};
 ghost use mathlib.Core.Path.{_≡_};
 ghost use Rattle.input.specs.Reading.{afterRead};
+ghost use Rattle.input.specs.Arrival.{afterArrival};
 
 // The first `count` bytes of a buffer are the input's. They are its last, or the buffer is full.
 // Only `after_read` makes one: no other code can say that an input ended.
@@ -26,7 +29,7 @@ impl Part {
     }
 }
 
-// A read failed. Only `after_read` makes one.
+// A read failed. Only `after_read` and `after_arrival` make one.
 pub struct Failure {
     failed: bool,
 }
@@ -66,4 +69,33 @@ pub fn after_read(size: usize, n: usize, got: isize) -> Read
     }
     let next = n + more;
     Read::More(next)
+}
+
+// The input ended. Only `after_arrival` makes one.
+pub struct End {
+    ended: bool,
+}
+
+// What one read brought: so many bytes; or the end of the input, or a failure.
+pub enum Arrived {
+    Bytes(usize),
+    Ended(End),
+    Broken(Failure),
+}
+
+// Into a buffer of that size a read answered `got`. An empty buffer tells nothing of the input.
+pub fn after_arrival(size: usize, got: isize) -> Arrived
+    ensures { λ r. ⌜ r ≡ afterArrival size got ⌝ }
+{
+    if got < 0 {
+        return Arrived::Broken(Failure { failed: true });
+    }
+    let more = got as usize;
+    if size <= more {
+        return Arrived::Bytes(size);
+    }
+    if more == 0 {
+        return Arrived::Ended(End { ended: true });
+    }
+    Arrived::Bytes(more)
 }

@@ -63,6 +63,8 @@ class Install(unittest.TestCase):
         data = bytes.fromhex("10 03 02 00 01 00 00 01 01 01 00 02 00 02 01 05 00 00 01 00")
         found = subprocess.run([self.prefix / "bin" / "line_monitor"], input=data, capture_output=True, check=True)
         self.assertEqual(found.stdout, b"running 3 1\n")
+        found = subprocess.run([self.prefix / "bin" / "trace_monitor"], input=data, capture_output=True, check=True)
+        self.assertEqual(found.stdout.splitlines()[-1], b"event 0 3 running 0 1 1 1")
         office = self.prefix / "bin" / "lot_sheet"
         found = subprocess.run([office], input=b"\7\x64\0\0", capture_output=True, check=True)
         self.assertIn(b"TOTAL", found.stdout)

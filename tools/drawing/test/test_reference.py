@@ -22,6 +22,7 @@ def bytes_of(*words):
 HERE = {
     "check FILE": (bytes_of("assemble", B), "accepted 16 3\n"),
     "line FILE": (bytes_of("input", B, "0", "1", "0"), "running 3 1\n"),
+    "trace FILE": (bytes_of("input", B, "0", "1", "0"), "start - 0 running 0 1 1 0\nevent 0 1 running 0 1 1 1\n"),
     "peak FILE": (bytes_of("input", B, "0", "1", "0"), "peak 1\n"),
     "sheet FILE": (b"\x07\x64\0\0\x08\x0c\x01\x05", "         7                  100 running        0\n"),
     "replay histories.txt": (HISTORIES.read_bytes(), "worked_drawings "),

@@ -26,6 +26,9 @@ reference: another implementation of the CSP_E line monitor, for test answers
     reference line FILE
         Prints the line that the program prints of a file as its standard input.
 
+    reference trace FILE
+        Prints the lines of the same, one at the start and one after each event.
+
     reference peak FILE
         Prints `peak N` of the same, the most residuals that were held at a time up to the last
         event taken; or `no monitor` where none was opened.
@@ -84,6 +87,8 @@ fn main() -> ExitCode {
         ["summary", ..] => Err("summary takes one file".to_string()),
         ["line", file] => line(file),
         ["line", ..] => Err("line takes one file".to_string()),
+        ["trace", file] => trace(file),
+        ["trace", ..] => Err("trace takes one file".to_string()),
         ["peak", file] => peak(file),
         ["peak", ..] => Err("peak takes one file".to_string()),
         ["lines", options @ ..] => written("lines", options, reference::monitor::lines::file),
@@ -141,6 +146,10 @@ fn check(file: &str) -> Result<ExitCode, String> {
 fn line(file: &str) -> Result<ExitCode, String> {
     let bytes = bytes_of_file(file)?;
     Ok(print(&(reference::monitor::program::line(&bytes) + "\n")))
+}
+
+fn trace(file: &str) -> Result<ExitCode, String> {
+    Ok(print(&reference::monitor::program::trace(&bytes_of_file(file)?)))
 }
 
 fn peak(file: &str) -> Result<ExitCode, String> {

@@ -24,7 +24,7 @@ use Rattle.input.specs.Reading.{afterRead, Parts, Fills}
 
 -- ---- by the tests
 
-negative : {X : Type 0} → true ≡ false → X
+pub negative : {X : Type 0} → true ≡ false → X
 negative e = absurd (let z : _≡_ {A = ℕ} 0 1 = cc in omega arith)
 
 module _ (size n : ℕ) where

@@ -1,4 +1,5 @@
 -- A monitor that goes on has taken every event that it was fed, and its counter has not run over.
+--     event-took      one event was taken
 --     given-took      Feed gave a record
 --     course-took     the course goes on
 -- Assumes nothing.
@@ -30,7 +31,7 @@ passes-counts : {t : Table} {cap k : ℕ} {rs : List Residual} {e : ℕ} {o : Op
 passes-counts (meets n x) h = absurd (let z : _≡_ {A = ℕ} 0 1 = cc in omega arith)
 passes-counts (passes a b c) h = b
 
-event-took : (t : Table) (m d : Monitor) (e : ℕ) → takeEvent t m e ≡ went d → Took (m .state) 1 (d .state)
+pub event-took : (t : Table) (m d : Monitor) (e : ℕ) → takeEvent t m e ≡ went d → Took (m .state) 1 (d .state)
 unfolding taking stateAfter counted holding
 event-took t m d e h = by (metBy t m e) refl
   where

@@ -2,10 +2,14 @@
 // then events, one byte each. 256 slots."
 //     line        what the program prints
 //     peak        the record's peak after the events taken, which the line does not have
+//     trace       what the program that prints a line for each event prints
 
-use super::operations::{open, Answer, MOST_AREA};
+use super::operations::{open, take, Answer, MOST_AREA};
+use super::residual::{after_all, resolve_last, Residuals, SLOT};
+use super::state::Record;
+use super::terms::Terms;
 use crate::numbers::{number_at, Reading};
-use crate::operations::{read, READ_OUTPUT, WORK};
+use crate::operations::{read, table_of_list, READ_OUTPUT, WORK};
 use crate::refusal::*;
 use crate::table::MOST_BYTES;
 
@@ -65,4 +69,51 @@ fn judged(input: &[u8], area_len: usize) -> Result<String, Refusal> {
         Some(place) => format!("failed {place} {}", record.taken),
         None => format!("running {} {}", record.taken, record.count),
     })
+}
+
+// The lines of an input: `start - ..`, then `event EVENT ..` after each event, with the events
+// taken, the verdict with its place (0 while running), the residuals, the peak and the events
+// permitted next, by Offer's words; a refusal is the last.
+pub fn trace(input: &[u8]) -> String {
+    let mut lines = String::new();
+    if let Err(Refusal { number, place }) = traced(input, &mut lines) {
+        lines += &format!("refused {number} {place}\n");
+    }
+    lines
+}
+
+// The table is judged once, and each event is taken as Feed takes it.
+fn traced(input: &[u8], lines: &mut String) -> Result<(), Refusal> {
+    let (bytes, events) = parts(input)?;
+    let table = read(bytes, READ_OUTPUT, WORK);
+    let list = &table.output[..table.answer?];
+    let fresh = [vec![0; MOST_AREA], vec![0; MOST_AREA]];
+    let opened = open(list, &fresh, &[], WORK).answer;
+    if let Some(refusal) = opened.refusal {
+        return Err(refusal);
+    }
+    let mut record = opened.record.expect("a record without a refusal");
+    let terms = Terms::of(&table_of_list(list)?);
+    let mut residuals = resolve_last(&terms);
+    *lines += &format!("start - {}\n", shown(&terms, record, &residuals));
+    for (place, &event) in events.iter().enumerate() {
+        let taken = take(&terms, record, &residuals, event as u16, MOST_AREA / SLOT);
+        (record, residuals) = taken.map_err(|number| Refusal { number, place })?;
+        *lines += &format!("event {event} {}\n", shown(&terms, record, &residuals));
+    }
+    Ok(())
+}
+
+// What a line shows: "bit e is set exactly when the residuals after e, crowded or not, are not
+// empty".
+fn shown(terms: &Terms, record: Record, residuals: &Residuals) -> String {
+    let Record { taken, count, peak, failed } = record;
+    let verdict = match failed {
+        Some(place) => format!("failed {place}"),
+        None => "running 0".to_string(),
+    };
+    let goes_on = |event: &u16| !after_all(terms, residuals, *event, MOST_AREA / SLOT).is_none();
+    let permitted = (0..terms.alphabet).filter(goes_on);
+    let permitted: String = permitted.map(|event| format!(" {event}")).collect();
+    format!("{taken} {verdict} {count} {peak}{permitted}")
 }

@@ -1,0 +1,2 @@
+-- What the program's functions promise. Assumes nothing.
+pub mod Course

@@ -1,0 +1,242 @@
+// The course of an input: the line at its start, and then a line for each event, said as soon as it
+// is read.
+//     Told     how it came to its end
+//     run      from its front on
+// `specs/Course.antt` has what each function promises.
+ghost use Prim.Native.Nat.{_≤_, _<_};
+ghost use mathlib.Core.Path.{_≡_};
+ghost use lib.ListN.{length};
+ghost use Rattle.state.specs.Record.{monitorOf};
+ghost use Rattle.line_spec.specs.Opening.Front.{Lengths};
+ghost use Rattle.trace.specs.Answers.{traceLineSaid};
+ghost use Rattle.trace.specs.declared.answer.TraceLine.the-variants.{Starts};
+ghost use Rattle.trace.specs.Tracing.{Tracing};
+ghost use Rattle.trace_front.specs.Wanted.{Fronts};
+ghost use Rattle.trace_monitor.specs.Course.{TurnBy, ReadBy, Followed};
+ghost use Rattle.trace_monitor.specs.Course.{Says, ToldRefusal};
+use crate::print::say;
+use input::Arrived;
+use input::End;
+use input::Failure;
+use state::EventBits;
+use state::State;
+use trace::Opened;
+use trace::TraceLine;
+use trace::Traced;
+
+// The input ended, with the last line that was said; a refusal was said; a read failed; or a line
+// could not be written.
+pub enum Told {
+    Ended(End, TraceLine),
+    Refused(u8, u64),
+    Unread(Failure),
+    Unwritten,
+}
+
+// A monitor that goes on, with the last line that was said; or the end.
+pub enum Course {
+    Going(State, TraceLine),
+    Over(Told),
+}
+
+// Says a refusal, which is the last line.
+fn say_refusal(number: u8, place: u64, text: &mut [u8]) -> Told
+    ensures { λ r. ⌜ ToldRefusal number place r ⌝ }
+{
+    if say(TraceLine::Refuses(number, place), text) {
+        return Told::Refused(number, place);
+    }
+    Told::Unwritten
+}
+
+// Judges one event, and says its line.
+fn turn(
+    list: &[u16],
+    work: &[u64],
+    e: u8,
+    state: State,
+    area0: &mut [u64],
+    area1: &mut [u64],
+    store: &mut [u64],
+    text: &mut [u8],
+) -> Course
+    requires { ⌜ Tracing (now list) (now work) (monitorOf state (now area0) (now area1)) ⌝ }
+    requires { ⌜ length (now store) ≡ 4112 ⌝ }
+    ensures { λ r.
+        ⌜ TurnBy (now (list .entry)) (now (work .entry))
+        (monitorOf state (now (area0 .entry)) (now (area1 .entry))) e
+        r (now (area0 .exit)) (now (area1 .exit)) ⌝ }
+{
+    match trace::trace_event(list, work, e, state, area0, area1, store) {
+        Traced::Went(next, permitted) => {
+            let line = TraceLine::Takes(e, next, permitted);
+            if say(line, text) {
+                return Course::Going(next, line);
+            }
+            Course::Over(Told::Unwritten)
+        }
+        Traced::Stopped(number, place) => Course::Over(say_refusal(number, place, text)),
+    }
+}
+
+// The events of a read, each judged and said before the next.
+fn take_read(
+    list: &[u16],
+    work: &[u64],
+    state: State,
+    line: TraceLine,
+    area0: &mut [u64],
+    area1: &mut [u64],
+    events: &[u8],
+    store: &mut [u64],
+    text: &mut [u8],
+) -> Course
+    requires { ⌜ Tracing (now list) (now work) (monitorOf state (now area0) (now area1)) ⌝ }
+    requires { ⌜ length (now store) ≡ 4112 ⌝ }
+    ensures { λ r.
+        ⌜ ReadBy (now (list .entry)) (now (work .entry))
+        (monitorOf state (now (area0 .entry)) (now (area1 .entry))) (traceLineSaid line)
+        (now (events .entry)) r (now (area0 .exit)) (now (area1 .exit)) ⌝ }
+{
+    let mut last = state;
+    let mut said = line;
+    let mut i = 0;
+    while i < events.len() {
+        match turn(list, work, events[i], last, area0, area1, store, text) {
+            Course::Going(next, now) => {
+                last = next;
+                said = now;
+                i += 1;
+            }
+            Course::Over(told) => return Course::Over(told),
+        }
+    }
+    Course::Going(last, said)
+}
+
+// Reads what arrives, and judges it, until the input ends or a refusal is said. Each read brings an
+// event at least, and no more than 2^64-1 events are taken: so the loop ends.
+fn follow(
+    list: &[u16],
+    work: &[u64],
+    state: State,
+    line: TraceLine,
+    area0: &mut [u64],
+    area1: &mut [u64],
+    piece: &mut [u8],
+    store: &mut [u64],
+    text: &mut [u8],
+) -> Told
+    requires { ⌜ Tracing (now list) (now work) (monitorOf state (now area0) (now area1)) ⌝ }
+    requires { ⌜ (length (now store) ≡ 4112) × (0 < length (now piece)) ⌝ }
+    ensures { λ r.
+        ⌜ Followed (now (list .entry))
+        (monitorOf state (now (area0 .entry)) (now (area1 .entry))) (traceLineSaid line) r ⌝ }
+{
+    let mut last = state;
+    let mut said = line;
+    loop {
+        match input::arrive(piece) {
+            Arrived::Bytes(n) => {
+                match take_read(
+                    list,
+                    work,
+                    last,
+                    said,
+                    area0,
+                    area1,
+                    &piece[..n],
+                    store,
+                    text,
+                ) {
+                    Course::Going(next, now) => {
+                        last = next;
+                        said = now;
+                    }
+                    Course::Over(told) => return told,
+                }
+            }
+            Arrived::Ended(end) => return Told::Ended(end, said),
+            Arrived::Broken(failure) => return Told::Unread(failure),
+        }
+    }
+}
+
+// The line at the start, and then the events.
+fn begin(
+    list: &[u16],
+    work: &[u64],
+    state: State,
+    permitted: EventBits,
+    area0: &mut [u64],
+    area1: &mut [u64],
+    text: &mut [u8],
+) -> Told
+    requires { ⌜ Tracing (now list) (now work) (monitorOf state (now area0) (now area1)) ⌝ }
+    ensures { λ r.
+        ⌜ Followed (now (list .entry))
+        (monitorOf state (now (area0 .entry)) (now (area1 .entry)))
+        (traceLineSaid (Starts state permitted)) r ⌝ }
+{
+    let line = TraceLine::Starts(state, permitted);
+    if !say(line, text) {
+        return Told::Unwritten;
+    }
+    let mut store = [0u64; 4112];
+    let mut piece = [0u8; 4096];
+    follow(
+        list,
+        work,
+        state,
+        line,
+        area0,
+        area1,
+        &mut piece,
+        &mut store,
+        text,
+    )
+}
+
+// An input by its front, in which no event stands.
+fn open_front(
+    front: &[u8],
+    list: &mut [u16],
+    area0: &mut [u64],
+    area1: &mut [u64],
+    work: &mut [u64],
+) -> Told
+    requires { ⌜ Fronts (now front) ⌝ }
+    requires { ⌜ Lengths (now list) (now area0) (now area1) (now work) ⌝ }
+    ensures { λ r. ⌜ Says (now (front .entry)) r ⌝ }
+{
+    let mut text = [0u8; 4096];
+    match trace::open_trace(front, list, area0, area1, work) {
+        Opened::Started {
+            state,
+            permitted,
+            count,
+            next: _,
+        } => begin(
+            &list[..count],
+            work,
+            state,
+            permitted,
+            area0,
+            area1,
+            &mut text,
+        ),
+        Opened::Refused(refusal) => { say_refusal(refusal.number, refusal.place as u64, &mut text) }
+    }
+}
+
+// What is told of an input by its front, in which no event stands.
+pub fn run(front: &[u8]) -> Told
+    requires { ⌜ Fronts (now front) ⌝ }
+    ensures { λ r. ⌜ Says (now (front .entry)) r ⌝ }
+{
+    let mut list = [0u16; 16384];
+    let mut area0 = [0u64; 4096];
+    let mut area1 = [0u64; 4096];
+    let mut work = [0u64; 8192];
+    open_front(front, &mut list, &mut area0, &mut area1, &mut work)
+}

@@ -1,0 +1,2 @@
+-- The proofs of the claims. Assumes nothing.
+pub mod Theorems
