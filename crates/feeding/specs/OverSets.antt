@@ -1,5 +1,5 @@
--- Runs over the sets that a call has met (ours): between two events the residuals are in the areas, or are a set kept and
--- both areas are zero.
+-- Runs over the sets that a call has met (ours): between two events the residuals are in the areas, or are a set kept
+-- and both areas are zero.
 --     Going, LaidOut       record and set at a place, with areas of zeros; with the set laid out in them
 --     Goes, Stays          so from some monitor
 --     TurnTo               where a turn comes to

@@ -1,5 +1,5 @@
--- Runs over a part of a call's events (ours): one comes to the call's answer, or to a monitor from which the events left
--- come to the same.
+-- Runs over a part of a call's events (ours): one comes to the call's answer, or to a monitor from which the events
+-- left come to the same.
 --     EndedFrom     what all events from a place on come to
 --     ReachedAt     a monitor that is reached at a place
 --     RunBy         the promise of a run from one place on, up to another at least

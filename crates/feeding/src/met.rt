@@ -250,8 +250,8 @@ fn take_kept(
 }
 
 // Takes events from a place on over at most so many sets. Where one more has no room, all are
-// forgotten if more than sixteen events were taken for each that may be kept; else that is given
-// up.
+// forgotten if more than sixteen events were taken for each transition that could be known (2,560);
+// else that is given up.
 pub fn take_met(
     list: &[u16],
     work: &[u64],
@@ -296,7 +296,7 @@ pub fn take_met(
                 return Run::Ended(answer);
             }
             Run::Left(s, j) => {
-                if j - i <= 16 * most {
+                if j - i <= 40960 {
                     return Run::Left(s, j);
                 }
                 reached = s;

@@ -1,5 +1,5 @@
--- Events one after the other, and one run after another: at place j the fold over the events from place i on is the fold
--- over those left, from the monitor reached.
+-- Events one after the other, and one run after another: at place j the fold over the events from place i on is the
+-- fold over those left, from the monitor reached.
 --     reached-start, reached-next       a monitor is reached at first, and after an event that is taken
 --     reached-then                      one is reached from one that is reached
 --     ended-refused, ended-done         what the events come to where one is refused, and after the last

@@ -123,13 +123,6 @@ sub-if1 c =
       g .1,
     )
 
-mul-if1 : tie.Need-mul-if1 Inv-loop μ-loop
-mul-if1 c =
-    let at-area0 = c .before .before .before .before .before .before .before .before in
-    let at-next = at-area0 .before .before .before .before .before .before .before .before in
-    let at-loop = at-next .before .before .before .before in
-    omega (arith, at-loop .loop .inv .9)
-
 same-length-4 : tie.Need-same-length-4 Inv-loop μ-loop
 same-length-4 c =
     let at-slice-known4 = c .before .before .before .before .before .before .before .before in
@@ -239,7 +232,6 @@ take-met-spec =
     returns
     enum-known-s
     sub-if1
-    mul-if1
     same-length-4
     same-length-5
     same-length-6
