@@ -2,6 +2,7 @@
 -- that the front has the length number and the whole table, and no event.
 --     missingOf, wantedOf     of a table by its length; of a front
 --     Fronts                  a front that got no more than it needed
+--     CutShort                an input that ends within its front
 -- The laws are in `Wanted/`: `Laws`, `Scans`. Assumes nothing.
 use Prim.Native.Nat.{ℕ, _+_, _-_, _≤_}
 use mathlib.Core.Path.{_≡_}
@@ -10,7 +11,7 @@ use mathlib.Core.List.{List, []}
 use lib.ListN.{length}
 use lib.Dec.{ltb}
 use Rattle.numbers.specs.Number.{Scan, value, truncated, malformed, readNumber}
-use Rattle.line_spec.specs.Line.{parts, headOf}
+use Rattle.line_spec.specs.Line.{parts, wrong, headOf}
 pub mod Scans
 pub mod Laws
 
@@ -31,3 +32,8 @@ wantedOf s = wantedBy (readNumber s)
 pub record Fronts (s : List ℕ) : Type 0 where
   pub room : length s + wantedOf s ≤ 16387
   pub bare : (bs es : List ℕ) → headOf s ≡ parts bs es → es ≡ []
+
+-- "3 and 4 with place 0", "a table cut short is 3": refused as cut short
+pub record CutShort (s : List ℕ) : Type 0 where
+  pub place : ℕ
+  pub head : headOf s ≡ wrong 3 place

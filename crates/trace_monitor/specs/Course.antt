@@ -1,105 +1,170 @@
 -- What the program says of an input (ours; docs/DECISIONS.md, "A line for each event, as it arrives"): the lines of its
 -- trace, each as soon as its event is read.
---     LastLine                a line is the last of the trace of some bytes
---     Stands                  where the program stands after some bytes, with what was said last
---     Onward, Along           from one place to another by some events; by events that are not said
---     ToldAt, OverBy          what is told in the midst of a read
---     TurnBy, ReadBy          the promises of `turn` and `take_read`: of the very events
---     SaidLast, Says          what was said last; what was told of an input that begins with some bytes
---     Followed                the promise of `follow` and `begin`
---     ToldRefusal             the promise of `say_refusal`
---     FrontTold               the promise of `told_by`
--- The laws are in `Course/`: `Laws`; of the front, `Fronts`. Assumes nothing.
-use Prim.Native.Nat.{ℕ}
+--     LastLine                 a line is the last of the trace of some bytes
+--     Rooms                    the lengths of the store and of the text's buffer
+--     WentOn, StopSaid, Turned     the promise of `turn`: of one event
+--     Onward, RefusedIn        through some events; an event among them was refused
+--     ReadOn                   the promise of `take_read`: of the events of a read
+--     AfterArrived             the promise of `after_arrived`: by what arrived
+--     Gone, Followed           some reads, one after the other; the promise of `follow` and `begin`
+--     ToldRefusal              the promise of `say_refusal`
+--     Says                     the promise of `open_front` and `run`: of an input, by its front
+--     FrontTold                the promise of `told_by`
+-- A write that failed promises nothing: `Unsaid` is the evidence. The laws are in `Course/`: `Steps`, of some events;
+-- `Laws`, of the functions; `Fronts`, of the front. Assumes nothing.
+use Prim.Native.Nat.{ℕ, _≤_, _<_}
 use mathlib.Core.Path.{_≡_}
-use mathlib.Core.List.{List, [], _∷_, _++_}
+use mathlib.Core.List.{List, [], _∷_, _++_, flatten}
 use lib.ListN.{length, take}
 use Rattle.table.specs.Table.{Table}
 use Rattle.table_index.specs.Index.{tableIn}
 use Rattle.monitor_spec.specs.State.{Monitor}
-use Rattle.state.specs.Record.{monitorOf}
+use Rattle.state.specs.declared.record.State.{State}
+use Rattle.state.specs.declared.answer.EventBits.{EventBits}
+use Rattle.state.specs.Record.{stateOf, monitorOf}
+use Rattle.state.specs.Answers.{bitsOf}
 use Rattle.line_spec.specs.Judged.{Took}
-use Rattle.trace_spec.specs.TraceLine.{TraceLine, refuses}
-use Rattle.trace_spec.specs.Trace.{traceOf}
+use Rattle.input.specs.declared.reading.Arrived.{Arrived}
+use Rattle.input.specs.declared.reading.Arrived.the-variants as came
+use Rattle.trace_spec.specs.TraceLine.{TraceLine, takes, refuses}
+use Rattle.trace_spec.specs.Trace.{Beginning, begins, declines, beginningOf, startLine, traceOf}
 use Rattle.trace_spec.specs.Reads.{at, reachedBy}
-use Rattle.trace.specs.Answers.{traceLineSaid}
-use Rattle.trace.specs.Tracing.{Tracing}
+use Rattle.trace.specs.Tracing.{Tracing, TracedOn, StoppedAt}
 use Rattle.trace_front.specs.declared.reader.Front.{Front}
 use Rattle.trace_front.specs.declared.reader.Front.the-variants as read
+use Rattle.trace_monitor.specs.declared.print.Said.{Said}
 use Rattle.trace_monitor.specs.declared.course.Told.{Told}
 use Rattle.trace_monitor.specs.declared.course.Told.the-variants.{Ended, Refused, Unread, Unwritten}
 use Rattle.trace_monitor.specs.declared.course.Course.{Course}
 use Rattle.trace_monitor.specs.declared.course.Course.the-variants.{Going, Over}
+use Rattle.trace_monitor.specs.Spoken.{saidLine}
+pub mod Steps
 pub mod Laws
 pub mod Fronts
 
 pub record LastLine (s : List ℕ) (x : TraceLine) : Type 0 where
   pub before : List TraceLine
-  pub split : traceOf s ≡ before ++ (x ∷ [])
+  pub split : traceOf s ≡ before ++ x ∷ []
 
--- the bytes s were read; the next event meets the monitor m on the table t, and the line x was said last
-pub record Stands (s : List ℕ) (t : Table) (m : Monitor) (x : TraceLine) : Type 0 where
-  pub here : reachedBy s ≡ at t m
-  pub last : LastLine s x
+-- a step's store, as crate `trace` asks; room for the longest line
+abbrev pub Rooms : List ℕ → List ℕ → Type 0
+Rooms store text = (length store ≡ 4112) × (2816 ≤ length text)
 
--- from the monitor m, on the list l whose index stands in the work words w, to d, by the events es
-pub record Onward (l w : List ℕ) (m : Monitor) (x : TraceLine) (es : List ℕ) (d : Monitor) (y : TraceLine) : Type 0
-  where
-    pub tracing : Tracing l w d
-    pub stands : (s : List ℕ) → Stands s (tableIn l) m x → Stands (s ++ es) (tableIn l) d y
-    pub took : Took (m .state) (length es) (d .state)
+-- ---- one event
 
--- told after the bytes s and the events es: a refusal is the last line, whatever follows of es; that the input ended, or
--- could not be read, is not told there
-abbrev pub ToldAt : List ℕ → Told → Type 0
-ToldAt s (Ended e x) = ⊥
-ToldAt s (Refused number place) = LastLine s (refuses number place)
-ToldAt s (Unread f) = ⊥
-ToldAt s Unwritten = Unit
+-- the event e was taken, and its line x said: the record after it, and the events permitted next
+pub record WentOn (l w : List ℕ) (m : Monitor) (e : ℕ) (next : State) (x : TraceLine) (a b : List ℕ) : Type 0 where
+  pub bits : EventBits
+  pub traced : TracedOn l w m e next bits a b
+  pub line : x ≡ takes e (stateOf next) (bitsOf bits)
 
-abbrev pub OverBy : List ℕ → Monitor → TraceLine → List ℕ → Told → Type 0
-OverBy l m x es r = (s : List ℕ) → Stands s (tableIn l) m x → ToldAt (s ++ es) r
+-- the event e was refused, and its line x said: "Events are placed from the input's first"
+pub record StopSaid (l : List ℕ) (m : Monitor) (e : ℕ) (x : TraceLine) (a b : List ℕ) : Type 0 where
+  pub number : ℕ
+  pub place : ℕ
+  pub stopped : StoppedAt l m e number place a b
+  pub line : x ≡ refuses number place
 
-abbrev pub ReadBy : List ℕ → List ℕ → Monitor → TraceLine → List ℕ → Course → List ℕ → List ℕ → Type 0
-ReadBy l w m x es (Going next y) a b = Onward l w m x es (monitorOf next a b) (traceLineSaid y)
-ReadBy l w m x es (Over told) a b = OverBy l m x es told
+unfoldable pub Turned : List ℕ → List ℕ → Monitor → ℕ → Course → List ℕ → List ℕ → Type 0
+Turned l w m e (Going next y) a b = WentOn l w m e next (saidLine y) a b
+Turned l w m e (Over (Refused y)) a b = StopSaid l m e (saidLine y) a b
+Turned l w m e (Over (Unwritten u)) a b = Unit
+Turned l w m e (Over (Ended end y)) a b = ⊥
+Turned l w m e (Over (Unread f)) a b = ⊥
 
--- one event, whatever follows it
-abbrev pub TurnBy : List ℕ → List ℕ → Monitor → ℕ → Course → List ℕ → List ℕ → Type 0
-TurnBy l w m e (Going next y) a b =
-    (x : TraceLine) → Onward l w m x (e ∷ []) (monitorOf next a b) (traceLineSaid y)
-TurnBy l w m e (Over told) a b = (x : TraceLine) (rest : List ℕ) → OverBy l m x (e ∷ rest) told
+-- ---- the events of a read
 
--- the line x was said last, after some events more
-pub record SaidLast (s : List ℕ) (x : TraceLine) : Type 0 where
-  pub events : List ℕ
-  pub last : LastLine (s ++ events) x
+-- from the monitor m on the table t, with x as the last line, through just the events es to d, with y as the last
+pub record Onward (t : Table) (m : Monitor) (x : TraceLine) (es : List ℕ) (d : Monitor) (y : TraceLine) : Type 0 where
+  pub took : Took (m .state) (length es) (d .state)
+  pub here : (s : List ℕ) → reachedBy s ≡ at t m → reachedBy (s ++ es) ≡ at t d
+  pub last : (s : List ℕ) → reachedBy s ≡ at t m → LastLine s x → LastLine (s ++ es) y
 
--- the input ended, or was refused: the line that was said last is the last line of the trace of all that was read; a
--- failure of a read or a write promises nothing
-abbrev pub Says : List ℕ → Told → Type 0
-Says s (Ended e x) = SaidLast s (traceLineSaid x)
-Says s (Refused number place) = SaidLast s (refuses number place)
-Says s (Unread f) = Unit
-Says s Unwritten = Unit
+-- from m, an event of es is refused: with it and whatever follows, the trace has the line y more, and that is its last
+pub record RefusedIn (t : Table) (m : Monitor) (es : List ℕ) (y : TraceLine) : Type 0 where
+  pub before : List ℕ
+  pub event : ℕ
+  pub after : List ℕ
+  pub split : es ≡ before ++ event ∷ after
+  pub number : ℕ
+  pub place : ℕ
+  pub line : y ≡ refuses number place
+  pub last : (s rest : List ℕ) → reachedBy s ≡ at t m
+      → traceOf (s ++ (before ++ event ∷ rest)) ≡ traceOf (s ++ before) ++ y ∷ []
 
--- from where the program stands, whatever was read before
-abbrev pub Followed : List ℕ → Monitor → TraceLine → Told → Type 0
-Followed l m x r = (s : List ℕ) → Stands s (tableIn l) m x → Says s r
+unfoldable pub ReadOver : Table → Monitor → List ℕ → Told → Type 0
+ReadOver t m es (Refused y) = RefusedIn t m es (saidLine y)
+ReadOver t m es (Unwritten u) = Unit
+ReadOver t m es (Ended end y) = ⊥
+ReadOver t m es (Unread f) = ⊥
 
--- some events further, from where it stood
-pub record Along (l w : List ℕ) (m : Monitor) (x : TraceLine) (d : Monitor) (y : TraceLine) : Type 0 where
-  pub events : List ℕ
-  pub far : Onward l w m x events d y
+unfoldable pub ReadOn : List ℕ → List ℕ → Monitor → TraceLine → List ℕ → Course → List ℕ → List ℕ → Type 0
+ReadOn l w m x es (Going next y) a b =
+    Tracing l w (monitorOf next a b) × Onward (tableIn l) m x es (monitorOf next a b) (saidLine y)
+ReadOn l w m x es (Over told) a b = ReadOver (tableIn l) m es told
+
+-- ---- what arrived
+
+-- so many bytes of the piece are the read's events; the end comes with the last line that was said
+unfoldable pub AfterArrived : List ℕ → List ℕ → Monitor → Said → List ℕ → Arrived → Course → List ℕ → List ℕ → Type 0
+AfterArrived l w m said piece (came.Bytes n) r a b = ReadOn l w m (saidLine said) (take n piece) r a b
+AfterArrived l w m said piece (came.Ended end) r a b = r ≡ Over (Ended end said)
+AfterArrived l w m said piece (came.Broken f) r a b = r ≡ Over (Unread f)
+
+-- ---- some reads
+
+-- each brought an event at least
+abbrev pub EachSome : List (List ℕ) → Type 0
+EachSome [] = Unit
+EachSome (es ∷ ess) = (0 < length es) × EachSome ess
+
+pub record Gone (t : Table) (m : Monitor) (x : TraceLine) (d : Monitor) (y : TraceLine) : Type 0 where
+  pub reads : List (List ℕ)
+  pub some : EachSome reads
+  pub onward : Onward t m x (flatten reads) d y
+
+-- the input ended after some reads, with y as the last line
+pub record EndsAfter (t : Table) (m : Monitor) (x y : TraceLine) : Type 0 where
+  pub monitor : Monitor
+  pub gone : Gone t m x monitor y
+
+-- an event of some reads was refused
+pub record RefusedAfter (t : Table) (m : Monitor) (y : TraceLine) : Type 0 where
+  pub reads : List (List ℕ)
+  pub some : EachSome reads
+  pub refused : RefusedIn t m (flatten reads) y
+
+unfoldable pub Followed : Table → Monitor → TraceLine → Told → Type 0
+Followed t m x (Ended end y) = EndsAfter t m x (saidLine y)
+Followed t m x (Refused y) = RefusedAfter t m (saidLine y)
+Followed t m x (Unread f) = Unit
+Followed t m x (Unwritten u) = Unit
+
+-- ---- the front
 
 abbrev pub ToldRefusal : ℕ → ℕ → Told → Type 0
-ToldRefusal number place (Ended e x) = ⊥
-ToldRefusal number place (Refused n p) = (n ≡ number) × (p ≡ place)
+ToldRefusal number place (Ended end y) = ⊥
+ToldRefusal number place (Refused y) = saidLine y ≡ refuses number place
 ToldRefusal number place (Unread f) = ⊥
-ToldRefusal number place Unwritten = Unit
+ToldRefusal number place (Unwritten u) = Unit
+
+-- a refusal is said; a monitor is opened before any event, and from the line at the start on the input is followed
+unfoldable pub SaysBy : Beginning → Told → Type 0
+SaysBy (begins ns t m es) r = (es ≡ []) × Followed t m (startLine t m) r
+SaysBy (declines number place) r = ToldRefusal number place r
+
+abbrev pub Says : List ℕ → Told → Type 0
+Says s r = SaysBy (beginningOf s) r
+
+-- the input s ended before its table did: its trace is one refusal, and that is said
+pub record EndSaid (s : List ℕ) (r : Told) : Type 0 where
+  pub number : ℕ
+  pub place : ℕ
+  pub trace : traceOf s ≡ refuses number place ∷ []
+  pub told : ToldRefusal number place r
 
 -- by what was read of the front into a buffer
-abbrev pub FrontTold : List ℕ → Front → Told → Type 0
+unfoldable pub FrontTold : List ℕ → Front → Told → Type 0
 FrontTold buffer (read.Whole n) r = Says (take n buffer) r
-FrontTold buffer (read.Ended n e) r = Says (take n buffer) r
+FrontTold buffer (read.Ended n end) r = EndSaid (take n buffer) r
 FrontTold buffer (read.Broken f) r = r ≡ Unread f

@@ -1,2 +1,3 @@
 -- What the program's functions promise. Assumes nothing.
+pub mod Spoken
 pub mod Course

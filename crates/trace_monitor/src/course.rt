@@ -6,14 +6,20 @@
 ghost use Prim.Native.Nat.{_≤_, _<_};
 ghost use mathlib.Core.Path.{_≡_};
 ghost use lib.ListN.{length};
+ghost use Rattle.table_index.specs.Index.{tableIn};
 ghost use Rattle.state.specs.Record.{monitorOf};
+ghost use Rattle.input.specs.Arrival.{Arrives};
 ghost use Rattle.line_spec.specs.Opening.Front.{Lengths};
 ghost use Rattle.trace.specs.Answers.{traceLineSaid};
 ghost use Rattle.trace.specs.declared.answer.TraceLine.the-variants.{Starts};
 ghost use Rattle.trace.specs.Tracing.{Tracing};
 ghost use Rattle.trace_front.specs.Wanted.{Fronts};
-ghost use Rattle.trace_monitor.specs.Course.{TurnBy, ReadBy, Followed};
-ghost use Rattle.trace_monitor.specs.Course.{Says, ToldRefusal};
+ghost use Rattle.trace_monitor.specs.Spoken.{saidLine};
+ghost use Rattle.trace_monitor.specs.Course.{Rooms, Turned, ReadOn, AfterArrived};
+ghost use Rattle.trace_monitor.specs.Course.{Followed, ToldRefusal, Says};
+use crate::print::Said;
+use crate::print::Saying;
+use crate::print::Unsaid;
 use crate::print::say;
 use input::Arrived;
 use input::End;
@@ -27,26 +33,27 @@ use trace::Traced;
 // The input ended, with the last line that was said; a refusal was said; a read failed; or a line
 // could not be written.
 pub enum Told {
-    Ended(End, TraceLine),
-    Refused(u8, u64),
+    Ended(End, Said),
+    Refused(Said),
     Unread(Failure),
-    Unwritten,
+    Unwritten(Unsaid),
 }
 
 // A monitor that goes on, with the last line that was said; or the end.
 pub enum Course {
-    Going(State, TraceLine),
+    Going(State, Said),
     Over(Told),
 }
 
 // Says a refusal, which is the last line.
 fn say_refusal(number: u8, place: u64, text: &mut [u8]) -> Told
+    requires { ⌜ 2816 ≤ length (now text) ⌝ }
     ensures { λ r. ⌜ ToldRefusal number place r ⌝ }
 {
-    if say(TraceLine::Refuses(number, place), text) {
-        return Told::Refused(number, place);
+    match say(TraceLine::Refuses(number, place), text) {
+        Saying::Written(said) => Told::Refused(said),
+        Saying::Failed(unsaid) => Told::Unwritten(unsaid),
     }
-    Told::Unwritten
 }
 
 // Judges one event, and says its line.
@@ -61,20 +68,17 @@ fn turn(
     text: &mut [u8],
 ) -> Course
     requires { ⌜ Tracing (now list) (now work) (monitorOf state (now area0) (now area1)) ⌝ }
-    requires { ⌜ length (now store) ≡ 4112 ⌝ }
+    requires { ⌜ Rooms (now store) (now text) ⌝ }
     ensures { λ r.
-        ⌜ TurnBy (now (list .entry)) (now (work .entry))
+        ⌜ Turned (now (list .entry)) (now (work .entry))
         (monitorOf state (now (area0 .entry)) (now (area1 .entry))) e
         r (now (area0 .exit)) (now (area1 .exit)) ⌝ }
 {
     match trace::trace_event(list, work, e, state, area0, area1, store) {
-        Traced::Went(next, permitted) => {
-            let line = TraceLine::Takes(e, next, permitted);
-            if say(line, text) {
-                return Course::Going(next, line);
-            }
-            Course::Over(Told::Unwritten)
-        }
+        Traced::Went(next, permitted) => match say(TraceLine::Takes(e, next, permitted), text) {
+            Saying::Written(said) => Course::Going(next, said),
+            Saying::Failed(unsaid) => Course::Over(Told::Unwritten(unsaid)),
+        },
         Traced::Stopped(number, place) => Course::Over(say_refusal(number, place, text)),
     }
 }
@@ -84,7 +88,7 @@ fn take_read(
     list: &[u16],
     work: &[u64],
     state: State,
-    line: TraceLine,
+    said: Said,
     area0: &mut [u64],
     area1: &mut [u64],
     events: &[u8],
@@ -92,26 +96,63 @@ fn take_read(
     text: &mut [u8],
 ) -> Course
     requires { ⌜ Tracing (now list) (now work) (monitorOf state (now area0) (now area1)) ⌝ }
-    requires { ⌜ length (now store) ≡ 4112 ⌝ }
+    requires { ⌜ Rooms (now store) (now text) ⌝ }
     ensures { λ r.
-        ⌜ ReadBy (now (list .entry)) (now (work .entry))
-        (monitorOf state (now (area0 .entry)) (now (area1 .entry))) (traceLineSaid line)
+        ⌜ ReadOn (now (list .entry)) (now (work .entry))
+        (monitorOf state (now (area0 .entry)) (now (area1 .entry))) (saidLine said)
         (now (events .entry)) r (now (area0 .exit)) (now (area1 .exit)) ⌝ }
 {
     let mut last = state;
-    let mut said = line;
+    let mut spoken = said;
     let mut i = 0;
     while i < events.len() {
         match turn(list, work, events[i], last, area0, area1, store, text) {
             Course::Going(next, now) => {
                 last = next;
-                said = now;
+                spoken = now;
                 i += 1;
             }
             Course::Over(told) => return Course::Over(told),
         }
     }
-    Course::Going(last, said)
+    Course::Going(last, spoken)
+}
+
+// What one read brought into a piece: its events judged, or the end.
+fn after_arrived(
+    list: &[u16],
+    work: &[u64],
+    state: State,
+    said: Said,
+    area0: &mut [u64],
+    area1: &mut [u64],
+    piece: &[u8],
+    arrived: Arrived,
+    store: &mut [u64],
+    text: &mut [u8],
+) -> Course
+    requires { ⌜ Tracing (now list) (now work) (monitorOf state (now area0) (now area1)) ⌝ }
+    requires { ⌜ Rooms (now store) (now text) × Arrives (length (now piece)) arrived ⌝ }
+    ensures { λ r.
+        ⌜ AfterArrived (now (list .entry)) (now (work .entry))
+        (monitorOf state (now (area0 .entry)) (now (area1 .entry))) said
+        (now (piece .entry)) arrived r (now (area0 .exit)) (now (area1 .exit)) ⌝ }
+{
+    match arrived {
+        Arrived::Bytes(n) => take_read(
+            list,
+            work,
+            state,
+            said,
+            area0,
+            area1,
+            &piece[..n],
+            store,
+            text,
+        ),
+        Arrived::Ended(end) => Course::Over(Told::Ended(end, said)),
+        Arrived::Broken(failure) => Course::Over(Told::Unread(failure)),
+    }
 }
 
 // Reads what arrives, and judges it, until the input ends or a refusal is said. Each read brings an
@@ -120,7 +161,7 @@ fn follow(
     list: &[u16],
     work: &[u64],
     state: State,
-    line: TraceLine,
+    said: Said,
     area0: &mut [u64],
     area1: &mut [u64],
     piece: &mut [u8],
@@ -128,36 +169,32 @@ fn follow(
     text: &mut [u8],
 ) -> Told
     requires { ⌜ Tracing (now list) (now work) (monitorOf state (now area0) (now area1)) ⌝ }
-    requires { ⌜ (length (now store) ≡ 4112) × (0 < length (now piece)) ⌝ }
+    requires { ⌜ Rooms (now store) (now text) × (0 < length (now piece)) ⌝ }
     ensures { λ r.
-        ⌜ Followed (now (list .entry))
-        (monitorOf state (now (area0 .entry)) (now (area1 .entry))) (traceLineSaid line) r ⌝ }
+        ⌜ Followed (tableIn (now (list .entry)))
+        (monitorOf state (now (area0 .entry)) (now (area1 .entry))) (saidLine said) r ⌝ }
 {
     let mut last = state;
-    let mut said = line;
+    let mut spoken = said;
     loop {
-        match input::arrive(piece) {
-            Arrived::Bytes(n) => {
-                match take_read(
-                    list,
-                    work,
-                    last,
-                    said,
-                    area0,
-                    area1,
-                    &piece[..n],
-                    store,
-                    text,
-                ) {
-                    Course::Going(next, now) => {
-                        last = next;
-                        said = now;
-                    }
-                    Course::Over(told) => return told,
-                }
+        let arrived = input::arrive(piece);
+        match after_arrived(
+            list,
+            work,
+            last,
+            spoken,
+            area0,
+            area1,
+            piece,
+            arrived,
+            store,
+            text,
+        ) {
+            Course::Going(next, now) => {
+                last = next;
+                spoken = now;
             }
-            Arrived::Ended(end) => return Told::Ended(end, said),
-            Arrived::Broken(failure) => return Told::Unread(failure),
+            Course::Over(told) => return told,
         }
     }
 }
@@ -173,28 +210,30 @@ fn begin(
     text: &mut [u8],
 ) -> Told
     requires { ⌜ Tracing (now list) (now work) (monitorOf state (now area0) (now area1)) ⌝ }
+    requires { ⌜ 2816 ≤ length (now text) ⌝ }
     ensures { λ r.
-        ⌜ Followed (now (list .entry))
+        ⌜ Followed (tableIn (now (list .entry)))
         (monitorOf state (now (area0 .entry)) (now (area1 .entry)))
         (traceLineSaid (Starts state permitted)) r ⌝ }
 {
-    let line = TraceLine::Starts(state, permitted);
-    if !say(line, text) {
-        return Told::Unwritten;
+    match say(TraceLine::Starts(state, permitted), text) {
+        Saying::Written(said) => {
+            let mut store = [0u64; 4112];
+            let mut piece = [0u8; 4096];
+            follow(
+                list,
+                work,
+                state,
+                said,
+                area0,
+                area1,
+                &mut piece,
+                &mut store,
+                text,
+            )
+        }
+        Saying::Failed(unsaid) => Told::Unwritten(unsaid),
     }
-    let mut store = [0u64; 4112];
-    let mut piece = [0u8; 4096];
-    follow(
-        list,
-        work,
-        state,
-        line,
-        area0,
-        area1,
-        &mut piece,
-        &mut store,
-        text,
-    )
 }
 
 // An input by its front, in which no event stands.
@@ -225,7 +264,7 @@ fn open_front(
             area1,
             &mut text,
         ),
-        Opened::Refused(refusal) => { say_refusal(refusal.number, refusal.place as u64, &mut text) }
+        Opened::Refused(refusal) => say_refusal(refusal.number, refusal.place as u64, &mut text),
     }
 }
 

@@ -2,9 +2,9 @@
 // `line_monitor` has them; on standard output a line at the start and after each event.
 //     course     the line at the start, and then those of the events, through crate `trace`
 //     print      a line
-// Nothing waits for a full buffer. The front is as long as a length number and the longest table;
-// no event is read with it. An input that cannot be read gets a message on standard error and no
-// further line.
+// Nothing waits for a full buffer. The front's buffer has room for a length number and the longest
+// table; no event is read with it. An input that cannot be read gets a message on standard error
+// and no further line.
 mod course;
 mod print;
 
@@ -30,8 +30,8 @@ fn main() {
     let read = trace_front::read_front(&mut front);
     match told_by(&front, read) {
         Told::Ended(_, _) => {}
-        Told::Refused(_, _) => {}
+        Told::Refused(_) => {}
         Told::Unread(_) => input::fail(),
-        Told::Unwritten => os::fail(b"standard output"),
+        Told::Unwritten(_) => os::fail(b"standard output"),
     }
 }

@@ -11,7 +11,7 @@ use crate::parts::put_rest;
 use state::EventBits;
 use state::State;
 
-// No line is longer: 128 events and four numbers of 20 digits, each after a space, and some words.
+// No line is longer: 128 events and five numbers of 20 digits, each after a space, and some words.
 const ROOM: usize = 2816;
 
 // Before any event.

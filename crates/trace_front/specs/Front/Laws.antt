@@ -1,7 +1,7 @@
 -- A front that is being read.
 --     held-none, held-room     no bytes; what it needs has room
 --     held-more, held-kept     some bytes more behind those that stand, no more than it needs; none
---     read-long, read-none, read-room, read-some, read-more
+--     read-long, read-none, read-short, read-room, read-some, read-more
 --                              what a read into the part of the buffer behind it leaves
 -- Assumes nothing.
 use Prim.Native.Nat.{ℕ, _+_, _-_, _≤_, _<_}
@@ -62,6 +62,15 @@ module _ (front filled : List ℕ) (n want : ℕ) (h : Held front n) (size : len
   -- where none came, the front stands
   pub read-none : Held (putMid n (n + want - n) front filled) n
   read-none = held-kept front after n h (take-put n (n + want - n) front filled (h .within)) (read-long ∙ sym size)
+
+  -- and needs as much
+  pub read-short : (want ≡ 0 → ⊥) → 0 < wantedOf (take n (putMid n (n + want - n) front filled))
+  read-short i =
+      let e = ap wantedOf (take-put n (n + want - n) front filled (h .within)) in
+      some want i (need ∙ sym e)
+    where
+      some : (k : ℕ) → (k ≡ 0 → ⊥) → k ≡ wantedOf (take n after) → 0 < wantedOf (take n after)
+      some k f g = omega (arith, f)
 
   module _ (r : Arrived) (more : ℕ) (came : Arrives (length filled) r) (bytes : r ≡ Bytes more) where
     pub read-room : n + more ≤ 16387

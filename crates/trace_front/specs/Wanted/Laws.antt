@@ -2,6 +2,7 @@
 --     missing-over, missing-some, missing-none            what is missing of a table, by its length
 --     wanted-value, wanted-truncated, wanted-malformed    by what is read at its start
 --     wanted-decided                                      a front that needs nothing is decided
+--     wanted-cut                                          one that needs more is cut short
 --     fronts-first, fronts-more                           no bytes; no more than it needs
 -- Assumes nothing.
 use Prim.Native.Nat.{ℕ, _+_, _-_, _≤_, _<_}
@@ -18,7 +19,7 @@ use Rattle.numbers.specs.Position.Laws.{value-read, truncated-read, malformed-r
 use Rattle.line_spec.specs.Line.{Head, parts, wrong, cut, headBy, headOf}
 use Rattle.line_spec.specs.Line.Laws.{cut-over, cut-missing, cut-there}
 use Rattle.trace_spec.specs.Reads.{Decided, tableThere, lengthOver, lengthLoose}
-use Rattle.trace_front.specs.Wanted.{missingOf, wantedBy, wantedOf, Fronts}
+use Rattle.trace_front.specs.Wanted.{missingOf, wantedBy, wantedOf, Fronts, CutShort}
 use Rattle.trace_spec.specs.Trace.Heads.{value-more}
 use Rattle.trace_front.specs.Wanted.Scans.{truncated-short, truncated-last}
 
@@ -75,6 +76,25 @@ wanted-decided s h = by (readNumber s) refl
             let few : v ≤ 16384 = omega arith in
             let there : v ≤ length rest = omega (arith, missing-some v (length rest) few ∙ none) in
             tableThere (take v rest) (drop v rest) (ap headBy e ∙ cut-there v rest few there)
+
+pub wanted-cut : (s : List ℕ) → 0 < wantedOf s → CutShort s
+unfolding wantedOf wantedBy headOf headBy
+wanted-cut s h = by (readNumber s) refl
+  where
+    by : (x : Scan) → readNumber s ≡ x → CutShort s
+    by truncated e = record { place = 0; head = ap headBy e }
+    by malformed e = absurd (omega (arith, ap wantedBy e))
+    by (value v n rest) e = sized (decLt 16384 v)
+      where
+        some : missingOf v (length rest) ≡ wantedOf s
+        some = sym (ap wantedBy e)
+
+        sized : Dec (16384 < v) → CutShort s
+        sized (yes l) = absurd (omega (arith, missing-over v (length rest) l ∙ some))
+        sized (no l) =
+            let few : v ≤ 16384 = omega arith in
+            let short : length rest < v = omega (arith, missing-some v (length rest) few ∙ some) in
+            record { place = length rest; head = ap headBy e ∙ cut-missing v rest few short }
 
 -- ---- a front that got no more than it needed
 

@@ -1,167 +1,212 @@
--- The course of an input, event by event.
---     refusal-told                       a refusal that is told was said last
---     onward-none, onward-then           no event; some and then some more;  onward-as: by another name of them
---     over-then, told-says               what is told further on; in the end
---     turn-went, turn-stopped            one event, by what `trace_event` answered
---     turn-on, turn-over, read-all       the events of a read
---     along-start, read-along, read-took, read-over, ended-said     read after read
+-- What the functions promise, by the ways out of their code.
+--     turn-went, turn-unsaid, turn-stopped         `turn`, by what `trace_event` and `say` answered
+--     read-tracing, read-next, read-whole, read-over     `take_read`, after i events
+--     arrived-bytes, arrived-ended, arrived-broken     `after_arrived`
+--     Brought, brought, follow-over                `follow`, by what `after_arrived` answered
+--     begin-said                                   `begin`
 -- Assumes nothing.
 use Prim.Native.Nat.{ℕ, suc, _+_, _≤_, _<_}
 use native.Mathlib.Omega.{arith}
-use mathlib.Core.Path.{_≡_, sym, subst}
-use mathlib.Core.List.{List, [], _∷_, _++_, append-assoc, append-nil}
-use lib.ListN.{length, getD, take, drop, length-append}
-use lib.Seq.{take-suc, take-all, split-at}
+use mathlib.Core.Path.{_≡_, refl, ap, sym, subst, _∙_}
+use mathlib.Core.List.{List, [], _∷_, _++_}
+use lib.ListN.{length, take, drop, getD, take-append-drop}
+use lib.Seq.{take-suc, take-all, length-take-le}
+use Rattle.table.specs.Table.{Table}
 use Rattle.table_index.specs.Index.{tableIn}
 use Rattle.monitor_spec.specs.State.{Monitor}
 use Rattle.state.specs.declared.record.State.{State}
 use Rattle.state.specs.declared.answer.EventBits.{EventBits}
-use Rattle.state.specs.Record.{stateOf, monitorOf}
-use Rattle.line_spec.specs.Judged.{Took}
-use Rattle.line_spec.specs.Judged.Taken.{event-took}
-use Rattle.trace_spec.specs.TraceLine.{TraceLine, refuses}
-use Rattle.trace_spec.specs.Trace.{traceOf}
-use Rattle.trace.specs.declared.answer.TraceLine.the-variants.{Takes}
+use Rattle.state.specs.Record.{monitorOf}
+use Rattle.input.specs.declared.reading.End.{End}
+use Rattle.input.specs.declared.reading.Failure.{Failure}
+use Rattle.input.specs.declared.reading.Arrived.{Arrived}
+use Rattle.input.specs.declared.reading.Arrived.the-variants as came
+use Rattle.input.specs.Arrival.{Arrives}
+use Rattle.trace_spec.specs.TraceLine.{TraceLine}
+use Rattle.trace.specs.declared.answer.TraceLine.the-variants.{Starts, Takes}
+use Rattle.trace.specs.declared.answer.TraceLine as code
 use Rattle.trace.specs.Answers.{traceLineSaid}
-use Rattle.trace.specs.declared.answer.TraceLine as line
 use Rattle.trace.specs.declared.answer.Traced.{Traced}
 use Rattle.trace.specs.declared.answer.Traced.the-variants.{Went, Stopped}
-use Rattle.trace.specs.Tracing.{Tracing, TracedOn, StoppedAt, TracedBy}
-use Rattle.trace.specs.Tracing.Laws.{reached-next, trace-next, trace-stop}
-use Rattle.input.specs.declared.reading.End.{End}
+use Rattle.trace.specs.Tracing.{Tracing, StoppedAt, TracedBy}
+use Rattle.trace_monitor.specs.declared.print.Said.{Said}
+use Rattle.trace_monitor.specs.declared.print.Unsaid.{Unsaid}
+use Rattle.trace_monitor.specs.declared.print.Saying.{Saying}
+use Rattle.trace_monitor.specs.declared.print.Saying.the-variants.{Written}
 use Rattle.trace_monitor.specs.declared.course.Told.{Told}
 use Rattle.trace_monitor.specs.declared.course.Told.the-variants.{Ended, Refused, Unread, Unwritten}
 use Rattle.trace_monitor.specs.declared.course.Course.{Course}
 use Rattle.trace_monitor.specs.declared.course.Course.the-variants.{Going, Over}
-use Rattle.trace_monitor.specs.Course.{LastLine, Stands, Onward, ToldAt, OverBy, ReadBy, TurnBy, SaidLast, Says}
-use Rattle.trace_monitor.specs.Course.{Followed, Along, ToldRefusal}
+use Rattle.trace_monitor.specs.Spoken.{saidLine, Spoken}
+use Rattle.trace_monitor.specs.Course.{WentOn, StopSaid, Turned, Onward, RefusedIn, ReadOver, ReadOn}
+use Rattle.trace_monitor.specs.Course.{AfterArrived, Gone, EndsAfter, Followed, ToldRefusal}
+use Rattle.trace_monitor.specs.Course.Steps.{onward-then, refused-then, refused-more, event-onward}
+use Rattle.trace_monitor.specs.Course.Steps.{event-refused, gone-refused}
 
--- ---- what is told
+pub written-line : (line : code.TraceLine) (q : Saying) → Spoken line q → (y : Said) → q ≡ Written y → y .line ≡ line
+written-line line q h y e = subst (Spoken line) e h
 
-pub refusal-told : (s : List ℕ) (number place : ℕ) → LastLine s (refuses number place) → (r : Told)
-    → ToldRefusal number place r → ToldAt s r
-refusal-told s number place h (Ended e x) t = t
-refusal-told s number place h (Refused n p) (i, j) =
-    subst (λ (k : ℕ). LastLine s (refuses k p)) (sym i) (subst (λ (k : ℕ). LastLine s (refuses number k)) (sym j) h)
-refusal-told s number place h (Unread f) t = t
-refusal-told s number place h Unwritten t = tt
+-- ---- one turn
 
--- after the bytes s and the events es, of an input that begins with s
-pub told-says : (s es : List ℕ) (r : Told) → ToldAt (s ++ es) r → Says s r
-told-says s es (Ended e x) h = absurd h
-told-says s es (Refused n p) h = record { events = es; last = h }
-told-says s es (Unread f) h = tt
-told-says s es Unwritten h = tt
-
--- ---- some events further
-
-pub onward-none : (l w : List ℕ) (m : Monitor) (x : TraceLine) → Tracing l w m → Onward l w m x [] m x
-onward-none l w m x h =
-    record {
-      tracing = h;
-      stands = λ s p. subst (λ (z : List ℕ). Stands z (tableIn l) m x) (sym (append-nil s)) p;
-      took = record { all = omega arith; fits = λ i. i };
-    }
-
-module _ (l w : List ℕ) (m d : Monitor) (x y : TraceLine) (es : List ℕ) (far : Onward l w m x es d y) where
-  -- the same by another name of the events
-  pub onward-as : (fs : List ℕ) → es ≡ fs → Onward l w m x fs d y
-  onward-as fs e = subst (λ (z : List ℕ). Onward l w m x z d y) e far
-
-  pub onward-then : (fs : List ℕ) (f : Monitor) (z : TraceLine) → Onward l w d y fs f z → Onward l w m x (es ++ fs) f z
-  onward-then fs f z h =
-      let n = length-append es fs in
-      let a = far .took .all in
-      let b = h .took .all in
+module _ (l w : List ℕ) (m : Monitor) (e : ℕ) (a b : List ℕ) where
+  pub turn-went : (r : Traced) → TracedBy l w m e r a b → (st : State) (bits : EventBits) → r ≡ Went st bits
+      → (q : Saying) → Spoken (Takes e st bits) q → (y : Said) → q ≡ Written y → Turned l w m e (Going st y) a b
+  unfolding Turned
+  turn-went r traced st bits k q h y i =
       record {
-        tracing = h .tracing;
-        stands = λ s p. subst (λ (v : List ℕ). Stands v (tableIn l) f z) (append-assoc s es fs)
-            (h .stands (s ++ es) (far .stands s p));
-        took = record { all = omega arith; fits = λ i. h .took .fits (far .took .fits i) };
+        bits = bits;
+        traced = subst (λ (v : Traced). TracedBy l w m e v a b) k traced;
+        line = ap traceLineSaid (written-line (Takes e st bits) q h y i);
       }
 
-  pub over-then : (fs : List ℕ) (r : Told) → OverBy l d y fs r → OverBy l m x (es ++ fs) r
-  over-then fs r h s p = subst (λ (v : List ℕ). ToldAt v r) (append-assoc s es fs) (h (s ++ es) (far .stands s p))
+  pub turn-unsaid : (u : Unsaid) → Turned l w m e (Over (Unwritten u)) a b
+  unfolding Turned
+  turn-unsaid u = tt
 
--- ---- one event
-
-module _ (l w : List ℕ) (m : Monitor) (e : ℕ) (r : Traced) (a b : List ℕ) (traced : TracedBy l w m e r a b) where
-  pub turn-went : (st : State) (bits : EventBits) → r ≡ Went st bits → (x : TraceLine)
-      → Onward l w m x (e ∷ []) (monitorOf st a b) (traceLineSaid (Takes e st bits))
-  turn-went st bits k x =
-      let h : TracedOn l w m e st bits a b = subst (λ (y : Traced). TracedBy l w m e y a b) k traced in
+  pub turn-stopped : (r : Traced) → TracedBy l w m e r a b → (number place : ℕ) → r ≡ Stopped number place
+      → (t : Told) → ToldRefusal number place t → Turned l w m e (Over t) a b
+  unfolding Turned
+  turn-stopped r traced number place k (Ended end y) h = h
+  turn-stopped r traced number place k (Refused y) h =
       record {
-        tracing = h .tracing;
-        stands = λ s p. record {
-          here = reached-next s l w m (p .here) e a b st bits h;
-          last = record { before = traceOf s; split = trace-next s l w m (p .here) e a b st bits h };
-        };
-        took = event-took (tableIn l) m (monitorOf st a b) e (h .takes);
+        number = number;
+        place = place;
+        stopped = subst (λ (v : Traced). TracedBy l w m e v a b) k traced;
+        line = h;
       }
+  turn-stopped r traced number place k (Unread f) h = h
+  turn-stopped r traced number place k (Unwritten u) h = tt
 
-  pub turn-stopped : (number place : ℕ) → r ≡ Stopped number place → (t : Told) → ToldRefusal number place t
-      → (x : TraceLine) (rest : List ℕ) → OverBy l m x (e ∷ rest) t
-  turn-stopped number place k t h x rest s p =
-      let stopped : StoppedAt l m e number place a b = subst (λ (y : Traced). TracedBy l w m e y a b) k traced in
-      refusal-told (s ++ (e ∷ rest)) number place
-      (record { before = traceOf s; split = trace-stop s l w m (p .here) e a b number place stopped rest }) t h
+-- ---- the events of a read, of which i are taken
 
--- ---- the events of a read: i of them were taken
+module _ (l : List ℕ) (m : Monitor) (x : TraceLine) (es : List ℕ) where
+  module _ (w : List ℕ) (i : ℕ) (d : Monitor) (y : TraceLine) (far : Onward (tableIn l) m x (take i es) d y) where
+    pub read-whole : length es ≤ i → (next : State) (z : Said) (a b : List ℕ) → monitorOf next a b ≡ d
+        → saidLine z ≡ y → Tracing l w d → ReadOn l w m x es (Going next z) a b
+    unfolding ReadOn
+    read-whole k next z a b p q tracing = (
+      subst (Tracing l w) (sym p) tracing,
+      subst (λ (v : List ℕ). Onward (tableIn l) m x v (monitorOf next a b) (saidLine z)) (take-all i es k)
+          (subst (λ (v : TraceLine). Onward (tableIn l) m x (take i es) (monitorOf next a b) v) (sym q)
+          (subst (λ (v : Monitor). Onward (tableIn l) m x (take i es) v y) (sym p) far)),
+    )
 
-module _ (l w : List ℕ) (m d : Monitor) (x y : TraceLine) (events : List ℕ) (i : ℕ) (some : i < length events)
-    (far : Onward l w m x (take i events) d y) (c : Course) (a b : List ℕ)
-    (turned : TurnBy l w d (getD events i 0) c a b) where
-  pub turn-on : (next : State) (z : line.TraceLine) → c ≡ Going next z
-      → Onward l w m x (take (i + 1) events) (monitorOf next a b) (traceLineSaid z)
-  turn-on next z e =
-      let one : i + 1 ≡ suc i = omega arith in
-      let far' = onward-then l w m d x y (take i events) far (getD events i 0 ∷ []) (monitorOf next a b)
-      (traceLineSaid z) (subst (λ (v : Course). TurnBy l w d (getD events i 0) v a b) e turned y) in
-      onward-as l w m (monitorOf next a b) x (traceLineSaid z) (take i events ++ (getD events i 0 ∷ [])) far'
-      (take (i + 1) events) (rw one (sym (take-suc events i 0 some)))
+    module _ (inside : i < length es) (r : Course) (a b : List ℕ) (one : Turned l w d (getD es i 0) r a b) where
+      one-more : take i es ++ getD es i 0 ∷ [] ≡ take (i + 1) es
+      one-more = let n : suc i ≡ i + 1 = omega arith in sym (take-suc es i 0 inside) ∙ ap (λ (k : ℕ). take k es) n
 
-  pub turn-over : (t : Told) → c ≡ Over t → OverBy l m x events t
-  turn-over t e =
-      let rest = drop (suc i) events in
-      let all : take i events ++ (getD events i 0 ∷ rest) ≡ events = sym (split-at events i 0 some) in
-      subst (λ (v : List ℕ). OverBy l m x v t) all
-      (over-then l w m d x y (take i events) far (getD events i 0 ∷ rest) t
-      (subst (λ (v : Course). TurnBy l w d (getD events i 0) v a b) e turned y rest))
+      went : (next : State) (z : Said) → r ≡ Going next z → WentOn l w d (getD es i 0) next (saidLine z) a b
+      unfolding Turned
+      went next z k = subst (λ (v : Course). Turned l w d (getD es i 0) v a b) k one
 
-pub read-all : (l w : List ℕ) (m d : Monitor) (x y : TraceLine) (events : List ℕ) (i : ℕ) → length events ≤ i
-    → Onward l w m x (take i events) d y → Onward l w m x events d y
-read-all l w m d x y events i h far =
-    onward-as l w m d x y (take i events) far events (take-all i events h)
+      pub read-tracing : (next : State) (z : Said) → r ≡ Going next z → Tracing l w (monitorOf next a b)
+      read-tracing next z k = went next z k .traced .tracing
 
--- ---- read after read
+      pub read-next : (next : State) (z : Said) → r ≡ Going next z
+          → Onward (tableIn l) m x (take (i + 1) es) (monitorOf next a b) (saidLine z)
+      read-next next z k =
+          subst (λ (v : List ℕ). Onward (tableIn l) m x v (monitorOf next a b) (saidLine z)) one-more
+          (onward-then (tableIn l) m x (take i es) d y far (getD es i 0 ∷ []) (monitorOf next a b) (saidLine z)
+          (event-onward l d (getD es i 0) (saidLine z) a b w next (went next z k) y))
 
-pub along-start : (l w : List ℕ) (m : Monitor) (x : TraceLine) → Tracing l w m → Along l w m x m x
-along-start l w m x h = record { events = []; far = onward-none l w m x h }
+      stopped : (z : TraceLine) → StopSaid l d (getD es i 0) z a b → RefusedIn (tableIn l) m es z
+      stopped z h =
+          subst (λ (v : List ℕ). RefusedIn (tableIn l) m v z) (take-append-drop (i + 1) es)
+          (refused-more (tableIn l) m (take (i + 1) es) z
+          (subst (λ (v : List ℕ). RefusedIn (tableIn l) m v z) one-more
+          (refused-then (tableIn l) m x (take i es) d y far (getD es i 0 ∷ []) z
+          (event-refused l d (getD es i 0) z a b h)))
+          (drop (i + 1) es))
 
-module _ (l w : List ℕ) (m d : Monitor) (x y : TraceLine) (along : Along l w m x d y) where
-  module _ (c : Course) (a b es : List ℕ) (read : ReadBy l w d y es c a b) where
-    pub read-along : (next : State) (z : line.TraceLine) → c ≡ Going next z
-        → Along l w m x (monitorOf next a b) (traceLineSaid z)
-    read-along next z e =
-        record {
-          events = along .events ++ es;
-          far = onward-then l w m d x y (along .events) (along .far) es (monitorOf next a b) (traceLineSaid z)
-              (subst (λ (v : Course). ReadBy l w d y es v a b) e read);
-        }
+      over : (t : Told) → Turned l w d (getD es i 0) (Over t) a b → ReadOver (tableIn l) m es t
+      unfolding Turned ReadOver
+      over (Ended end z) h = h
+      over (Refused z) h = stopped (saidLine z) h
+      over (Unread f) h = h
+      over (Unwritten u) h = tt
 
-    pub read-took : (next : State) (z : line.TraceLine) → c ≡ Going next z → Took (d .state) (length es) (stateOf next)
-    read-took next z e =
-        let h : Onward l w d y es (monitorOf next a b) (traceLineSaid z) =
-        subst (λ (v : Course). ReadBy l w d y es v a b) e read in
-        h .took
+      pub read-over : (t : Told) → r ≡ Over t → ReadOn l w m x es (Over t) a b
+      unfolding ReadOn
+      read-over t k = over t (subst (λ (v : Course). Turned l w d (getD es i 0) v a b) k one)
 
-    pub read-over : (t : Told) → c ≡ Over t → Followed l m x t
-    read-over t e s p =
-        told-says s (along .events ++ es) t
-        (over-then l w m d x y (along .events) (along .far) es t (subst (λ (v : Course). ReadBy l w d y es v a b) e read)
-        s p)
+-- ---- what arrived
 
-pub ended-said : (l w : List ℕ) (m d : Monitor) (x : TraceLine) (z : line.TraceLine)
-    → Along l w m x d (traceLineSaid z) → (e : End) → Followed l m x (Ended e z)
-ended-said l w m d x z along e s p =
-    record { events = along .events; last = along .far .stands s p .last }
+module _ (l w : List ℕ) (m : Monitor) (said : Said) (piece : List ℕ) (q : Arrived) (a b : List ℕ) where
+  pub arrived-bytes : (n : ℕ) → q ≡ came.Bytes n → (r : Course) → ReadOn l w m (saidLine said) (take n piece) r a b
+      → AfterArrived l w m said piece q r a b
+  unfolding AfterArrived
+  arrived-bytes n e r h = subst (λ (v : Arrived). AfterArrived l w m said piece v r a b) (sym e) h
+
+  pub arrived-ended : (end : End) → q ≡ came.Ended end → AfterArrived l w m said piece q (Over (Ended end said)) a b
+  unfolding AfterArrived
+  arrived-ended end e =
+      subst (λ (v : Arrived). AfterArrived l w m said piece v (Over (Ended end said)) a b) (sym e) refl
+
+  pub arrived-broken : (f : Failure) → q ≡ came.Broken f → AfterArrived l w m said piece q (Over (Unread f)) a b
+  unfolding AfterArrived
+  arrived-broken f e = subst (λ (v : Arrived). AfterArrived l w m said piece v (Over (Unread f)) a b) (sym e) refl
+
+-- ---- one read more
+
+-- it brought some events, and the monitor goes on
+pub record Brought (l w : List ℕ) (m : Monitor) (x : TraceLine) (d : Monitor) (y : TraceLine) : Type 0 where
+  pub events : List ℕ
+  pub some : 0 < length events
+  pub tracing : Tracing l w d
+  pub onward : Onward (tableIn l) m x events d y
+
+module _ (l w : List ℕ) (d : Monitor) (said : Said) (piece : List ℕ) (room : 0 < length piece) (r : Course)
+    (a b : List ℕ) where
+  bytes-some : (n : ℕ) → Arrives (length piece) (came.Bytes n) → 0 < length (take n piece)
+  bytes-some n (few, some) = let k = length-take-le n piece few in let i = some room in omega arith
+
+  pub brought : (q : Arrived) → Arrives (length piece) q → AfterArrived l w d said piece q r a b
+      → (next : State) (z : Said) → r ≡ Going next z → Brought l w d (saidLine said) (monitorOf next a b) (saidLine z)
+  unfolding AfterArrived ReadOn
+  brought (came.Bytes n) arrives h next z e =
+      let (tracing, onward) : ReadOn l w d (saidLine said) (take n piece) (Going next z) a b =
+      subst (λ (v : Course). ReadOn l w d (saidLine said) (take n piece) v a b) e h in
+      record { events = take n piece; some = bytes-some n arrives; tracing = tracing; onward = onward }
+  brought (came.Ended end) arrives h next z e = absurd (let y : _≡_ {A = ℕ} 0 1 = cc in omega arith)
+  brought (came.Broken f) arrives h next z e = absurd (let y : _≡_ {A = ℕ} 0 1 = cc in omega arith)
+
+  module _ (m : Monitor) (x : TraceLine) (gone : Gone (tableIn l) m x d (saidLine said)) where
+    refused-read : (es : List ℕ) → 0 < length es → (t : Told) → ReadOver (tableIn l) d es t
+        → Followed (tableIn l) m x t
+    unfolding ReadOver Followed
+    refused-read es some (Ended end y) h = absurd h
+    refused-read es some (Refused y) h =
+        gone-refused (tableIn l) m x d (saidLine said) gone es some (saidLine y) h
+    refused-read es some (Unread f) h = tt
+    refused-read es some (Unwritten u) h = tt
+
+    ended : (end : End) → Followed (tableIn l) m x (Ended end said)
+    unfolding Followed
+    ended end = record { monitor = d; gone = gone }
+
+    unread : (f : Failure) → Followed (tableIn l) m x (Unread f)
+    unfolding Followed
+    unread f = tt
+
+    pub follow-over : (q : Arrived) → Arrives (length piece) q → AfterArrived l w d said piece q r a b
+        → (t : Told) → r ≡ Over t → Followed (tableIn l) m x t
+    unfolding AfterArrived ReadOn
+    follow-over (came.Bytes n) arrives h t e =
+        refused-read (take n piece) (bytes-some n arrives) t
+        (subst (λ (v : Course). ReadOn l w d (saidLine said) (take n piece) v a b) e h)
+    follow-over (came.Ended end) arrives h t e =
+        let y : Ended end said ≡ t = cc in subst (Followed (tableIn l) m x) y (ended end)
+    follow-over (came.Broken f) arrives h t e =
+        let y : Unread f ≡ t = cc in subst (Followed (tableIn l) m x) y (unread f)
+
+-- ---- the start
+
+pub begin-said : (t : Table) (m : Monitor) (st : State) (bits : EventBits) (q : Saying) → Spoken (Starts st bits) q
+    → (y : Said) → q ≡ Written y → (r : Told) → Followed t m (saidLine y) r
+    → Followed t m (traceLineSaid (Starts st bits)) r
+begin-said t m st bits q h y e r f =
+    subst (λ (v : TraceLine). Followed t m v r) (ap traceLineSaid (written-line (Starts st bits) q h y e)) f
+
+pub begin-unsaid : (t : Table) (m : Monitor) (x : TraceLine) (u : Unsaid) → Followed t m x (Unwritten u)
+unfolding Followed
+begin-unsaid t m x u = tt

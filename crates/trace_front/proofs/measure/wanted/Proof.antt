@@ -17,7 +17,8 @@ cast-missing c = search needs
 missing-requires : tie.Need-missing-requires
 missing-requires c κs =
     let at-value = c .before in
-    wanted-within _ _ _ (sym (at-value .value .given .1) ∙ at-value .before .before .read .ensures)
+    let at-read = at-value .before .before in
+    wanted-within _ _ _ (sym (at-value .value .given .1) ∙ at-read .read .ensures)
 
 enum-told : tie.Need-enum-told
 enum-told c = search needs
@@ -28,7 +29,8 @@ enum-told-2 c = search needs
 returns : tie.Need-returns
 returns c =
     let at-value = c .before .before in
-    wanted-value _ _ _ _ (sym (at-value .value .given .1) ∙ at-value .before .before .read .ensures) (c .missing .ensures)
+    let at-read = at-value .before .before in
+    wanted-value _ _ _ _ (sym (at-value .value .given .1) ∙ at-read .read .ensures) (c .missing .ensures)
 
 returns-2 : tie.Need-returns-2
 returns-2 c = wanted-truncated _ (sym (c .enum-told .given .1) ∙ c .before .before .read .ensures)

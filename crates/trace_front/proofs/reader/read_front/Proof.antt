@@ -8,8 +8,8 @@ use lib.Seq.{length-take-le}
 use borrow.Author.Needs.{needs}
 use Rattle.trace_front.specs.Wanted.Laws.{wanted-decided}
 use Rattle.trace_front.specs.Front.{Held}
-use Rattle.trace_front.specs.Front.Laws.{held-none, held-room}
-use Rattle.trace_front.specs.Front.Laws.{read-long, read-none, read-room, read-some, read-more}
+use Rattle.trace_front.specs.Front.Laws.{held-none, held-room, read-long, read-none, read-short}
+use Rattle.trace_front.specs.Front.Laws.{read-room, read-some, read-more}
 use Rattle.trace_front.proofs.reader.read_front.Statement.{statement}
 use Rattle.trace_front.proofs.reader.read_front.Tie as tie
 
@@ -37,32 +37,36 @@ same-length c = c .before .before .before .loop .inv .0 ∙ sym (c .before .befo
 returns : tie.Need-returns Inv-loop μ-loop
 returns c =
     let at-wanted = c .before in
-    let loop = at-wanted .before .before .loop in
-    (loop .inv .1, wanted-decided _ (sym (at-wanted .wanted .ensures) ∙ c .if1 .taken))
+    let at-loop = at-wanted .before .before in
+    (at-loop .loop .inv .1, wanted-decided _ (sym (at-wanted .wanted .ensures) ∙ c .if1 .taken))
 
 add-end : tie.Need-add-end Inv-loop μ-loop
 add-end c =
     let at-wanted = c .before in
-    let loop = at-wanted .before .before .loop in
-    let r = held-room _ _ (loop .inv .1) in omega (arith, at-wanted .wanted .ensures)
+    let at-loop = at-wanted .before .before in
+    let r = held-room _ _ (at-loop .loop .inv .1) in
+    omega (arith, at-wanted .wanted .ensures)
 
 sub-arrive : tie.Need-sub-arrive Inv-loop μ-loop
 sub-arrive c =
     let at-wanted = c .before in
-    let loop = at-wanted .before .before .loop in
-    let r = held-room _ _ (loop .inv .1) in omega (arith, at-wanted .wanted .ensures)
+    let at-loop = at-wanted .before .before in
+    let r = held-room _ _ (at-loop .loop .inv .1) in
+    omega (arith, at-wanted .wanted .ensures)
 
 part-arrive-start : tie.Need-part-arrive-start Inv-loop μ-loop
 part-arrive-start c =
     let at-wanted = c .before in
-    let loop = at-wanted .before .before .loop in
-    let r = held-room _ _ (loop .inv .1) in omega (arith, at-wanted .wanted .ensures, loop .inv .0)
+    let at-loop = at-wanted .before .before in
+    let r = held-room _ _ (at-loop .loop .inv .1) in
+    omega (arith, at-wanted .wanted .ensures, at-loop .loop .inv .0)
 
 part-arrive-end : tie.Need-part-arrive-end Inv-loop μ-loop
 part-arrive-end c =
     let at-wanted = c .before in
-    let loop = at-wanted .before .before .loop in
-    let r = held-room _ _ (loop .inv .1) in omega (arith, at-wanted .wanted .ensures, loop .inv .0)
+    let at-loop = at-wanted .before .before in
+    let r = held-room _ _ (at-loop .loop .inv .1) in
+    omega (arith, at-wanted .wanted .ensures, at-loop .loop .inv .0)
 
 arrive-requires : tie.Need-arrive-requires Inv-loop μ-loop
 arrive-requires c κs = search needs
@@ -73,51 +77,47 @@ enum-known-more c = search needs
 add-n : tie.Need-add-n Inv-loop μ-loop
 add-n c =
     let at-more = c .before in
-    let more = at-more .more in
     let at-front = at-more .before .before .before in
     let at-arrive = at-front .before in
-    let arrive = at-arrive .arrive in
     let at-wanted = at-arrive .before .before .before in
-    let wanted = at-wanted .wanted in
-    let loop = at-wanted .before .before .loop in
-    let g = read-room (loop .front) (arrive .last .0) (loop .n) (wanted .result) (loop .inv .1) (loop .inv .0)
-    (wanted .ensures) (at-front .front .given .0) (arrive .result) (more .given .0 .0) (arrive .ensures)
-    (more .given .1) in omega arith
+    let at-loop = at-wanted .before .before in
+    let g = read-room (at-loop .loop .front) (at-arrive .arrive .last .0) (at-loop .loop .n)
+    (at-wanted .wanted .result) (at-loop .loop .inv .1) (at-loop .loop .inv .0) (at-wanted .wanted .ensures)
+    (at-front .front .given .0) (at-arrive .arrive .result) (at-more .more .given .0 .0) (at-arrive .arrive .ensures)
+    (at-more .more .given .1) in
+    omega arith
 
 loop-less : tie.Need-loop-less Inv-loop μ-loop
 loop-less c =
     let at-more = c .before in
-    let more = at-more .more in
     let at-front = at-more .before .before .before in
-    let front = at-front .front in
     let at-arrive = at-front .before in
-    let arrive = at-arrive .arrive in
     let at-if1 = at-arrive .before .before in
     let at-wanted = at-if1 .before in
-    let wanted = at-wanted .wanted in
-    let loop = at-wanted .before .before .loop in
-    let z = at-if1 .if1 .left in let g = read-room (loop .front) (arrive .last .0) (loop .n) (wanted .result)
-    (loop .inv .1) (loop .inv .0) (wanted .ensures) (front .given .0) (arrive .result) (more .given .0 .0)
-    (arrive .ensures) (more .given .1) in let k = read-some (loop .front) (arrive .last .0) (loop .n) (wanted .result)
-    (loop .inv .1) (loop .inv .0) (wanted .ensures) (front .given .0) (arrive .result) (more .given .0 .0)
-    (arrive .ensures) (more .given .1) (omega arith) in omega arith
+    let at-loop = at-wanted .before .before in
+    let z = at-if1 .if1 .left in
+    let g = read-room (at-loop .loop .front) (at-arrive .arrive .last .0) (at-loop .loop .n)
+    (at-wanted .wanted .result) (at-loop .loop .inv .1) (at-loop .loop .inv .0) (at-wanted .wanted .ensures)
+    (at-front .front .given .0) (at-arrive .arrive .result) (at-more .more .given .0 .0) (at-arrive .arrive .ensures)
+    (at-more .more .given .1) in
+    let k = read-some (at-loop .loop .front) (at-arrive .arrive .last .0) (at-loop .loop .n)
+    (at-wanted .wanted .result) (at-loop .loop .inv .1) (at-loop .loop .inv .0) (at-wanted .wanted .ensures)
+    (at-front .front .given .0) (at-arrive .arrive .result) (at-more .more .given .0 .0) (at-arrive .arrive .ensures)
+    (at-more .more .given .1) (omega arith) in
+    omega arith
 
 loop-again : tie.Need-loop-again Inv-loop μ-loop
 loop-again c =
     let at-more = c .before in
-    let more = at-more .more in
     let at-front = at-more .before .before .before in
-    let front = at-front .front in
     let at-arrive = at-front .before in
-    let arrive = at-arrive .arrive in
     let at-wanted = at-arrive .before .before .before in
-    let wanted = at-wanted .wanted in
-    let loop = at-wanted .before .before .loop in (
-      read-long (loop .front) (arrive .last .0) (loop .n) (wanted .result) (loop .inv .1) (loop .inv .0)
-          (wanted .ensures) (front .given .0),
-      read-more (loop .front) (arrive .last .0) (loop .n) (wanted .result)
-          (loop .inv .1) (loop .inv .0) (wanted .ensures) (front .given .0) (arrive .result) (more .given .0 .0)
-          (arrive .ensures) (more .given .1),
+    let at-loop = at-wanted .before .before in (
+      read-long (at-loop .loop .front) (at-arrive .arrive .last .0) (at-loop .loop .n) (at-wanted .wanted .result)
+          (at-loop .loop .inv .1) (at-loop .loop .inv .0) (at-wanted .wanted .ensures) (at-front .front .given .0),
+      read-more (at-loop .loop .front) (at-arrive .arrive .last .0) (at-loop .loop .n) (at-wanted .wanted .result)
+          (at-loop .loop .inv .1) (at-loop .loop .inv .0) (at-wanted .wanted .ensures) (at-front .front .given .0)
+          (at-arrive .arrive .result) (at-more .more .given .0 .0) (at-arrive .arrive .ensures) (at-more .more .given .1),
     )
 
 enum-known-over : tie.Need-enum-known-over Inv-loop μ-loop
@@ -130,11 +130,15 @@ returns-2 : tie.Need-returns-2 Inv-loop μ-loop
 returns-2 c =
     let at-front = c .before .before .before .before in
     let at-arrive = at-front .before in
-    let at-wanted = at-arrive .before .before .before in
-    let wanted = at-wanted .wanted in
-    let loop = at-wanted .before .before .loop in
-    read-none (loop .front) (at-arrive .arrive .last .0) (loop .n) (wanted .result) (loop .inv .1) (loop .inv .0)
-    (wanted .ensures) (at-front .front .given .0)
+    let at-if1 = at-arrive .before .before in
+    let at-wanted = at-if1 .before in
+    let at-loop = at-wanted .before .before in (
+      read-none (at-loop .loop .front) (at-arrive .arrive .last .0) (at-loop .loop .n) (at-wanted .wanted .result)
+          (at-loop .loop .inv .1) (at-loop .loop .inv .0) (at-wanted .wanted .ensures) (at-front .front .given .0),
+      read-short (at-loop .loop .front) (at-arrive .arrive .last .0) (at-loop .loop .n) (at-wanted .wanted .result)
+          (at-loop .loop .inv .1) (at-loop .loop .inv .0) (at-wanted .wanted .ensures) (at-front .front .given .0)
+          (at-if1 .if1 .left),
+    )
 
 enum-known-failure : tie.Need-enum-known-failure Inv-loop μ-loop
 enum-known-failure c = search needs

@@ -3,6 +3,7 @@ use Prim.Native.Nat.{ℕ, _<_}
 use native.Mathlib.Omega.{arith}
 use mathlib.Core.Path.{sym, subst}
 use lib.ListN.{length-replicate}
+use Rattle.trace_monitor.specs.Course.Laws.{begin-said, begin-unsaid}
 use borrow.Author.Needs.{needs}
 use Rattle.trace_monitor.proofs.course.begin.Statement.{statement}
 use Rattle.trace_monitor.proofs.course.begin.Tie as tie
@@ -10,11 +11,8 @@ use Rattle.trace_monitor.proofs.course.begin.Tie as tie
 say-requires : tie.Need-say-requires
 say-requires c κs = search needs
 
-same-length : tie.Need-same-length
-same-length c = search needs
-
-returns : tie.Need-returns
-returns c = search needs
+enum-known-said : tie.Need-enum-known-said
+enum-known-said c = search needs
 
 slice-aggregate-follow : tie.Need-slice-aggregate-follow
 slice-aggregate-follow c = search needs
@@ -24,11 +22,21 @@ slice-aggregate-follow-2 c = search needs
 
 follow-requires : tie.Need-follow-requires
 follow-requires c κs =
-    let at-if1 = c .before .before .before .before .before in
-    let start = at-if1 .before .before .before .before .before .before .before .before .before .before in (
-      start .pre,
-      (length-replicate {A = ℕ} 4112 0, subst (λ (n : ℕ). 0 < n) (sym (length-replicate {A = ℕ} 4096 0)) (omega arith)),
+    let at-say = c .before .before .before .before .before .before .before .before .before .before in
+    let at-pre = at-say .before .before .before .before .before .before .before in (
+      at-pre .pre .0,
+      (
+        (length-replicate {A = ℕ} 4112 0, omega (arith, at-say .say .kept .1 .0, at-pre .pre .1)),
+        subst
+            (λ (n : ℕ). 0 < n) (sym (length-replicate {A = ℕ} 4096 0)) (omega arith),
+      ),
     )
+
+enum-known-unsaid : tie.Need-enum-known-unsaid
+enum-known-unsaid c = search needs
+
+same-length : tie.Need-same-length
+same-length c = search needs
 
 same-length-2 : tie.Need-same-length-2
 same-length-2 c = search needs
@@ -36,23 +44,32 @@ same-length-2 c = search needs
 same-length-3 : tie.Need-same-length-3
 same-length-3 c = search needs
 
+returns : tie.Need-returns
+returns c =
+    let at-follow = c .before .before .before .before .before .before .before .before in
+    let at-said = at-follow .before .before .before .before .before .before .before in
+    let at-say = at-said .before .before .before .before in
+    begin-said _ _ _ _ _ (at-say .say .ensures) _ (at-said .said .given .1) _ (at-follow .follow .ensures)
+
 same-length-4 : tie.Need-same-length-4
 same-length-4 c = search needs
 
 returns-2 : tie.Need-returns-2
-returns-2 c = search needs
+returns-2 c = begin-unsaid _ _ _ _
 
 pub begin-spec : {M : Type 1} → statement M
 begin-spec =
     tie.close
     (tie.spec
     say-requires
-    same-length
-    returns
+    enum-known-said
     slice-aggregate-follow
     slice-aggregate-follow-2
     follow-requires
+    enum-known-unsaid
+    same-length
     same-length-2
     same-length-3
+    returns
     same-length-4
     returns-2)

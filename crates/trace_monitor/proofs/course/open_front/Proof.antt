@@ -1,8 +1,11 @@
 -- `course::open_front` meets its contract, by what was opened on the front. Assumes nothing.
-use mathlib.Core.Path.{sym}
+use Prim.Native.Nat.{ℕ, _≤_}
+use native.Mathlib.Omega.{arith}
+use mathlib.Core.Path.{sym, subst}
+use lib.ListN.{length-replicate}
 use lib.Seq.{length-take-le}
+use Rattle.trace_monitor.specs.Course.Fronts.{opened-front, refused-front, says-started, says-refused}
 use borrow.Author.Needs.{needs}
-use Rattle.trace_monitor.specs.Course.Fronts.{opened-front, refused-front, front-stands, front-said}
 use Rattle.trace_monitor.proofs.course.open_front.Statement.{statement}
 use Rattle.trace_monitor.proofs.course.open_front.Tie as tie
 
@@ -16,27 +19,17 @@ slice-reshare-prefix-begin : tie.Need-slice-reshare-prefix-begin
 slice-reshare-prefix-begin c =
     let at-state = c .before in
     let at-open-trace = at-state .before .before .before .before .before .before .before .before .before .before in
-    let open-trace = at-open-trace .open-trace in
-    let start = at-open-trace .before .before .before .before .before .before .before .before .before .before in
-    let args = start .args in
-    (opened-front (args .front .now) (args .list .now) (args .area0 .now) (args .area1 .now) (args .work .now)
-    (start .pre .1) (open-trace .result) (open-trace .last .1 .0) (open-trace .last .1 .1 .0)
-    (open-trace .last .1 .1 .1 .0) (open-trace .last .1 .1 .1 .1 .0) (open-trace .ensures) _ _ _ _
+    let at-pre = at-open-trace .before .before .before .before .before .before .before .before .before .before in
+    (opened-front _ _ _ _ _ (at-pre .pre .1) _ _ _ _ _ (at-open-trace .open-trace .ensures) _ _ _ _
     (at-state .state .given .1)) .few
 
 slice-aggregate-begin : tie.Need-slice-aggregate-begin
 slice-aggregate-begin c =
     let at-state = c .before .before in
     let at-open-trace = at-state .before .before .before .before .before .before .before .before .before .before in
-    let open-trace = at-open-trace .open-trace in
-    let start = at-open-trace .before .before .before .before .before .before .before .before .before .before in
-    let args = start .args in
-    sym
-    (length-take-le _ _
-    ((opened-front (args .front .now) (args .list .now) (args .area0 .now) (args .area1 .now)
-    (args .work .now) (start .pre .1) (open-trace .result) (open-trace .last .1 .0)
-    (open-trace .last .1 .1 .0) (open-trace .last .1 .1 .1 .0) (open-trace .last .1 .1 .1 .1 .0)
-    (open-trace .ensures) _ _ _ _ (at-state .state .given .1)) .few))
+    let at-pre = at-open-trace .before .before .before .before .before .before .before .before .before .before in
+    sym (length-take-le _ _ ((opened-front _ _ _ _ _ (at-pre .pre .1) _ _ _ _ _ (at-open-trace .open-trace .ensures) _
+    _ _ _ (at-state .state .given .1)) .few))
 
 slice-aggregate-begin-2 : tie.Need-slice-aggregate-begin-2
 slice-aggregate-begin-2 c = search needs
@@ -45,13 +38,12 @@ begin-requires : tie.Need-begin-requires
 begin-requires c κs =
     let at-state = c .before .before .before .before .before .before in
     let at-open-trace = at-state .before .before .before .before .before .before .before .before .before .before in
-    let open-trace = at-open-trace .open-trace in
-    let start = at-open-trace .before .before .before .before .before .before .before .before .before .before in
-    let args = start .args in
-    (opened-front (args .front .now) (args .list .now) (args .area0 .now) (args .area1 .now)
-    (args .work .now) (start .pre .1) (open-trace .result) (open-trace .last .1 .0)
-    (open-trace .last .1 .1 .0) (open-trace .last .1 .1 .1 .0) (open-trace .last .1 .1 .1 .1 .0)
-    (open-trace .ensures) _ _ _ _ (at-state .state .given .1)) .tracing
+    let at-pre = at-open-trace .before .before .before .before .before .before .before .before .before .before in (
+      (opened-front _ _ _ _ _ (at-pre .pre .1) _ _ _ _ _ (at-open-trace .open-trace .ensures) _ _ _ _
+          (at-state .state .given .1)) .tracing,
+      subst (λ (n : ℕ). 2816 ≤ n) (sym (length-replicate {A = ℕ} 4096 0)) (omega
+          arith),
+    )
 
 enum-known-refusal : tie.Need-enum-known-refusal
 enum-known-refusal c = search needs
@@ -79,16 +71,9 @@ returns c =
     let at-begin = c .before .before .before .before .before in
     let at-state = at-begin .before .before .before .before .before .before .before in
     let at-open-trace = at-state .before .before .before .before .before .before .before .before .before .before in
-    let open-trace = at-open-trace .open-trace in
-    let start = at-open-trace .before .before .before .before .before .before .before .before .before .before in
-    let args = start .args in
-    at-begin .begin .ensures (args .front .now)
-    (front-stands (args .front .now) (start .pre .0) _ _ _ _ (open-trace .last .1 .0) (open-trace .last .1 .1 .0)
-    (open-trace .last .1 .1 .1 .0) (open-trace .last .1 .1 .1 .1 .0)
-    (opened-front (args .front .now) (args .list .now) (args .area0 .now) (args .area1 .now) (args .work .now)
-    (start .pre .1) (open-trace .result) (open-trace .last .1 .0) (open-trace .last .1 .1 .0)
-    (open-trace .last .1 .1 .1 .0) (open-trace .last .1 .1 .1 .1 .0) (open-trace .ensures) _ _ _ _
-    (at-state .state .given .1)))
+    let at-pre = at-open-trace .before .before .before .before .before .before .before .before .before .before in
+    says-started _ (at-pre .pre .0) _ _ _ _ _ _ _ _ (opened-front _ _ _ _ _ (at-pre .pre .1) _ _ _ _ _
+    (at-open-trace .open-trace .ensures) _ _ _ _ (at-state .state .given .1)) _ (at-begin .begin .ensures)
 
 same-length-5 : tie.Need-same-length-5
 same-length-5 c = search needs
@@ -105,19 +90,12 @@ same-length-8 c = search needs
 returns-2 : tie.Need-returns-2
 returns-2 c =
     let at-say-refusal = c .before in
-    let say-refusal = at-say-refusal .say-refusal in
     let at-refusal = at-say-refusal .before .before .before in
-    let refusal = at-refusal .refusal in
     let at-open-trace = at-refusal .before .before .before .before .before .before .before .before .before .before in
-    let open-trace = at-open-trace .open-trace in
-    let start = at-open-trace .before .before .before .before .before .before .before .before .before .before in
-    let args = start .args in
-    let q = refusal .given .0 .0 in
-    front-said (args .front .now) (q .number) (q .place)
-    (refused-front (args .front .now) (args .list .now) (args .area0 .now) (args .area1 .now) (args .work .now)
-    (start .pre .1) (open-trace .result) (open-trace .last .1 .0) (open-trace .last .1 .1 .0)
-    (open-trace .last .1 .1 .1 .0) (open-trace .last .1 .1 .1 .1 .0) (open-trace .ensures) q (refusal .given .1))
-    (say-refusal .result) (say-refusal .ensures)
+    let at-pre = at-open-trace .before .before .before .before .before .before .before .before .before .before in
+    let q = at-refusal .refusal .given .0 .0 in
+    says-refused _ (q .number) (q .place) (refused-front _ _ _ _ _ (at-pre .pre .1) _ _ _ _ _
+    (at-open-trace .open-trace .ensures) _ (at-refusal .refusal .given .1)) _ (at-say-refusal .say-refusal .ensures)
 
 pub open-front-spec : {M : Type 1} → statement M
 open-front-spec =

@@ -1,7 +1,6 @@
 -- `course::turn` meets its contract, by the judgement of the event. Assumes nothing.
+use Rattle.trace_monitor.specs.Course.Laws.{turn-went, turn-unsaid, turn-stopped}
 use borrow.Author.Needs.{needs}
-use Rattle.state.specs.Record.{monitorOf}
-use Rattle.trace_monitor.specs.Course.Laws.{turn-went, turn-stopped}
 use Rattle.trace_monitor.proofs.course.turn.Statement.{statement}
 use Rattle.trace_monitor.proofs.course.turn.Tie as tie
 
@@ -13,6 +12,18 @@ enum-known-next c = search needs
 
 say-requires : tie.Need-say-requires
 say-requires c κs = search needs
+
+enum-known-said : tie.Need-enum-known-said
+enum-known-said c = search needs
+
+enum-known-unsaid : tie.Need-enum-known-unsaid
+enum-known-unsaid c = search needs
+
+enum-known-number : tie.Need-enum-known-number
+enum-known-number c = search needs
+
+say-refusal-requires : tie.Need-say-refusal-requires
+say-refusal-requires c κs = search needs
 
 same-length : tie.Need-same-length
 same-length c = search needs
@@ -28,20 +39,12 @@ same-length-4 c = search needs
 
 returns : tie.Need-returns
 returns c =
-    let at-next = c .before .before .before .before .before .before in
+    let at-said = c .before in
+    let at-say = at-said .before .before .before .before in
+    let at-next = at-say .before .before .before in
     let at-trace-event = at-next .before .before .before .before .before .before .before .before in
-    let trace-event = at-trace-event .trace-event in
-    let start = at-trace-event .before .before .before .before .before .before .before .before .before .before in
-    let args = start .args in
-    turn-went (args .list .now) (args .work .now) (monitorOf (args .state) (args .area0 .now) (args .area1 .now))
-    (args .e) (trace-event .result) (trace-event .last .1 .1 .1 .1 .0) (trace-event .last .1 .1 .1 .1 .1 .0)
-    (trace-event .ensures) _ _ (at-next .next .given .1)
-
-enum-known-number : tie.Need-enum-known-number
-enum-known-number c = search needs
-
-say-refusal-requires : tie.Need-say-refusal-requires
-say-refusal-requires c κs = search needs
+    turn-went _ _ _ _ _ _ _ (at-trace-event .trace-event .ensures) _ _ (at-next .next .given .1) _
+    (at-say .say .ensures) _ (at-said .said .given .1)
 
 same-length-5 : tie.Need-same-length-5
 same-length-5 c = search needs
@@ -56,7 +59,7 @@ same-length-8 : tie.Need-same-length-8
 same-length-8 c = search needs
 
 returns-2 : tie.Need-returns-2
-returns-2 c = search needs
+returns-2 c = turn-unsaid _ _ _ _ _ _ _
 
 same-length-9 : tie.Need-same-length-9
 same-length-9 c = search needs
@@ -73,15 +76,10 @@ same-length-12 c = search needs
 returns-3 : tie.Need-returns-3
 returns-3 c =
     let at-say-refusal = c .before .before in
-    let say-refusal = at-say-refusal .say-refusal in
     let at-number = at-say-refusal .before .before .before in
     let at-trace-event = at-number .before .before .before .before .before .before .before .before in
-    let trace-event = at-trace-event .trace-event in
-    let start = at-trace-event .before .before .before .before .before .before .before .before .before .before in
-    let args = start .args in
-    turn-stopped (args .list .now) (args .work .now) (monitorOf (args .state) (args .area0 .now) (args .area1 .now))
-    (args .e) (trace-event .result) (trace-event .last .1 .1 .1 .1 .0) (trace-event .last .1 .1 .1 .1 .1 .0)
-    (trace-event .ensures) _ _ (at-number .number .given .1) (say-refusal .result) (say-refusal .ensures)
+    turn-stopped _ _ _ _ _ _ _ (at-trace-event .trace-event .ensures) _ _ (at-number .number .given .1) _
+    (at-say-refusal .say-refusal .ensures)
 
 pub turn-spec : {M : Type 1} → statement M
 turn-spec =
@@ -90,13 +88,15 @@ turn-spec =
     trace-event-requires
     enum-known-next
     say-requires
+    enum-known-said
+    enum-known-unsaid
+    enum-known-number
+    say-refusal-requires
     same-length
     same-length-2
     same-length-3
     same-length-4
     returns
-    enum-known-number
-    say-refusal-requires
     same-length-5
     same-length-6
     same-length-7

@@ -1,5 +1,7 @@
 -- `print::text_of` meets its contract, by the kind of the line. Assumes nothing.
+use native.Mathlib.Omega.{arith}
 use borrow.Author.Needs.{needs}
+use Rattle.trace_monitor.specs.Spoken.{shown}
 use Rattle.trace_monitor.proofs.print.text_of.Statement.{statement}
 use Rattle.trace_monitor.proofs.print.text_of.Tie as tie
 
@@ -27,8 +29,13 @@ same-length c = search needs
 returns : tie.Need-returns
 returns c =
     let at-start-text = c .before .before in
-    let line = at-start-text .before .before .before .line in
-    rw (line .given .1) (at-start-text .start-text .ensures)
+    let at-line = at-start-text .before .before .before in
+    let at-pre = at-line .before .before .before in
+    rw (at-line .line .given .1) (shown _ _ _ (at-start-text .start-text .ensures) (omega (
+      arith,
+      at-start-text .start-text .kept .1 .1 .0,
+      at-pre .pre,
+    )))
 
 same-length-2 : tie.Need-same-length-2
 same-length-2 c = search needs
@@ -36,8 +43,13 @@ same-length-2 c = search needs
 returns-2 : tie.Need-returns-2
 returns-2 c =
     let at-event-text = c .before .before in
-    let line2 = at-event-text .before .before .before .line2 in
-    rw (line2 .given .1) (at-event-text .event-text .ensures)
+    let at-line2 = at-event-text .before .before .before in
+    let at-pre = at-line2 .before .before .before in
+    rw (at-line2 .line2 .given .1) (shown _ _ _ (at-event-text .event-text .ensures) (omega (
+      arith,
+      at-event-text .event-text .kept .1 .1 .1 .0,
+      at-pre .pre,
+    )))
 
 same-length-3 : tie.Need-same-length-3
 same-length-3 c = search needs
@@ -45,8 +57,13 @@ same-length-3 c = search needs
 returns-3 : tie.Need-returns-3
 returns-3 c =
     let at-refusal-text = c .before .before in
-    let line3 = at-refusal-text .before .before .before .line3 in
-    rw (line3 .given .1) (at-refusal-text .refusal-text .ensures)
+    let at-line3 = at-refusal-text .before .before .before in
+    let at-pre = at-line3 .before .before .before in
+    rw (at-line3 .line3 .given .1) (shown _ _ _ (at-refusal-text .refusal-text .ensures) (omega (
+      arith,
+      at-refusal-text .refusal-text .kept .1 .1 .0,
+      at-pre .pre,
+    )))
 
 pub text-of-spec : {M : Type 1} → statement M
 text-of-spec =

@@ -1,0 +1,28 @@
+-- What a line that was said is (ours; docs/DECISIONS.md, "A line for each event, as it arrives").
+--     saidLine     the line
+--     Spoken       the promise of `say`
+--     shown        a buffer that has room shows the text of a line
+-- Assumes nothing.
+use Prim.Native.Nat.{ℕ, _≤_}
+use mathlib.Core.Path.{_≡_}
+use mathlib.Core.List.{List}
+use lib.ListN.{length, take}
+use Rattle.io.specs.Counts.{Counts}
+use Rattle.trace_text.specs.Put.{Shows}
+use Rattle.trace_spec.specs.TraceLine.{TraceLine}
+use Rattle.trace.specs.declared.answer.TraceLine as code
+use Rattle.trace.specs.Answers.{traceLineSaid}
+use Rattle.trace_monitor.specs.declared.print.Said.{Said}
+use Rattle.trace_monitor.specs.declared.print.Saying.{Saying}
+use Rattle.trace_monitor.specs.declared.print.Saying.the-variants.{Written, Failed}
+
+abbrev pub saidLine : Said → TraceLine
+saidLine y = traceLineSaid (y .line)
+
+abbrev pub Spoken : code.TraceLine → Saying → Type 0
+Spoken line (Written y) = y .line ≡ line
+Spoken line (Failed u) = Unit
+
+pub shown : (out : List ℕ) (r : ℕ) (text : List ℕ) → Shows out r text → 2816 ≤ length out
+    → (take r out ≡ text) × Counts r out
+shown out r text h room = (h .bytes room, h .counts)
