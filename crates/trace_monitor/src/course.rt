@@ -190,9 +190,9 @@ fn follow(
             store,
             text,
         ) {
-            Course::Going(next, now) => {
+            Course::Going(next, newest) => {
                 last = next;
-                spoken = now;
+                spoken = newest;
             }
             Course::Over(told) => return told,
         }

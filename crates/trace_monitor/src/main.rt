@@ -2,7 +2,7 @@
 // `line_monitor` has them; on standard output a line at the start and after each event.
 //     course     the line at the start, and then those of the events, through crate `trace`
 //     print      a line
-// Nothing waits for a full buffer. The front's buffer has room for a length number and the longest
+// Nothing waits for a full buffer. That of the front has room for a length number and the longest
 // table; no event is read with it. An input that cannot be read gets a message on standard error
 // and no further line.
 mod course;

@@ -1,4 +1,5 @@
 -- `course::after_arrived` meets its contract, by what arrived. Assumes nothing.
+use native.Mathlib.Omega.{arith}
 use mathlib.Core.Path.{sym}
 use lib.ListN.{length}
 use lib.Seq.{length-take-le}
@@ -15,8 +16,9 @@ slice-aggregate-take-read : tie.Need-slice-aggregate-take-read
 slice-aggregate-take-read c =
     let at-arrived = c .before .before .before .before in
     let at-args = at-arrived .before .before .before .before .before .before .before .before .before in
-    sym (length-take-le _ _ (arrives-bytes (length (at-args .args .piece .now)) _ (at-args .pre .1 .1) _
-    (at-arrived .arrived .given .1) .0))
+    let came = arrives-bytes (length (at-args .args .piece .now)) _ (at-args .pre .1 .1) _
+    (at-arrived .arrived .given .1) in
+    sym (length-take-le _ _ (omega (arith, came .0)))
 
 take-read-requires : tie.Need-take-read-requires
 take-read-requires c κs = search needs
