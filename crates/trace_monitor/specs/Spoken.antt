@@ -1,6 +1,7 @@
 -- What a line that was said is (ours; docs/DECISIONS.md, "A line for each event, as it arrives").
 --     saidLine     the line
---     Spoken       the promise of `say`
+--     Spoken       the promise of `say`: of its answer
+--     TextStands   and of its buffer: the text of a line stands there, from its first byte on
 --     shown        a buffer that has room shows the text of a line
 -- Assumes nothing.
 use Prim.Native.Nat.{ℕ, _≤_}
@@ -8,6 +9,7 @@ use mathlib.Core.Path.{_≡_}
 use mathlib.Core.List.{List}
 use lib.ListN.{length, take}
 use Rattle.io.specs.Counts.{Counts}
+use Rattle.trace_text.specs.TraceText.{traceTextOf}
 use Rattle.trace_text.specs.Put.{Shows}
 use Rattle.trace_spec.specs.TraceLine.{TraceLine}
 use Rattle.trace.specs.declared.answer.TraceLine as code
@@ -22,6 +24,11 @@ saidLine y = traceLineSaid (y .line)
 abbrev pub Spoken : code.TraceLine → Saying → Type 0
 Spoken line (Written y) = y .line ≡ line
 Spoken line (Failed u) = Unit
+
+pub record TextStands (x : TraceLine) (out : List ℕ) : Type 0 where
+  pub count : ℕ
+  pub within : count ≤ length out
+  pub text : take count out ≡ traceTextOf x
 
 pub shown : (out : List ℕ) (r : ℕ) (text : List ℕ) → Shows out r text → 2816 ≤ length out
     → (take r out ≡ text) × Counts r out

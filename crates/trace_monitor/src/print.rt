@@ -8,7 +8,7 @@ ghost use lib.ListN.{length, take};
 ghost use Rattle.io.specs.Counts.{Counts};
 ghost use Rattle.trace.specs.Answers.{traceLineSaid};
 ghost use Rattle.trace_text.specs.TraceText.{traceTextOf};
-ghost use Rattle.trace_monitor.specs.Spoken.{Spoken};
+ghost use Rattle.trace_monitor.specs.Spoken.{Spoken, TextStands};
 use libc::STDOUT_FILENO;
 use trace::TraceLine;
 
@@ -42,10 +42,12 @@ fn text_of(line: TraceLine, out: &mut [u8]) -> usize
     }
 }
 
-// Writes a line, or answers that it could not be written. The buffer is for its text.
+// Writes a line, or answers that it could not be written. The buffer is for its text, which is there
+// afterwards.
 pub fn say(line: TraceLine, text: &mut [u8]) -> Saying
     requires { ⌜ 2816 ≤ length (now text) ⌝ }
     ensures { λ r. ⌜ Spoken line r ⌝ }
+    ensures { λ r. ⌜ TextStands (traceLineSaid line) (now (text .exit)) ⌝ }
 {
     let n = text_of(line, text);
     if io::write_all(STDOUT_FILENO, &text[..n]) {

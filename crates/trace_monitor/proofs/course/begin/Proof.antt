@@ -49,7 +49,7 @@ returns c =
     let at-follow = c .before .before .before .before .before .before .before .before in
     let at-said = at-follow .before .before .before .before .before .before .before in
     let at-say = at-said .before .before .before .before in
-    begin-said _ _ _ _ _ (at-say .say .ensures) _ (at-said .said .given .1) _ (at-follow .follow .ensures)
+    begin-said _ _ _ _ _ (at-say .say .ensures .0) _ (at-said .said .given .1) _ (at-follow .follow .ensures)
 
 same-length-4 : tie.Need-same-length-4
 same-length-4 c = search needs

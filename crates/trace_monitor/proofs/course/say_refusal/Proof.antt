@@ -23,7 +23,7 @@ returns : tie.Need-returns
 returns c =
     let at-said = c .before in
     let at-say = at-said .before .before .before .before in
-    ap traceLineSaid (written-line (Refuses _ _) _ (at-say .say .ensures) _ (at-said .said .given .1))
+    ap traceLineSaid (written-line (Refuses _ _) _ (at-say .say .ensures .0) _ (at-said .said .given .1))
 
 same-length-2 : tie.Need-same-length-2
 same-length-2 c = search needs

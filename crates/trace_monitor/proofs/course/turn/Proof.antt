@@ -44,7 +44,7 @@ returns c =
     let at-next = at-say .before .before .before in
     let at-trace-event = at-next .before .before .before .before .before .before .before .before in
     turn-went _ _ _ _ _ _ _ (at-trace-event .trace-event .ensures) _ _ (at-next .next .given .1) _
-    (at-say .say .ensures) _ (at-said .said .given .1)
+    (at-say .say .ensures .0) _ (at-said .said .given .1)
 
 same-length-5 : tie.Need-same-length-5
 same-length-5 c = search needs
