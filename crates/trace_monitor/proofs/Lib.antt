@@ -1,0 +1,2 @@
+-- The proofs of `specs/Claims.antt`. Assumes nothing.
+pub mod Theorems

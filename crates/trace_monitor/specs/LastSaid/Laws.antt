@@ -1,0 +1,132 @@
+-- The line that was said last, by how the input came to its end.
+--     last-said          the last line of a trace says what `line_monitor` prints
+--     ended-said         the input ended
+--     refused-said       a refusal was said
+--     cut-short-said     the input ended within its front
+-- Assumes nothing.
+use Prim.Native.Nat.{ℕ}
+use mathlib.Core.Path.{_≡_, refl, ap, sym, _∙_}
+use mathlib.Core.List.{List, [], _∷_, _++_, append-assoc, flatten}
+use Rattle.table.specs.Table.{Table}
+use Rattle.monitor_spec.specs.State.{Monitor}
+use Rattle.monitor_spec.specs.Fold.{through}
+use Rattle.line_spec.specs.Line.{lineOf}
+use Rattle.input.specs.declared.reading.End.{End}
+use Rattle.trace_spec.specs.TraceLine.{TraceLine, refuses}
+use Rattle.trace_spec.specs.Trace.{Beginning, begins, declines, beginningOf, eventLines, startLine, traceFrom, traceOf}
+use Rattle.trace_spec.specs.Trace.{lineBy}
+use Rattle.trace_spec.specs.Trace.Last.{last-line}
+use Rattle.trace_spec.specs.Reads.{at, ended, reachedIn, reachedAt, afterRead, reachedFrom, reachedBy, Decided}
+use Rattle.trace_spec.specs.Reads.Laws.{ended-stands}
+use Rattle.trace_monitor.specs.declared.print.Said.{Said}
+use Rattle.trace_monitor.specs.declared.course.Told.the-variants.{Ended, Refused}
+use Rattle.trace_monitor.specs.Spoken.{saidLine}
+use Rattle.trace_monitor.specs.Course.{LastLine, RefusedAfter, Followed, SaysBy, Says, EndSaid}
+use Rattle.trace_monitor.specs.LastSaid.{LastSaid, AfterReads, WhateverFollows}
+
+-- ---- the last line of a trace
+
+lastIn : TraceLine → List TraceLine → TraceLine
+lastIn d [] = d
+lastIn d (x ∷ xs) = lastIn x xs
+
+last-snoc : (d y : TraceLine) (xs : List TraceLine) → lastIn d (xs ++ y ∷ []) ≡ y
+unfolding lastIn
+last-snoc d y [] = refl
+last-snoc d y (x ∷ xs) = last-snoc x y xs
+
+pub last-said : (s : List ℕ) (x : TraceLine) → LastLine s x → LastSaid s x
+last-said s x h =
+    let o = last-line s in
+    let q : x ≡ o .last =
+    sym (last-snoc x x (h .before)) ∙ ap (lastIn x) (sym (h .split) ∙ o .split) ∙ last-snoc x (o .last) (o .before) in
+    record { last = h; line = ap lineBy q ∙ o .says }
+
+one-line : (s : List ℕ) (x : TraceLine) → traceOf s ≡ x ∷ [] → LastSaid s x
+one-line s x h = last-said s x (record { before = []; split = h })
+
+-- ---- a front with which a monitor is opened, and no event
+
+module _ (s ns : List ℕ) (t : Table) (m : Monitor) (h : beginningOf s ≡ begins ns t m []) where
+  begun-reached : reachedBy s ≡ at t m
+  unfolding reachedBy reachedFrom afterRead reachedAt reachedIn through
+  begun-reached = ap reachedFrom h
+
+  begun-line : LastLine s (startLine t m)
+  unfolding traceOf traceFrom eventLines
+  begun-line = record { before = []; split = ap traceFrom h }
+
+  -- an event of some reads is refused
+  begun-refused : (y : TraceLine) → RefusedAfter t m y → WhateverFollows s y
+  begun-refused y f = record { reads = f .reads; some = f .some; said = said }
+    where
+      same : (rest : List ℕ) → flatten (f .reads) ++ rest
+          ≡ f .refused .before ++ f .refused .event ∷ (f .refused .after ++ rest)
+      same rest =
+          ap (λ (v : List ℕ). v ++ rest) (f .refused .split)
+          ∙ append-assoc (f .refused .before) (f .refused .event ∷ f .refused .after) rest
+
+      said : (rest : List ℕ) → LastSaid (s ++ (flatten (f .reads) ++ rest)) y
+      said rest =
+          last-said (s ++ (flatten (f .reads) ++ rest)) y (record {
+            before = traceOf (s ++ f .refused .before);
+            split = ap (λ (v : List ℕ). traceOf (s ++ v)) (same rest)
+                ∙ f .refused .last s (f .refused .after ++ rest) begun-reached;
+          })
+
+-- ---- a front that is refused
+
+module _ (s : List ℕ) (n p : ℕ) (h : beginningOf s ≡ declines n p) where
+  declined-line : traceOf s ≡ refuses n p ∷ []
+  unfolding traceOf traceFrom
+  declined-line = ap traceFrom h
+
+  declined-ended : reachedBy s ≡ ended
+  unfolding reachedBy reachedFrom
+  declined-ended = ap reachedFrom h
+
+  declined-said : Decided s → (y : TraceLine) → y ≡ refuses n p → WhateverFollows s y
+  unfolding flatten
+  declined-said d y e =
+      record {
+        reads = [];
+        some = tt;
+        said = λ rest. one-line (s ++ rest) y (ended-stands s rest d declined-ended ∙ declined-line
+            ∙ ap (λ (x : TraceLine). x ∷ []) (sym e));
+      }
+
+-- ---- what is told
+
+module _ (s : List ℕ) where
+  ended-by : (b : Beginning) → beginningOf s ≡ b → (end : End) (y : Said) → SaysBy b (Ended end y)
+      → AfterReads s (saidLine y)
+  unfolding SaysBy Followed
+  ended-by (declines n p) h end y f = absurd f
+  ended-by (begins ns t m es) h end y (none-yet, f) =
+      let b : beginningOf s ≡ begins ns t m [] = h ∙ ap (begins ns t m) none-yet in
+      let g = f .gone in
+      record {
+        reads = g .reads;
+        some = g .some;
+        said = last-said (s ++ flatten (g .reads)) (saidLine y)
+            (g .onward .last s (begun-reached s ns t m b) (begun-line s ns t m b));
+      }
+
+  pub ended-said : (end : End) (y : Said) → Says s (Ended end y) → AfterReads s (saidLine y)
+  ended-said = ended-by (beginningOf s) refl
+
+  refused-by : (b : Beginning) → beginningOf s ≡ b → Decided s → (y : Said) → SaysBy b (Refused y)
+      → WhateverFollows s (saidLine y)
+  unfolding SaysBy Followed
+  refused-by (declines n p) h d y f = declined-said s n p h d (saidLine y) f
+  refused-by (begins ns t m es) h d y (none-yet, f) =
+      begun-refused s ns t m (h ∙ ap (begins ns t m) none-yet) (saidLine y) f
+
+  pub refused-said : Decided s → (y : Said) → Says s (Refused y) → WhateverFollows s (saidLine y)
+  refused-said = refused-by (beginningOf s) refl
+
+  pub cut-short-said : (y : Said) → EndSaid s (Refused y)
+      → (traceOf s ≡ saidLine y ∷ []) × (lineBy (saidLine y) ≡ lineOf s)
+  cut-short-said y e =
+      let g : traceOf s ≡ saidLine y ∷ [] = e .trace ∙ ap (λ (x : TraceLine). x ∷ []) (sym (e .told)) in
+      (g, one-line s (saidLine y) g .line)
