@@ -1,6 +1,6 @@
 // Feed for C. What a call returns and leaves is `feedCall` of crate `words`, `specs/Calls.antt`.
 ghost use mathlib.Core.Path.{_≡_};
-ghost use Rattle.words.specs.Calls.{monitorSaid, feedCall};
+ghost use Rattle.words.specs.Calls.{monitorSaid as said, feedCall};
 use words::load;
 use words::tell;
 
@@ -16,8 +16,8 @@ pub extern "C" fn cspe_feed(
     place: &mut u64,
 ) -> u32
     ensures { λ r.
-        ⌜ monitorSaid r (now (place .exit)) (now («record» .exit)) (now (area0 .exit))
-        (now (area1 .exit)) (now (work .exit))
+        ⌜ said r (now (place .exit)) (now («record» .exit)) (now (area0 .exit)) (now (area1 .exit))
+        (now (work .exit))
         ≡ feedCall (now (list .entry)) (now («record» .entry)) (now (area0 .entry))
         (now (area1 .entry)) (now (events .entry)) (now (work .entry)) ⌝ }
 {

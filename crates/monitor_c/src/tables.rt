@@ -1,6 +1,6 @@
 // Read and Write for C. What a call returns and leaves is in crate `words`, `specs/Tables.antt`.
 ghost use mathlib.Core.Path.{_≡_};
-ghost use Rattle.words.specs.Tables.{tableSaid, readCall, writeCall};
+ghost use Rattle.words.specs.Tables.{tableSaid as said, readCall, writeCall};
 use words::tell_table;
 
 // Read: the bytes of a table to its numbers.
@@ -12,7 +12,7 @@ pub extern "C" fn cspe_read(
     value: &mut u64,
 ) -> u32
     ensures { λ r.
-        ⌜ tableSaid r (now (value .exit)) (now (numbers .exit)) (now (work .exit))
+        ⌜ said r (now (value .exit)) (now (numbers .exit)) (now (work .exit))
         ≡ readCall (now (bytes .entry)) (now (numbers .entry)) (now (work .entry)) ⌝ }
 {
     let answer = codec::read(bytes, numbers, work);
@@ -28,7 +28,7 @@ pub extern "C" fn cspe_write(
     value: &mut u64,
 ) -> u32
     ensures { λ r.
-        ⌜ tableSaid r (now (value .exit)) (now (bytes .exit)) (now (work .exit))
+        ⌜ said r (now (value .exit)) (now (bytes .exit)) (now (work .exit))
         ≡ writeCall (now (list .entry)) (now (bytes .entry)) (now (work .entry)) ⌝ }
 {
     let answer = codec::write(list, bytes, work);

@@ -1,7 +1,7 @@
 // Feed in wash hours for C. What a call returns and leaves is `timedCall` of crate `wash_words`,
 // `specs/Call.antt`.
 ghost use mathlib.Core.Path.{_≡_};
-ghost use Rattle.words.specs.Calls.{monitorSaid};
+ghost use Rattle.words.specs.Calls.{monitorSaid as said};
 ghost use Rattle.wash_words.specs.Call.{timedCall};
 use wash_words::load_timed;
 use wash_words::tell_timed;
@@ -21,8 +21,8 @@ pub extern "C" fn cspe_timed_feed(
     place: &mut u64,
 ) -> u32
     ensures { λ r.
-        ⌜ monitorSaid r (now (place .exit)) (now («record» .exit)) (now (area0 .exit))
-        (now (area1 .exit)) (now (work .exit))
+        ⌜ said r (now (place .exit)) (now («record» .exit)) (now (area0 .exit)) (now (area1 .exit))
+        (now (work .exit))
         ≡ timedCall (now (everyday .entry)) (now (wash .entry)) (now (windows .entry))
         (now («record» .entry)) (now (area0 .entry)) (now (area1 .entry)) (now (events .entry))
         (now (minutes .entry)) (now (work .entry)) ⌝ }

@@ -1,6 +1,6 @@
 // Try for C. What a call returns and leaves is `tryCall` of crate `words`, `specs/Calls.antt`.
 ghost use mathlib.Core.Path.{_≡_};
-ghost use Rattle.words.specs.Calls.{monitorSaid, tryCall};
+ghost use Rattle.words.specs.Calls.{monitorSaid as said, tryCall};
 use words::load;
 use words::tell;
 
@@ -19,7 +19,7 @@ pub extern "C" fn cspe_try(
     place: &mut u64,
 ) -> u32
     ensures { λ r.
-        ⌜ monitorSaid r (now (place .exit)) (now (further_record .exit)) (now (further0 .exit))
+        ⌜ said r (now (place .exit)) (now (further_record .exit)) (now (further0 .exit))
         (now (further1 .exit)) (now (work .exit))
         ≡ tryCall (now (list .entry)) (now («record» .entry)) (now (area0 .entry))
         (now (area1 .entry)) (now (further_record .entry)) (now (further0 .entry))

@@ -1,6 +1,6 @@
 // A book is judged, then written.
 ghost use mathlib.Core.Path.{_≡_};
-ghost use Rattle.sheet.specs.Sheet.{sheetOutcome, sheetOf};
+ghost use Rattle.sheet.specs.Sheet.{sheetOutcome as said, sheetOf};
 use crate::answer::Sheet;
 use crate::writing::write;
 use lot_book::Judged;
@@ -17,7 +17,7 @@ fn refused(number: u8, place: usize) -> Sheet
 // The sheet of a book, at the front of the output; what is after it is kept.
 pub fn sheet(book: &[u8], out: &mut [u8]) -> Sheet
     ensures { λ r.
-        ⌜ sheetOutcome r (now (out .exit)) ≡ sheetOf (now (book .entry)) (now (out .entry)) ⌝ }
+        ⌜ said r (now (out .exit)) ≡ sheetOf (now (book .entry)) (now (out .entry)) ⌝ }
 {
     match lot_book::judge(book) {
         Judged::Bad(index) => refused(14, index),
