@@ -16,12 +16,9 @@ use Rattle.table.specs.Table.{SetRef, fixed, family, Term, stop, fail, prefix, 
 use Rattle.table.specs.Table.{Definition, Table, bodyOf}
 use Rattle.table.specs.Context.{Context, outermost, underPrefix, underParallel, Enclosed, Throughout, Each}
 use Rattle.table.specs.Fields.{OfRef, ParamSmall}
-use Rattle.table.specs.declared.terms.Spot.{Spot}
 use Rattle.table.specs.Branches.{bodyIn}
-use Rattle.table.specs.Node.{Node}
-use Rattle.table.specs.Node.Parts.{Part, here, follower, choice-left, choice-right, par-left, par-right}
-use Rattle.table.specs.Stands.{Stands}
-use Rattle.table.specs.Stands.Laws.{number-home}
+use Rattle.table.specs.Stands.{Stands, body-stands, follower-stands, choice-left-stands, choice-right-stands}
+use Rattle.table.specs.Stands.{par-left-stands, par-right-stands}
 use Rattle.table.specs.References.{firstWrong}
 use Rattle.table.specs.References.Laws.{Linked, BodyLinked}
 use Rattle.table.specs.Rules.{Rules}
@@ -95,22 +92,22 @@ module _ (t : Table) (w : firstWrong t ≡ none) where
         outer-guarded (t .definitions) (At t d .level) d outermost (At t d .body) refl (body-linked d b);
   }
 
-part-guarded : (n d : ℕ) → d ≤ n → {s : Spot} {i k : ℕ} {p : Term} {x : Node} → Part s i p k x → Guarded n d (plain p)
-    → Guarded n n (plain (x .term))
-unfolding plain
-part-guarded n d l (here {p = p}) g = guarded-more n d n l (plain p) g
-part-guarded n d l (follower k) g = part-guarded n n (omega arith) k g
-part-guarded n d l (choice-left k) g = part-guarded n d l k (g .0)
-part-guarded n d l (choice-right k) g = part-guarded n d l k (g .1)
-part-guarded n d l (par-left k) g = part-guarded n d l k (g .0)
-part-guarded n d l (par-right k) g = part-guarded n d l k (g .1)
+module _ (t : Table) (guarded : GuardedTable t) where
+  -- a term is guarded as its body is, and as every term is behind a prefix
+  stands-guarded : {h c n : ℕ} {x : Term} → Stands (t .definitions) h c n x
+      → (d : ℕ) × (d ≤ bodyCount t) × Guarded (bodyCount t) d (plain x)
+  unfolding plain bodyCount body bodyOf bodyIn
+  stands-guarded (body-stands {h = h} l) = (h, omega arith, guarded .bodies h l)
+  stands-guarded (follower-stands s) = (bodyCount t, omega arith, stands-guarded s .2)
+  stands-guarded (choice-left-stands s) = let (d, l, g) = stands-guarded s in (d, l, g .0)
+  stands-guarded (choice-right-stands s) = let (d, l, g) = stands-guarded s in (d, l, g .1)
+  stands-guarded (par-left-stands s) = let (d, l, g) = stands-guarded s in (d, l, g .0)
+  stands-guarded (par-right-stands s) = let (d, l, g) = stands-guarded s in (d, l, g .1)
 
 pub number-formed : (t : Table) → GuardedTable t → {h c n : ℕ} {x : Term} → Stands (t .definitions) h c n x
     → WellFormed t (plain x)
-unfolding bodyCount body bodyOf bodyIn
-number-formed t guarded {h} s =
-    let k = number-home t s in
-    part-guarded (bodyCount t) h (omega (arith, k .known)) (k .part) (guarded .bodies h (k .known))
+number-formed t guarded {x = x} s =
+    let (d, l, g) = stands-guarded t guarded s in guarded-more (bodyCount t) d (bodyCount t) l (plain x) g
 
 -- ---- of a table that meets the rules
 

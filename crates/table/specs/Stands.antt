@@ -1,21 +1,23 @@
--- Which term stands where in a table: the term of a node, without its place among the numbers (ours).
---     Stands    x is the term of number n over definitions, in definition h, under c prefixes
---     SomewhereStands     in some definition, under some prefixes
+-- Which term stands where in a table (01, "Numbers and table": "Terms are numbered from 0 in reading order over the
+-- table"; ours: as a relation to go by).
+--     Stands             x is the term of number n over definitions, in definition h, under c prefixes
+--     SomewhereStands    in some definition, under some prefixes
 -- The laws are in `Stands/Laws.antt`. Assumes nothing.
-use Prim.Native.Nat.{ℕ}
-use mathlib.Core.Path.{_≡_}
+use Prim.Native.Nat.{ℕ, suc, _+_, _<_}
 use mathlib.Core.List.{List}
-use Rattle.table.specs.declared.terms.Spot.{Spot}
-use Rattle.table.specs.Table.{Term, Definition}
-use Rattle.table.specs.Node.{node}
-use Rattle.table.specs.Node.Homes.{NodeStands}
+use lib.ListN.{length, take}
+use Rattle.table.specs.Table.{SetRef, Term, prefix, choice, par, size, Definition, sizes}
+use Rattle.table.specs.Branches.{bodyIn}
 pub mod Laws
 
-pub record Stands (ds : List Definition) (h c n : ℕ) (x : Term) : Type 0 where
-  pub spot : Spot
-  pub index : ℕ
-  pub under : spot .prefixes ≡ c
-  pub is : NodeStands 0 0 ds h n (node spot index x)
+pub data Stands (ds : List Definition) : ℕ → ℕ → ℕ → Term → Type 0 where
+  body-stands : {h : ℕ} → h < length ds → Stands ds h 0 (sizes (take h ds)) (bodyIn ds h)
+  follower-stands : {h c n : ℕ} {r : SetRef} {p : Term} → Stands ds h c n (prefix r p) → Stands ds h (suc c) (suc n) p
+  choice-left-stands : {h c n : ℕ} {p q : Term} → Stands ds h c n (choice p q) → Stands ds h c (suc n) p
+  choice-right-stands : {h c n : ℕ} {p q : Term} → Stands ds h c n (choice p q) → Stands ds h c (suc (size p + n)) q
+  par-left-stands : {h c n : ℕ} {r : SetRef} {p q : Term} → Stands ds h c n (par r p q) → Stands ds h c (suc n) p
+  par-right-stands : {h c n : ℕ} {r : SetRef} {p q : Term} → Stands ds h c n (par r p q)
+      → Stands ds h c (suc (size p + n)) q
 
 pub record SomewhereStands (ds : List Definition) (n : ℕ) (x : Term) : Type 0 where
   pub home : ℕ

@@ -14,10 +14,9 @@ use Rattle.table.specs.Member.{member}
 use Rattle.numbers.specs.Every.{All, all-imp, all-append, all-and}
 use Rattle.numbers.specs.Some.{all-map, all-flat}
 use Rattle.table.specs.Table.Laws.{body-beyond}
-use Rattle.table.specs.Stands.{Stands}
-use Rattle.table.specs.Stands.Laws.{follower-stands, choice-left-stands, choice-right-stands}
-use Rattle.table.specs.Stands.Laws.{par-left-stands, par-right-stands, at-number, number-at}
-use Rattle.table.specs.Stands.Laws.{around-number, body-number}
+use Rattle.table.specs.Stands.{Stands, follower-stands, choice-left-stands, choice-right-stands}
+use Rattle.table.specs.Stands.{par-left-stands, par-right-stands}
+use Rattle.table.specs.Stands.Laws.{at-number, number-at, around-number, body-number}
 use Rattle.table.specs.Memory.{Memory, noMemory, digit, remember}
 use Rattle.table.specs.Memory.Laws.{digit-first, digit-remember}
 use Rattle.table.specs.References.{levelIn}

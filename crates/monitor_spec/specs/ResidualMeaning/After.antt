@@ -12,8 +12,8 @@ use Rattle.table.specs.Member.{member}
 use Rattle.numbers.specs.Every.{All, all-imp, all-append}
 use Rattle.numbers.specs.Some.{all-flat}
 use Rattle.meaning.specs.ClosedResiduals as C
-use Rattle.table.specs.Stands.{Stands}
-use Rattle.table.specs.Stands.Laws.{follower-stands, at-number, number-at}
+use Rattle.table.specs.Stands.{Stands, follower-stands}
+use Rattle.table.specs.Stands.Laws.{at-number, number-at}
 use Rattle.table.specs.Memory.{Memory, remember}
 use Rattle.meaning.specs.Closing.{closeRef, close}
 use Rattle.meaning.specs.Closing.Laws.{close-sub, member-close}

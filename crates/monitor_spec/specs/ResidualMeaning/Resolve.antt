@@ -12,14 +12,11 @@ use Rattle.meaning.specs.Figure1.{SetRef, Term, stop, fail, prefix, choice, par
 use Rattle.numbers.specs.Every.{All, all-imp, all-append}
 use Rattle.numbers.specs.Some.{all-map, all-flat}
 use Rattle.meaning.specs.ClosedResiduals as C
-use Rattle.table.specs.declared.terms.Spot.{Spot}
 use Rattle.table.specs.Table.Laws.{body-beyond}
 use Rattle.table.specs.Branches.{bodyIn}
-use Rattle.table.specs.Node.{Node}
-use Rattle.table.specs.Node.Parts.{Part, here, follower, choice-left, choice-right, par-left, par-right}
-use Rattle.table.specs.Stands.{Stands}
-use Rattle.table.specs.Stands.Laws.{choice-left-stands, choice-right-stands, par-left-stands}
-use Rattle.table.specs.Stands.Laws.{par-right-stands, at-number, body-number, number-home}
+use Rattle.table.specs.Stands.{Stands, body-stands, follower-stands, choice-left-stands, choice-right-stands}
+use Rattle.table.specs.Stands.{par-left-stands, par-right-stands}
+use Rattle.table.specs.Stands.Laws.{at-number, body-number}
 use Rattle.table.specs.Memory.{Memory, noMemory}
 use Rattle.meaning.specs.Closing.{closeRef, close, ScopedRef, Scoped}
 use Rattle.meaning.specs.Closing.Laws.{close-plain}
@@ -135,21 +132,19 @@ module _ (t : Table) where
       (resolveIn-sound f k q m (par-right-stands s))
   resolveIn-sound f k (Table.call d) m s = k d
 
-  -- ---- parts of a scoped term
-  part-scoped : {s : Spot} {i k : ℕ} {p : Table.Term} {x : Node} → Part s i p k x → (c : ℕ) → Scoped c p
-      → (c′ : ℕ) × Scoped c′ (x .term)
-  part-scoped here c s = (c, s)
-  part-scoped (follower k) c s = part-scoped k (suc c) (s .1)
-  part-scoped (choice-left k) c s = part-scoped k c (s .0)
-  part-scoped (choice-right k) c s = part-scoped k c (s .1)
-  part-scoped (par-left k) c s = part-scoped k c (s .1)
-  part-scoped (par-right k) c s = part-scoped k c (s .2)
-
   module _ (regular : Regular t) where
     -- what stands under a number is scoped
-    pub number-scoped : {h c n : ℕ} {x : Table.Term} → Stands (t .definitions) h c n x → (c′ : ℕ) × Scoped c′ x
+    stands-scoped : {h c n : ℕ} {x : Table.Term} → Stands (t .definitions) h c n x → Scoped c x
     unfolding bodyCount bodyOf bodyIn
-    number-scoped {h} s = let k = number-home t s in part-scoped (k .part) 0 (regular .scoped h (k .known))
+    stands-scoped (body-stands {h = h} l) = regular .scoped h l
+    stands-scoped (follower-stands s) = stands-scoped s .1
+    stands-scoped (choice-left-stands s) = stands-scoped s .0
+    stands-scoped (choice-right-stands s) = stands-scoped s .1
+    stands-scoped (par-left-stands s) = stands-scoped s .1
+    stands-scoped (par-right-stands s) = stands-scoped s .2
+
+    pub number-scoped : {h c n : ℕ} {x : Table.Term} → Stands (t .definitions) h c n x → (c′ : ℕ) × Scoped c′ x
+    number-scoped {c = c} s = (c, stands-scoped s)
 
     body-denote : (f : ℕ → List Residual) (g : ℕ → List Term) → ((d : ℕ) → map (denote t) (f d) ≡ g d) → (d : ℕ)
         → map (denote t) (resolveIn f (bodyOf t d) (bodyNumber t d) noMemory) ≡ C.resolveWith g (body t d)

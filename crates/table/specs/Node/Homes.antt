@@ -1,26 +1,28 @@
 -- Which node stands where over definitions: what `nodesFrom` lists, as a relation to go by (ours).
 --     NodeStands                     x is the node of number n over definitions
 --     stands-in, stands-out          it is the list's element
---     stands-term, stands-around     its term and the prefixes around it are those that the table's numbering finds
+--     node-stands                    its term stands there, under its prefixes
 --     stands-body                    each body stands at its number
---     stands-home, stands-in-body    each node in a definition's body: in one that is as all are; in that of number h
+--     stands-home                    each node in a definition's body, which is as all are
 -- Assumes nothing.
 use Prim.Native.Nat.{ℕ, zero, suc, _+_, _-_, _<_, _≤_}
 use native.Mathlib.Omega.{arith}
 use native.Mathlib.Decide.{decLt}
 use mathlib.Core.Path.{_≡_, refl, ap, _∙_}
 use mathlib.Core.List.{List, [], _∷_}
-use mathlib.Core.Option.{some}
 use lib.ListN.{length, getD, take, length-append}
 use Rattle.numbers.specs.Every.{All}
-use Rattle.table.specs.Table.{Definition, size, sizes, termOfDefs, enclosingIn}
-use Rattle.table.specs.Table.Laws.{defs-first, defs-later, around-first, around-later}
+use Rattle.table.specs.declared.terms.Spot.{Spot}
+use Rattle.table.specs.Table.{Term, Definition, size, sizes}
 use Rattle.table.specs.Writing.{definitionNumbers}
 use Rattle.table.specs.Branches.{bodyIn}
+use Rattle.table.specs.Stands.{Stands, body-stands, follower-stands, choice-left-stands, choice-right-stands}
+use Rattle.table.specs.Stands.{par-left-stands, par-right-stands}
+use Rattle.table.specs.Stands.Laws.{renumber, later-stands}
 use Rattle.table.specs.Node.{Node, node, nodesFrom, noNode, bodySpot}
-use Rattle.table.specs.Node.Parts.{Part, here, length-nodes, left-at, right-at}
-use Rattle.table.specs.Node.Parts.{part-fits, part-below, part-trans, part-in, part-out, part-term, part-prefixes}
-use Rattle.table.specs.Node.Parts.{part-own}
+use Rattle.table.specs.Node.Parts.{Part, here, follower, choice-left, choice-right, par-left, par-right}
+use Rattle.table.specs.Node.Parts.{length-nodes, left-at, right-at, part-fits, part-below, part-trans, part-in}
+use Rattle.table.specs.Node.Parts.{part-out, part-own}
 
 -- over the definitions from number `own` on, whose first number has index i: x is in definition own + h
 pub data NodeStands : ℕ → ℕ → List Definition → ℕ → ℕ → Node → Type 0 where
@@ -80,17 +82,24 @@ unfolding sizes
 stands-fits (first y) = omega (arith, part-fits y)
 stands-fits (later y) = omega (arith, stands-fits y)
 
--- ---- the numbering of a table
+-- ---- the term of a node
 
-pub stands-term : {own i h n : ℕ} {ds : List Definition} {x : Node} → NodeStands own i ds h n x
-    → termOfDefs ds n ≡ some (x .term)
-stands-term (first {n = n} {d = d} {ds = ds} y) = defs-first d ds n (part-below y) ∙ part-term y
-stands-term (later {n = n} {d = d} {ds = ds} y) = defs-later d ds n ∙ stands-term y
+part-stands : {ds : List Definition} {h n m k i : ℕ} {s : Spot} {p : Term} {x : Node} → Part s i p k x
+    → Stands ds h (s .prefixes) n p → n + k ≡ m → Stands ds h (x .spot .prefixes) m (x .term)
+part-stands here y e = renumber (omega arith) y
+part-stands {n = n} (follower {s = s} z) y e =
+    let f : suc (s .prefixes) ≡ s .prefixes + 1 = omega arith in
+    part-stands {n = suc n} z (rw (← f) (follower-stands y)) (omega arith)
+part-stands (choice-left z) y e = part-stands z (choice-left-stands y) (omega arith)
+part-stands (choice-right z) y e = part-stands z (choice-right-stands y) (omega arith)
+part-stands (par-left z) y e = part-stands z (par-left-stands y) (omega arith)
+part-stands (par-right z) y e = part-stands z (par-right-stands y) (omega arith)
 
-pub stands-around : {own i h n : ℕ} {ds : List Definition} {x : Node} → NodeStands own i ds h n x
-    → enclosingIn ds n ≡ x .spot .prefixes
-stands-around (first {n = n} {d = d} {ds = ds} y) = around-first d ds n (part-below y) ∙ part-prefixes y
-stands-around (later {n = n} {d = d} {ds = ds} y) = around-later d ds n ∙ stands-around y
+pub node-stands : {own i h n : ℕ} {ds : List Definition} {x : Node} → NodeStands own i ds h n x
+    → Stands ds h (x .spot .prefixes) n (x .term)
+unfolding sizes bodyIn
+node-stands (first y) = part-stands y (body-stands {h = 0} (omega arith)) (omega arith)
+node-stands (later y) = later-stands (node-stands y)
 
 -- ---- the definition of a node
 
@@ -140,22 +149,6 @@ pub stands-home : (Y : Definition → Type 0) {own i h n : ℕ} {ds : List Defin
 stands-home Y f (first {own = own} {i = i} {n = n} {d = d} y) =
     record { home = d; is = f .0; number = own; index = suc i; into = n; part = y }
 stands-home Y f (later y) = stands-home Y (f .1) y
-
--- the node is a part of the body of definition h
-pub record InBody (ds : List Definition) (h : ℕ) (x : Node) : Type 0 where
-  pub known : h < length ds
-  pub number : ℕ
-  pub index : ℕ
-  pub into : ℕ
-  pub part : Part (bodySpot number) index (bodyIn ds h) into x
-
-pub stands-in-body : {own i h n : ℕ} {ds : List Definition} {x : Node} → NodeStands own i ds h n x → InBody ds h x
-unfolding bodyIn
-stands-in-body (first {own = own} {i = i} {n = n} y) =
-    record { known = omega arith; number = own; index = suc i; into = n; part = y }
-stands-in-body (later y) =
-    let z = stands-in-body y in
-    record { known = omega (arith, z .known); number = z .number; index = z .index; into = z .into; part = z .part }
 
 -- ---- bodies
 

@@ -1,28 +1,22 @@
 -- Which node stands where in a term: what `nodes` lists, as a relation to go by (ours).
---     Part                        x is the node that stands k terms into a term
---     part-in, part-out           it is the list's element
---     part-trans                  parts of parts are parts
---     part-term, part-prefixes    its term and the prefixes around it are those that the table's numbering finds
+--     Part                 x is the node that stands k terms into a term
+--     part-in, part-out    it is the list's element
+--     part-trans           parts of parts are parts
 -- What every part keeps is at the end. The same over definitions is in `Node/Homes.antt`. Assumes nothing.
 use Prim.Native.Nat.{ℕ, zero, suc, _+_, _-_, _<_, _≤_}
 use native.Mathlib.Omega.{arith}
 use native.Mathlib.Decide.{decLt}
 use mathlib.Core.Path.{_≡_, refl, ap, _∙_}
 use mathlib.Core.List.{List, _++_}
-use mathlib.Core.Option.{some}
 use lib.ListN.{length, getD, length-append, List·getD-append}
 use lib.Seq.{getD-append-add}
 use Rattle.table.specs.declared.terms.Spot.{Spot}
-use Rattle.table.specs.Table.{SetRef, Term, stop, fail, prefix, choice, par, call, size, termIn, prefixesIn}
+use Rattle.table.specs.Table.{SetRef, Term, stop, fail, prefix, choice, par, call, size}
 use Rattle.table.specs.Writing.{refNumbers, termNumbers}
 use Rattle.table.specs.Context.{Each}
 use Rattle.table.specs.Context.Laws.{each-here}
 use Rattle.table.specs.Fields.{depthOf}
 pub use Rattle.table.specs.Table.Laws.{size-positive}
-use Rattle.table.specs.Table.Laws.{termIn-here, termIn-prefix, termIn-choice-left, termIn-choice-right}
-use Rattle.table.specs.Table.Laws.{termIn-par-left, termIn-par-right, prefixes-here, prefixes-prefix}
-use Rattle.table.specs.Table.Laws.{prefixes-choice-left, prefixes-choice-right, prefixes-par-left}
-use Rattle.table.specs.Table.Laws.{prefixes-par-right}
 use Rattle.table.specs.Node.{Node, node, nodes, noNode, followerSpot, sideSpot, besideSpot}
 
 pub data Part : Spot → ℕ → Term → ℕ → Node → Type 0 where
@@ -143,31 +137,6 @@ part-out s i (par r p q) (suc k) h =
     ]
 part-out s i (call d) zero h = (node s i (call d), here)
 part-out s i (call d) (suc k) h = absurd (omega arith)
-
--- ---- the numbering of a table
-
-pub part-term : {s : Spot} {i k : ℕ} {p : Term} {x : Node} → Part s i p k x → termIn p k ≡ some (x .term)
-part-term (here {p = p}) = termIn-here p
-part-term (follower {k = k} {r = r} {p = p} h) = termIn-prefix r p k ∙ part-term h
-part-term (choice-left {k = k} {p = p} {q = q} h) = termIn-choice-left p q k (part-below h) ∙ part-term h
-part-term (choice-right {k = k} {p = p} {q = q} h) = termIn-choice-right p q k ∙ part-term h
-part-term (par-left {k = k} {r = r} {p = p} {q = q} h) = termIn-par-left r p q k (part-below h) ∙ part-term h
-part-term (par-right {k = k} {r = r} {p = p} {q = q} h) = termIn-par-right r p q k ∙ part-term h
-
-pub part-prefixes : {s : Spot} {i k : ℕ} {p : Term} {x : Node} → Part s i p k x
-    → prefixesIn p (s .prefixes) k ≡ x .spot .prefixes
-part-prefixes (here {s = s} {p = p}) = prefixes-here p (s .prefixes)
-part-prefixes (follower {s = s} {k = k} {r = r} {p = p} h) =
-    let e : suc (s .prefixes) ≡ s .prefixes + 1 = omega arith in
-    prefixes-prefix r p (s .prefixes) k ∙ ap (λ (c : ℕ). prefixesIn p c k) e ∙ part-prefixes h
-part-prefixes (choice-left {s = s} {k = k} {p = p} {q = q} h) =
-    prefixes-choice-left p q (s .prefixes) k (part-below h) ∙ part-prefixes h
-part-prefixes (choice-right {s = s} {k = k} {p = p} {q = q} h) =
-    prefixes-choice-right p q (s .prefixes) k ∙ part-prefixes h
-part-prefixes (par-left {s = s} {k = k} {r = r} {p = p} {q = q} h) =
-    prefixes-par-left r p q (s .prefixes) k (part-below h) ∙ part-prefixes h
-part-prefixes (par-right {s = s} {k = k} {r = r} {p = p} {q = q} h) =
-    prefixes-par-right r p q (s .prefixes) k ∙ part-prefixes h
 
 -- ---- what every part keeps
 

@@ -5,7 +5,7 @@
 --     defs-first, defs-later, none-beyond    the term of a number, over definitions
 --     around-first, around-later             the prefixes around it, over definitions
 --     body-beyond                            a definition that there is not
--- Not here: which node stands where, `Node/Parts.antt` and `Node/Homes.antt`. Assumes nothing.
+-- Not here: which term stands where, `Stands.antt`. Assumes nothing.
 use Prim.Native.Nat.{ℕ, suc, _+_, _-_, _≤_, _<_}
 use native.Mathlib.Omega.{arith}
 use mathlib.Core.Path.{_≡_, refl, ap}
