@@ -27,11 +27,11 @@ use Rattle.table.specs.Width.Reach.{reach-most}
 use Rattle.table.specs.Rules.{Rules}
 use Rattle.table.specs.Rules.Laws.{no-wrong}
 use Rattle.table.specs.Judge.Laws.{list-out}
-use Rattle.table.specs.Node.{termOf, kindOf, leftSize, refOf, setOf, calledOf, parameterOf}
+use Rattle.table.specs.Node.{termOf, kindOf, leftSize, refOf, calledOf, parameterOf}
 use Rattle.table.specs.Node.Parts.{size-positive}
 use Rattle.table.specs.Node.Laws.{body-node, each-node, node-fits, spot-of}
 use Rattle.table.specs.Node.Numbers.{enclosing-at}
-use Rattle.table.specs.Member.{rowOf}
+use Rattle.table.specs.Member.{setOf, rowOf}
 use Rattle.table_index.specs.Layout.{termsAt, bodiesAt, alphabetAt, definitionCountAt, termCountAt, kindDigit}
 use Rattle.table_index.specs.Layout.{parameterDigit, prefixesDigit, rightDigit, targetDigit, reachDigit, branchesDigit}
 use Rattle.table_index.specs.Index.{targetOf, firstRow, Indexed, tableIn}

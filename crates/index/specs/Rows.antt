@@ -22,8 +22,8 @@ use Rattle.table.specs.Table.{SetRef, fixed, family, SetDef, one, each, Table}
 use Rattle.table.specs.Fields.{Ascending, EachRow, FamilyRows, IsOne, IsEach, RefExists, Fields}
 use Rattle.table.specs.Rows.{alphabetMost, largeAbove, RowsFit}
 use Rattle.table.specs.Rows.Laws.{fit-less}
-use Rattle.table.specs.Node.{setOf, parameterOf}
-use Rattle.table.specs.Member.{elem, rowIn, rowOf}
+use Rattle.table.specs.Node.{parameterOf}
+use Rattle.table.specs.Member.{elem, rowIn, setOf, rowOf}
 use Rattle.table_index.specs.Layout.{rowsMost, wordEvents, secondAt, termsAt}
 use Rattle.table_index.specs.Index.{maskOf, firstWord, secondWord, setMasks, firstRow, SetsIndexed}
 

@@ -1,5 +1,6 @@
 -- Set membership (01, "Numbers and table": "row v is the set for parameter v"), by list membership.
 --     elem            whether a list has an event
+--     setOf           the set of a reference
 --     rowOf, inRow    the row of a set reference for a remembered event; whether that row has an event
 --     recalled        the remembered event that a reference reads
 --     member          whether the set of a reference, under a memory, has an event
@@ -11,7 +12,6 @@ use lib.ListN.{getD}
 use lib.Dec.{eqb}
 use Rattle.table.specs.Table.{SetRef, fixed, family, SetDef, one, each, Table}
 use Rattle.table.specs.Memory.{Memory, digit}
-use Rattle.table.specs.Node.{setOf}
 
 unfoldable pub elem : ℕ → List ℕ → Bool
 elem e [] = false
@@ -21,6 +21,10 @@ elem e (x ∷ xs) = elim (eqb e x) [ true ↦ true | false ↦ elem e xs ]
 unfoldable pub rowIn : SetDef → ℕ → List ℕ
 rowIn (one r) v = r
 rowIn (each rs) v = getD rs v []
+
+abbrev pub setOf : SetRef → ℕ
+setOf (fixed s) = s
+setOf (family s k) = s
 
 unfoldable pub rowOf : Table → SetRef → ℕ → List ℕ
 rowOf t r v = rowIn (getD (t .sets) (setOf r) (one [])) v

@@ -112,10 +112,6 @@ refOf (choice p q) = fixed 0
 refOf (par r p q) = r
 refOf (call d) = fixed 0
 
-abbrev pub setOf : SetRef → ℕ
-setOf (fixed s) = s
-setOf (family s k) = s
-
 -- 0 where the set is of kind 0, else the parameter and 1
 abbrev pub parameterOf : SetRef → ℕ
 parameterOf (fixed s) = 0

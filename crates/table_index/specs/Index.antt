@@ -25,7 +25,8 @@ use Rattle.table.specs.Width.{reach}
 use Rattle.table.specs.Branches.{branches}
 use Rattle.table.specs.Branches.Capped.{capped}
 use Rattle.table.specs.Judge.{accepted, judgeList}
-use Rattle.table.specs.Node.{Node, nodeAt, termOf, kindOf, leftSize, refOf, setOf, parameterOf, definitionsAt}
+use Rattle.table.specs.Member.{setOf}
+use Rattle.table.specs.Node.{Node, nodeAt, termOf, kindOf, leftSize, refOf, parameterOf, definitionsAt}
 use Rattle.table_index.specs.Layout.{rowsMost, wordEvents, secondAt, termsAt, setsAt, bodiesAt, levelsAt}
 use Rattle.table_index.specs.Layout.{alphabetAt, definitionCountAt, termCountAt, startAt, parameterUnit}
 use Rattle.table_index.specs.Layout.{parallelUnit, entryUnit, prefixesUnit}

@@ -33,7 +33,8 @@ use Rattle.table.specs.Parser.{Result, got, refused, times}
 use Rattle.table.specs.Grammar.{row, eventSet, eventSets, setRef, termWith, definitionsOf, table}
 use Rattle.table.specs.References.{levelIn}
 use Rattle.table.specs.Judge.{declined, judge}
-use Rattle.table.specs.Node.{nodes, nodesFrom, noNode, setOf, parameterOf}
+use Rattle.table.specs.Member.{setOf}
+use Rattle.table.specs.Node.{nodes, nodesFrom, noNode, parameterOf}
 use Rattle.table_index.specs.Layout.{rowsMost, secondAt, termsAt, setsAt, bodiesAt, levelsAt, widthsAt}
 use Rattle.table_index.specs.Layout.{widthUnit, targets, structureOf}
 use Rattle.table_index.specs.Index.{maskOf, firstWord, secondWord, setMasks, kindOfSet, firstRow, packed, wordOf}

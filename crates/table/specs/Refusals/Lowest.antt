@@ -16,13 +16,12 @@ use borrow.Author.Tests.{lt-leb}
 use Rattle.table.specs.Table.{SetRef, Term, stop, fail, prefix, choice, par, call, Definition, Table, size, sizes}
 use Rattle.table.specs.Table.{termIn, termOfDefs}
 use Rattle.table.specs.Node.{kindOf}
-use Rattle.table.specs.Node.Parts.{size-positive}
 use Rattle.table.specs.Branches.{branchesWith, branchesAt, allBranches}
 use Rattle.table.specs.Refusals.{fewIn, fewFrom, fewTerms, BodyOrFollower, a-body, a-follower, ManyAt}
 use Rattle.table.specs.Refusals.Laws.{length-few}
 use Rattle.table.specs.Table.Laws.{termIn-here, termIn-stop, termIn-fail, termIn-call, termIn-prefix}
 use Rattle.table.specs.Table.Laws.{termIn-choice-left, termIn-choice-right, termIn-par-left, termIn-par-right}
-use Rattle.table.specs.Table.Laws.{defs-first, defs-later}
+use Rattle.table.specs.Table.Laws.{size-positive, defs-first, defs-later}
 
 not-none : {X : Type 0} {o : Option Term} {q : Term} → o ≡ none → o ≡ some q → X
 not-none e f = absurd (let z : _≡_ {A = ℕ} 0 1 = cc in omega arith)

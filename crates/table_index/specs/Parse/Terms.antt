@@ -20,7 +20,8 @@ use Rattle.table.specs.Tokens.{tokensAt}
 use Rattle.table.specs.Parser.{Parser, got, number, pure, andThen}
 use Rattle.table.specs.Grammar.{termWith, definition}
 use Rattle.table.specs.Writing.{refNumbers, definitionNumbers}
-use Rattle.table.specs.Node.{nodes, noNode, followerSpot, sideSpot, besideSpot, bodySpot, setOf, parameterOf}
+use Rattle.table.specs.Member.{setOf}
+use Rattle.table.specs.Node.{nodes, noNode, followerSpot, sideSpot, besideSpot, bodySpot, parameterOf}
 use Rattle.table_index.specs.Layout.{termsAt, bodiesAt, levelsAt, structureOf}
 use Rattle.table_index.specs.Index.{firstRow, wordOf}
 use Rattle.table_index.specs.Parse.{Refuses, WordStored, TermStored}
