@@ -104,17 +104,26 @@ fn place_of(area: &[u64], count: usize, slot: &[u64]) -> Place
     find_place(area, count, from, slot)
 }
 
+// Moves the first n words on by sixteen, the last of them first: a loop that the compiler makes one
+// move of memory.
+fn move_up(words: &mut [u64], n: usize)
+    requires { ⌜ n + 16 ≤ length (now words) ⌝ }
+    ensures { λ _. ⌜ now (words .exit) ≡ gapped (now (words .entry)) 0 n ⌝ }
+{
+    let mut k = n;
+    while 0 < k {
+        let m = k - 1;
+        words[m + 16] = words[m];
+        k = m;
+    }
+}
+
 // Moves the words from p up to n on by sixteen.
 fn open_gap(area: &mut [u64], p: usize, n: usize)
     requires { ⌜ (p ≤ n) × (n + 16 ≤ length (now area)) ⌝ }
     ensures { λ _. ⌜ now (area .exit) ≡ gapped (now (area .entry)) p n ⌝ }
 {
-    let mut k = n;
-    while p < k {
-        let m = k - 1;
-        area[m + 16] = area[m];
-        k = m;
-    }
+    move_up(&mut area[p..], n - p);
 }
 
 // Stores a slot's words from p on.

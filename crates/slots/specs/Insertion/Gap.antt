@@ -1,15 +1,16 @@
 -- Loops that store one word a turn: words that move up by sixteen, from the last on, and a slot over an area.
 --     gap-none, gap-step     of `gapped`
+--     gap-part               a gap opened in the part from p on
 --     stored-none, stored-step           of `stored`
 -- Assumes nothing.
-use Prim.Native.Nat.{ℕ, suc, _+_, _≤_, _<_}
+use Prim.Native.Nat.{ℕ, suc, _+_, _-_, _≤_, _<_}
 use native.Mathlib.Omega.{arith}
-use mathlib.Core.Path.{_≡_, _∙_}
-use mathlib.Core.List.{List, _∷_, _++_}
+use mathlib.Core.Path.{_≡_, ap, sym, _∙_}
+use mathlib.Core.List.{List, [], _∷_, _++_, append-assoc, append-nil}
 use lib.ListN.{length, getD, set, take, drop, length-take, List·getD-append}
-use lib.ListN.{take-append-drop}
+use lib.ListN.{take-append-drop, length-drop, drop-of-length-le}
 use lib.Seq.{slice, slice-empty, slice-cons, take-suc, append-snoc, set-at, getD-take, length-take-le, paste-zero}
-use lib.Seq.{paste-suc}
+use lib.Seq.{paste-suc, take-all, take-add, drop-drop, drop-at}
 use Rattle.slots.specs.Insertion.{gapped, stored}
 
 module _ (l : List ℕ) (n : ℕ) (room : n + 16 ≤ length l) where
@@ -41,6 +42,32 @@ module _ (l : List ℕ) (n : ℕ) (room : n + 16 ≤ length l) where
               (m + 16) (length-take-le (m + 16) l (omega arith)),
           slice-cons m n l 0 h (omega arith),
         )))
+
+-- the words from p on, with a gap before their first, put back
+pub gap-part : (l ys : List ℕ) (p n : ℕ) → p ≤ n → n + 16 ≤ length l
+    → ys ≡ gapped (take (length l - p) (drop p l)) 0 (n - p)
+    → take p l ++ (ys ++ drop (length l - p) (drop p l)) ≡ gapped l p n
+unfolding gapped
+gap-part l ys p n h room e =
+    let most : length (drop p l) ≤ length l - p = omega (arith, length-drop p l) in
+    let whole : take (length l - p) (drop p l) ≡ drop p l = take-all _ _ most in
+    let none : drop (length l - p) (drop p l) ≡ [] = drop-of-length-le _ most in
+    let till : p + (n - p) ≡ n = omega arith in
+    let after : p + (n - p + 16) ≡ n + 16 = omega arith in
+    let moved : slice p n l ≡ take (n - p) (drop p l) =
+    ap (λ (k : ℕ). slice p k l) (sym till)
+    ∙ ap (drop p) (take-add p (n - p) l)
+    ∙ drop-at (take p l) (take (n - p) (drop p l)) p (length-take-le p l (omega arith)) in
+    let rest : drop (n - p + 16) (drop p l) ≡ drop (n + 16) l =
+    drop-drop (n - p + 16) p l ∙ ap (λ (k : ℕ). drop k l) after in
+    let part : ys ≡ take 16 (drop p l) ++ (take (n - p) (drop p l) ++ drop (n - p + 16) (drop p l)) =
+    rw whole at e in
+    ap (λ (z : List ℕ). take p l ++ (ys ++ z)) none
+    ∙ ap (λ (z : List ℕ). take p l ++ z) (append-nil ys ∙ part)
+    ∙ sym (append-assoc (take p l) (take 16 (drop p l)) (take (n - p) (drop p l) ++ drop (n - p + 16) (drop p l)))
+    ∙ ap (λ (z : List ℕ). z ++ (take (n - p) (drop p l) ++ drop (n - p + 16) (drop p l))) (sym (take-add p 16 l))
+    ∙ ap (λ (z : List ℕ). take (p + 16) l ++ (take (n - p) (drop p l) ++ z)) rest
+    ∙ ap (λ (z : List ℕ). take (p + 16) l ++ (z ++ drop (n + 16) l)) (sym moved)
 
 pub stored-none : (l : List ℕ) (p : ℕ) (s : List ℕ) (n : ℕ) → n ≡ 0 → l ≡ stored l p s n
 unfolding stored
