@@ -2,3 +2,4 @@
 pub mod Feeding
 pub mod Runs
 pub mod OverSets
+pub mod Learning

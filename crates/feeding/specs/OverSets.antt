@@ -4,6 +4,7 @@
 --     Goes, Stays          so from some monitor
 --     TurnTo               where a turn comes to
 --     TurnBy, LearnBy      the promises of `take_turn`; of `learn`
+--     BegunBy              the promise of `begin_again`
 --     GoesBy, Since        the promise of `take_turns`; what its loop keeps
 -- The laws are in `proofs/met/Laws.antt`. Assumes nothing.
 use Prim.Native.Nat.{ℕ, _≤_, _<_}
@@ -11,6 +12,7 @@ use mathlib.Core.Path.{_≡_}
 use mathlib.Core.List.{List}
 use lib.ListN.{length}
 use Rattle.table.specs.Table.{Table}
+use Rattle.monitor_spec.specs.Regular.{Regular}
 use Rattle.monitor_spec.specs.State.{Monitor}
 use Rattle.state.specs.declared.record.State.{State}
 use Rattle.state.specs.Record.{monitorOf}
@@ -63,6 +65,12 @@ pub record TurnBy (t : Table) (es : List ℕ) (k : ℕ) (sets starts next : List
     (r : Turn) (sets' starts' next' a' b' : List ℕ) : Type 0 where
   pub from : (m : Monitor) (i : ℕ) → Going t m es i k sets starts next s n j a b
       → TurnTo t m es i j r sets' starts' next' a' b'
+
+-- the promise of `begin_again`, from a record and areas at place l, whatever the table is and wherever the run began
+pub record BegunBy (A : ℕ) (s : State) (l : ℕ) (a b : List ℕ) (r : Turn) (sets' starts' next' a' b' : List ℕ)
+    : Type 0 where
+  pub from : (t : Table) → Regular t → A ≡ t .alphabet → (m : Monitor) (es : List ℕ) (i j : ℕ) → j < l → l ≤ length es
+      → ReachedAt t m es i (monitorOf s a b) l → TurnTo t m es i j r sets' starts' next' a' b'
 
 pub record LearnBy (t : Table) (es : List ℕ) (k : ℕ) (sets starts next : List ℕ) (s : State) (n j : ℕ) (a b : List ℕ)
     (r : Turn) (sets' starts' next' a' b' : List ℕ) : Type 0 where

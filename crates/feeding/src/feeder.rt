@@ -1,7 +1,7 @@
 // Feed (document 01, "Operations", "When the monitor declines"): what it comes to is `feedOf` of
 // crate monitor_spec.
 ghost use mathlib.Core.Path.{_≡_};
-ghost use Prim.Native.Nat.{_≤_};
+ghost use Prim.Native.Nat.{_≤_, _<_};
 ghost use lib.ListN.{length};
 ghost use Rattle.table_index.specs.Index.{tableIn, Indexed};
 ghost use Rattle.monitor_spec.specs.Feed.{feedOf};
@@ -9,7 +9,7 @@ ghost use Rattle.state.specs.Record.{monitorOf};
 ghost use Rattle.state.specs.Answers.{outcome};
 ghost use Rattle.feeding.specs.Feeding.{Standing, EndedBy};
 ghost use Rattle.feeding.specs.Runs.{EndedFrom, RunBy};
-use crate::met::take_met;
+use crate::met::take_kept;
 use crate::run::Run;
 use crate::run::take_part;
 use entering::enter_on;
@@ -28,12 +28,26 @@ fn least(a: usize, b: usize) -> usize
     b
 }
 
-// Takes the events from one place on: over at most so many sets met, and where that gives up, one
-// after the other up to another place.
+// The place up to which events are taken one after the other where the sets that were begun at
+// place i are given up: four times as far, of so many events.
+fn further(i: usize, length: usize) -> usize
+    requires { ⌜ i < length ⌝ }
+    ensures { λ r. ⌜ (i < r) × (r ≤ length) ⌝ }
+{
+    if (length - i) / 3 <= i {
+        return length;
+    }
+    i + 3 * i + 1
+}
+
+// Takes the events from one place on: over the sets met, and where that is given up, one after the
+// other up to another place.
 fn take_stretch(
     list: &[u16],
     work: &[u64],
-    most: usize,
+    sets: &mut [u64],
+    starts: &mut [usize],
+    next: &mut [u8],
     state: State,
     area0: &mut [u64],
     area1: &mut [u64],
@@ -44,17 +58,28 @@ fn take_stretch(
 ) -> Run
     requires { ⌜ Indexed (now list) (now work) ⌝ }
     requires { ⌜ Standing (tableIn (now list)) (monitorOf state (now area0) (now area1)) ⌝ }
+    requires { ⌜ (length (now sets) ≡ 1664) × (length (now starts) ≡ 64)
+        × (length (now next) ≡ 2560) ⌝ }
     requires { ⌜ (from ≤ length (now events)) × (to ≤ length (now events)) ⌝ }
-    requires { ⌜ (length (now store) ≡ 4112) × (most ≤ 63) ⌝ }
+    requires { ⌜ length (now store) ≡ 4112 ⌝ }
     ensures { λ r.
         ⌜ RunBy (tableIn (now (list .entry)))
         (monitorOf state (now (area0 .entry)) (now (area1 .entry))) (now (events .entry)) from to
         r (now (area0 .exit)) (now (area1 .exit)) ⌝ }
 {
-    if events.len() <= from {
-        return Run::Left(state, from);
-    }
-    match take_met(list, work, most, state, area0, area1, events, from, store) {
+    match take_kept(
+        list,
+        work,
+        sets,
+        starts,
+        next,
+        state,
+        area0,
+        area1,
+        events,
+        from,
+        store,
+    ) {
         Run::Ended(answer) => Run::Ended(answer),
         Run::Left(reached, i) => {
             take_part(list, work, reached, area0, area1, events, i, to, store)
@@ -62,34 +87,7 @@ fn take_stretch(
     }
 }
 
-// Takes the events from a place on, all of them: over many sets met.
-fn take_rest(
-    list: &[u16],
-    work: &[u64],
-    state: State,
-    area0: &mut [u64],
-    area1: &mut [u64],
-    events: &[u8],
-    from: usize,
-    store: &mut [u64],
-) -> Answer
-    requires { ⌜ Indexed (now list) (now work) ⌝ }
-    requires { ⌜ Standing (tableIn (now list)) (monitorOf state (now area0) (now area1)) ⌝ }
-    requires { ⌜ from ≤ length (now events) ⌝ }
-    requires { ⌜ length (now store) ≡ 4112 ⌝ }
-    ensures { λ r.
-        ⌜ EndedFrom (tableIn (now (list .entry)))
-        (monitorOf state (now (area0 .entry)) (now (area1 .entry))) (now (events .entry)) from
-        r (now (area0 .exit)) (now (area1 .exit)) ⌝ }
-{
-    let to = events.len();
-    match take_stretch(list, work, 63, state, area0, area1, events, from, to, store) {
-        Run::Ended(answer) => answer,
-        Run::Left(reached, i) => Answer::Given(reached),
-    }
-}
-
-// Takes the events from a place on, all of them: first over few sets met.
+// Takes the events from a place on, all of them, stretch by stretch.
 fn take_long(
     list: &[u16],
     work: &[u64],
@@ -109,16 +107,42 @@ fn take_long(
         (monitorOf state (now (area0 .entry)) (now (area1 .entry))) (now (events .entry)) from
         r (now (area0 .exit)) (now (area1 .exit)) ⌝ }
 {
-    let to = least(events.len(), 2048);
-    match take_stretch(list, work, 8, state, area0, area1, events, from, to, store) {
-        Run::Ended(answer) => answer,
-        Run::Left(reached, i) => { take_rest(list, work, reached, area0, area1, events, i, store) }
+    let mut sets = [0u64; 1664];
+    let mut starts = [0usize; 64];
+    let mut next = [0u8; 2560];
+    let mut reached = state;
+    let mut i = from;
+    while i < events.len() {
+        let to = further(i, events.len());
+        match take_stretch(
+            list,
+            work,
+            &mut sets,
+            &mut starts,
+            &mut next,
+            reached,
+            area0,
+            area1,
+            events,
+            i,
+            to,
+            store,
+        ) {
+            Run::Ended(answer) => {
+                return answer;
+            }
+            Run::Left(s, j) => {
+                reached = s;
+                i = j;
+            }
+        }
     }
+    Answer::Given(reached)
 }
 
 // Takes the events from the first, until one is refused, where the table's index stands in the work
-// area: the run of an operation that is entered, without a judging. The first sixteen are taken one
-// after the other, so that a short call keeps no sets.
+// area: the run of an operation that is entered, without a judging. The first 80 are taken one after
+// the other, so that a short call keeps no sets.
 pub fn take_all(
     list: &[u16],
     work: &[u64],
@@ -135,10 +159,13 @@ pub fn take_all(
         r (now (area0 .exit)) (now (area1 .exit)) ⌝ }
 {
     let mut store = [0u64; 4112];
-    let to = least(events.len(), 16);
+    let to = least(events.len(), 80);
     match take_part(list, work, state, area0, area1, events, 0, to, &mut store) {
         Run::Ended(answer) => answer,
         Run::Left(reached, i) => {
+            if events.len() <= i {
+                return Answer::Given(reached);
+            }
             take_long(list, work, reached, area0, area1, events, i, &mut store)
         }
     }

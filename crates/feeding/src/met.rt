@@ -1,13 +1,14 @@
 // Events over the residual sets that a call has met (crate met_sets). The promises are in
 // `specs/OverSets.antt` and `specs/Runs.antt`.
 ghost use mathlib.Core.Path.{_≡_};
-ghost use Prim.Native.Nat.{_≤_, _<_, _^_};
+ghost use Prim.Native.Nat.{_*_, _≤_, _<_, _^_};
 ghost use lib.ListN.{length};
 ghost use Rattle.table_index.specs.Index.{tableIn, Indexed};
 ghost use Rattle.state.specs.Record.{monitorOf};
 ghost use Rattle.feeding.specs.Feeding.{Standing};
 ghost use Rattle.feeding.specs.Runs.{RunBy};
-ghost use Rattle.feeding.specs.OverSets.{Goes, Stays, TurnBy, LearnBy, GoesBy};
+ghost use Rattle.feeding.specs.OverSets.{Goes, Stays, TurnBy, BegunBy, LearnBy, GoesBy};
+ghost use Rattle.feeding.specs.Learning.{mayLearn, hasPaid};
 use crate::event::Taken;
 use crate::event::take_event;
 use crate::run::Run;
@@ -15,10 +16,26 @@ use met_sets::Pick;
 use met_sets::follow;
 use met_sets::lay_out;
 use met_sets::link;
+use met_sets::pick_first;
 use met_sets::pick_up;
 use state::Answer;
 use state::State;
 use table::Refusal;
+
+// Whether one transition more may be learnt, where so many events were taken before the first set
+// was kept and so many since, and so many transitions were learnt since.
+fn may_learn(before: usize, since: usize, learnt: usize) -> bool
+    ensures { λ r. ⌜ r ≡ mayLearn before since learnt ⌝ }
+{
+    learnt < 3 + before / 64 + since / 8
+}
+
+// Whether what was learnt has paid.
+fn has_paid(since: usize, learnt: usize) -> bool
+    ensures { λ r. ⌜ r ≡ hasPaid since learnt ⌝ }
+{
+    learnt <= since / 8
+}
 
 // Where a turn comes to: the call's answer; a record that stands in the areas, and at which event;
 // or a record, the number of a set kept, how many sets are kept, and at which event.
@@ -28,13 +45,43 @@ pub enum Turn {
     Kept(State, usize, usize, usize),
 }
 
+// Where so wanted, forgets all sets and keeps the one that stands in the areas, at place i.
+fn begin_again(
+    alphabet: usize,
+    sets: &mut [u64],
+    starts: &mut [usize],
+    next: &mut [u8],
+    state: State,
+    area0: &mut [u64],
+    area1: &mut [u64],
+    i: usize,
+    wanted: bool,
+) -> Turn
+    requires { ⌜ (alphabet ≤ 128) × (length (now sets) ≡ 1664) × (length (now starts) ≡ 64)
+        × (length (now next) ≡ 2560) ⌝ }
+    requires { ⌜ (state .count * 16 ≤ length (now area0))
+        × (state .count * 16 ≤ length (now area1)) ⌝ }
+    ensures { λ r.
+        ⌜ BegunBy alphabet state i (now (area0 .entry)) (now (area1 .entry))
+        r (now (sets .exit)) (now (starts .exit)) (now (next .exit))
+        (now (area0 .exit)) (now (area1 .exit)) ⌝ }
+{
+    if !wanted {
+        return Turn::Left(state, i);
+    }
+    match pick_first(alphabet, sets, starts, next, state, area0, area1) {
+        Pick::Full => Turn::Left(state, i),
+        Pick::Set(n, k) => Turn::Kept(state, n, k, i),
+    }
+}
+
 // Takes an event whose transition from set n is not known, where that set stands in the areas, and
-// keeps the set that it leads to.
+// keeps the set that it leads to. Where that has no room, all sets are forgotten but that one if
+// they have paid.
 fn learn(
     list: &[u16],
     work: &[u64],
     alphabet: usize,
-    most: usize,
     k: usize,
     sets: &mut [u64],
     starts: &mut [usize],
@@ -45,6 +92,7 @@ fn learn(
     area1: &mut [u64],
     events: &[u8],
     i: usize,
+    paid: bool,
     store: &mut [u64],
 ) -> Turn
     requires { ⌜ Indexed (now list) (now work) ⌝ }
@@ -63,8 +111,20 @@ fn learn(
     match take_event(list, work, e, state, area0, area1, store) {
         Taken::Stopped(number) => Turn::Ended(Answer::Stopped(Refusal { number, place: i }, state)),
         Taken::Went(reached) => {
-            match pick_up(alphabet, most, k, sets, starts, next, reached, area0, area1) {
-                Pick::Full => Turn::Left(reached, i + 1),
+            match pick_up(alphabet, k, sets, starts, next, reached, area0, area1) {
+                Pick::Full => {
+                    begin_again(
+                        alphabet,
+                        sets,
+                        starts,
+                        next,
+                        reached,
+                        area0,
+                        area1,
+                        i + 1,
+                        paid,
+                    )
+                }
                 Pick::Set(j, c) => {
                     link(alphabet, next, n, e, j);
                     Turn::Kept(reached, j, c, i + 1)
@@ -74,12 +134,12 @@ fn learn(
     }
 }
 
-// Takes the events whose transitions are known, from set n on, and then one more.
+// Takes the events whose transitions are known, from set n on, and then one more, if that may be
+// learnt: the first set was kept at place `from`, and so many transitions were learnt since.
 fn take_turn(
     list: &[u16],
     work: &[u64],
     alphabet: usize,
-    most: usize,
     k: usize,
     sets: &mut [u64],
     starts: &mut [usize],
@@ -90,12 +150,14 @@ fn take_turn(
     area1: &mut [u64],
     events: &[u8],
     i: usize,
+    from: usize,
+    learnt: usize,
     store: &mut [u64],
 ) -> Turn
     requires { ⌜ Indexed (now list) (now work) ⌝ }
     requires { ⌜ (alphabet ≡ tableIn (now list) .alphabet)
         × (length (now store) ≡ 4112) ⌝ }
-    requires { ⌜ (i ≤ length (now events)) × (length (now events) < 2 ^ 64) ⌝ }
+    requires { ⌜ (from ≤ i) × (i ≤ length (now events)) × (length (now events) < 2 ^ 64) ⌝ }
     requires { ⌜ Goes (tableIn (now list)) (now events) k (now sets) (now starts) (now next)
         state n i (now area0) (now area1) ⌝ }
     ensures { λ r.
@@ -113,11 +175,14 @@ fn take_turn(
     if to <= place {
         return Turn::Left(reached, place);
     }
+    let since = place - from;
+    if !may_learn(from, since, learnt) {
+        return Turn::Left(reached, place);
+    }
     learn(
         list,
         work,
         alphabet,
-        most,
         k,
         sets,
         starts,
@@ -128,16 +193,16 @@ fn take_turn(
         area1,
         events,
         place,
+        has_paid(since, learnt),
         store,
     )
 }
 
-// Takes events from set n on, turn by turn, until one has no room or none is left.
+// Takes events from set n on, turn by turn, until one may not be learnt or none is left.
 fn take_turns(
     list: &[u16],
     work: &[u64],
     alphabet: usize,
-    most: usize,
     k: usize,
     sets: &mut [u64],
     starts: &mut [usize],
@@ -165,12 +230,12 @@ fn take_turns(
     let mut at = n;
     let mut kept = k;
     let mut i = from;
+    let mut learnt = 0;
     loop {
         match take_turn(
             list,
             work,
             alphabet,
-            most,
             kept,
             sets,
             starts,
@@ -181,6 +246,8 @@ fn take_turns(
             area1,
             events,
             i,
+            from,
+            learnt,
             store,
         ) {
             Turn::Ended(answer) => {
@@ -194,17 +261,17 @@ fn take_turns(
                 at = set;
                 kept = count;
                 i = j;
+                learnt += 1;
             }
         }
     }
 }
 
-// Takes events from a place on over at most so many sets, none of which is known yet, until one has
-// no room or none is left.
-fn take_kept(
+// Takes events from a place on over sets, none of which is known yet, until a transition may not be
+// learnt or no event is left.
+pub fn take_kept(
     list: &[u16],
     work: &[u64],
-    most: usize,
     sets: &mut [u64],
     starts: &mut [usize],
     next: &mut [u8],
@@ -226,14 +293,12 @@ fn take_kept(
         r (now (area0 .exit)) (now (area1 .exit)) ⌝ }
 {
     let alphabet = index::alphabet(list, work) as usize;
-    starts[0] = 0;
-    match pick_up(alphabet, most, 0, sets, starts, next, state, area0, area1) {
+    match pick_first(alphabet, sets, starts, next, state, area0, area1) {
         Pick::Full => Run::Left(state, from),
         Pick::Set(n, k) => take_turns(
             list,
             work,
             alphabet,
-            most,
             k,
             sets,
             starts,
@@ -247,62 +312,4 @@ fn take_kept(
             store,
         ),
     }
-}
-
-// Takes events from a place on over at most so many sets. Where one more has no room, all are
-// forgotten if more than sixteen events were taken for each transition that could be known (2,560);
-// else that is given up.
-pub fn take_met(
-    list: &[u16],
-    work: &[u64],
-    most: usize,
-    state: State,
-    area0: &mut [u64],
-    area1: &mut [u64],
-    events: &[u8],
-    from: usize,
-    store: &mut [u64],
-) -> Run
-    requires { ⌜ Indexed (now list) (now work) ⌝ }
-    requires { ⌜ Standing (tableIn (now list)) (monitorOf state (now area0) (now area1)) ⌝ }
-    requires { ⌜ from ≤ length (now events) ⌝ }
-    requires { ⌜ (length (now store) ≡ 4112) × (most ≤ 63) ⌝ }
-    ensures { λ r.
-        ⌜ RunBy (tableIn (now (list .entry)))
-        (monitorOf state (now (area0 .entry)) (now (area1 .entry))) (now (events .entry)) from from
-        r (now (area0 .exit)) (now (area1 .exit)) ⌝ }
-{
-    let mut sets = [0u64; 1664];
-    let mut starts = [0usize; 64];
-    let mut next = [0u8; 2560];
-    let mut reached = state;
-    let mut i = from;
-    while i < events.len() {
-        match take_kept(
-            list,
-            work,
-            most,
-            &mut sets,
-            &mut starts,
-            &mut next,
-            reached,
-            area0,
-            area1,
-            events,
-            i,
-            store,
-        ) {
-            Run::Ended(answer) => {
-                return Run::Ended(answer);
-            }
-            Run::Left(s, j) => {
-                if j - i <= 40960 {
-                    return Run::Left(s, j);
-                }
-                reached = s;
-                i = j;
-            }
-        }
-    }
-    Run::Left(reached, i)
 }

@@ -7,6 +7,7 @@ mod words;
 
 pub use pick::Pick;
 pub use pick::lay_out;
+pub use pick::pick_first;
 pub use pick::pick_up;
 pub use run::Followed;
 pub use run::follow;

@@ -1,6 +1,7 @@
 // Between the areas and the sets kept.
 ghost use Prim.Native.Nat.{suc, _+_, _*_, _≤_, _<_};
-ghost use lib.ListN.{length, getD};
+ghost use mathlib.Core.Path.{_≡_};
+ghost use lib.ListN.{length, getD, set};
 ghost use Rattle.state.specs.Record.{monitorOf};
 ghost use Rattle.met_sets.specs.Sets.{countAt, Shape, SetStands, KeptBy};
 ghost use Rattle.met_sets.specs.Runs.{FoundBy, PickedBy, LaidIn, LaidBy};
@@ -42,11 +43,10 @@ fn keep(
     forget_row(alphabet, next, k);
 }
 
-// Finds the set that the first slots of an area are, so many, or keeps it, where at most so many
-// sets are wanted; then the area is zero. Where there is no room, all is as it was.
+// Finds the set that the first slots of an area are, so many, or keeps it; then the area is zero.
+// Where there is no room, all is as it was.
 fn pick_area(
     alphabet: usize,
-    most: usize,
     k: usize,
     sets: &mut [u64],
     starts: &mut [usize],
@@ -67,7 +67,7 @@ fn pick_area(
         clear_first(area, words);
         return Pick::Set(i, k);
     }
-    if has_room(alphabet, most, k, starts[k], count) {
+    if has_room(alphabet, k, starts[k], count) {
         keep(alphabet, k, sets, starts, next, area, count);
         clear_first(area, words);
         let more = k + 1;
@@ -80,7 +80,6 @@ fn pick_area(
 // zero.
 pub fn pick_up(
     alphabet: usize,
-    most: usize,
     k: usize,
     sets: &mut [u64],
     starts: &mut [usize],
@@ -100,9 +99,33 @@ pub fn pick_up(
 {
     let count = state.count as usize;
     if state.taken % 2 == 0 {
-        return pick_area(alphabet, most, k, sets, starts, next, area0, count);
+        return pick_area(alphabet, k, sets, starts, next, area0, count);
     }
-    pick_area(alphabet, most, k, sets, starts, next, area1, count)
+    pick_area(alphabet, k, sets, starts, next, area1, count)
+}
+
+// The same where all sets kept are forgotten first.
+pub fn pick_first(
+    alphabet: usize,
+    sets: &mut [u64],
+    starts: &mut [usize],
+    next: &mut [u8],
+    state: State,
+    area0: &mut [u64],
+    area1: &mut [u64],
+) -> Pick
+    requires { ⌜ (alphabet ≤ 128) × (length (now sets) ≡ 1664) × (length (now starts) ≡ 64)
+        × (length (now next) ≡ 2560) ⌝ }
+    requires { ⌜ (state .count * 16 ≤ length (now area0))
+        × (state .count * 16 ≤ length (now area1)) ⌝ }
+    ensures { λ r.
+        ⌜ PickedBy alphabet 0 (now (sets .entry)) (set (now (starts .entry)) 0 0)
+        (now (next .entry)) (monitorOf state (now (area0 .entry)) (now (area1 .entry)))
+        r (now (sets .exit)) (now (starts .exit)) (now (next .exit))
+        (now (area0 .exit)) (now (area1 .exit)) ⌝ }
+{
+    starts[0] = 0;
+    pick_up(alphabet, 0, sets, starts, next, state, area0, area1)
 }
 
 // Lays set n into an area of zeros, so many slots.

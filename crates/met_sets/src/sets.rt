@@ -46,16 +46,13 @@ pub(crate) fn find(
     k
 }
 
-// Whether one set more has room, of so many slots, where at most so many sets are wanted.
-pub(crate) fn has_room(alphabet: usize, most: usize, k: usize, start: usize, count: usize) -> bool
+// Whether one set more has room, of so many slots.
+pub(crate) fn has_room(alphabet: usize, k: usize, start: usize, count: usize) -> bool
     requires { ⌜ (k * alphabet ≤ 2560) × (start ≤ 104) ⌝ }
     ensures { λ r.
         ⌜ (r ≡ true → (k < 63) × (start + count ≤ 104) × (suc k * alphabet ≤ 2560)) ⌝ }
 {
     if 63 <= k {
-        return false;
-    }
-    if most <= k {
         return false;
     }
     if 104 - start < count {

@@ -6,6 +6,7 @@ mod lanes;
 mod long;
 mod residuals;
 mod stress;
+mod transitions;
 
 use reference::table::*;
 
@@ -32,6 +33,7 @@ pub fn all() -> Vec<Input> {
     let mut inputs = lanes::inputs();
     inputs.extend(residuals::inputs());
     inputs.extend(long::inputs());
+    inputs.extend(transitions::inputs());
     inputs.extend(stress::inputs());
     inputs
 }

@@ -2,14 +2,16 @@
 --     going-within, -stands, -room, -out    along known transitions: what is asked for; the set is laid out
 --     out-reached, out-room, out-shape      a set that is laid out is reached; what picking up the next one asks for
 --     learn-full, learn-link, learn-kept    it has no room; it is linked, and kept
---     first-shape, -full, -kept, -goes      the set of the monitor that a run begins with
+--     first-full, -kept, -goes              the set of the monitor that a run begins with
+--     begun-full, begun-kept                the same where all sets are forgotten on the way
 --     turn-learnt, since-goes, -kept, -ended, -left    a turn, and turns one after the other
 -- Assumes nothing.
 use Prim.Native.Nat.{ℕ, suc, _+_, _*_, _<_, _≤_}
 use native.Mathlib.Omega.{arith}
 use mathlib.Core.Path.{_≡_, refl, ap, sym, subst, _∙_}
 use mathlib.Core.List.{List}
-use lib.ListN.{length, getD, set}
+use lib.ListN.{length, getD, set, length-set}
+use lib.Seq.{getD-set-same}
 use Rattle.table.specs.Table.{Table}
 use Rattle.monitor_spec.specs.Regular.{Regular}
 use Rattle.monitor_spec.specs.State.{Monitor}
@@ -144,9 +146,6 @@ module _ {t : Table} (regular : Regular t) (s : State) (a b : List ℕ)
   none : Met t (h .slots) 0 sets starts next
   none = met-none t (h .slots) sets starts next small x y z (omega arith)
 
-  pub first-shape : Shape A 0 sets starts next
-  first-shape = subst (λ (v : ℕ). Shape v 0 sets starts next) (sym ea) (none .shape)
-
   module _ (p : Pick) (sets' starts' next' a' b' : List ℕ)
       (f : PickedBy A 0 sets starts next (monitorOf s a b) p sets' starts' next' a' b') where
     as-first : PickedAs t (h .slots) 0 sets starts next (monitorOf s a b) p sets' starts' next' a' b'
@@ -172,6 +171,45 @@ module _ {t : Table} (regular : Regular t) (s : State) (a b : List ℕ)
 
     pub first-goes : (n k : ℕ) → p ≡ Set n k → (es : List ℕ) (i : ℕ) → Goes t es k sets' starts' next' s n i a' b'
     first-goes n k q es i = record { m = monitorOf s a b; i = i; going = first-kept n k q es i }
+
+-- ---- all sets are forgotten
+
+going-then : {t : Table} {m m' : Monitor} {es : List ℕ} {i l k : ℕ} {sets starts next : List ℕ} {s : State} {n j : ℕ}
+    {a b : List ℕ} → ReachedAt t m es i m' l → Going t m' es l k sets starts next s n j a b
+    → Going t m es i k sets starts next s n j a b
+going-then h g =
+    record {
+      cap = g .cap;
+      met = g .met;
+      follows =
+          record {
+            inside = g .follows .inside;
+            counted = g .follows .counted;
+            reached =
+                record { laid = g .follows .reached .laid; rest = h .rest ∙ g .follows .reached .rest };
+          };
+      zeroed = g .zeroed;
+    }
+
+module _ {t : Table} (regular : Regular t) {A : ℕ} (ea : A ≡ t .alphabet) (few : t .alphabet ≤ 128) (s : State)
+    (a b : List ℕ) {m : Monitor} {es : List ℕ} {i l : ℕ} (h : ReachedAt t m es i (monitorOf s a b) l)
+    (sets starts next : List ℕ) (x : length sets ≡ 1664) (y : length starts ≡ 64) (z : length next ≡ 2560) (p : Pick)
+    (sets' starts' next' a' b' : List ℕ)
+    (f : PickedBy A 0 sets (set starts 0 0) next (monitorOf s a b) p sets' starts' next' a' b') where
+  start : getD (set starts 0 0) 0 0 ≡ 0
+  start = getD-set-same starts 0 0 0 (omega arith)
+
+  pub begun-full : p ≡ Full → ReachedAt t m es i (monitorOf s a' b') l
+  begun-full q =
+      let g = first-full regular s a b (h .standing) sets (set starts 0 0) next x (length-set starts 0 0 ∙ y) z start
+      few ea p sets' starts' next' a' b' f q es l in
+      record { standing = g .standing; rest = h .rest ∙ g .rest }
+
+  pub begun-kept : (n k : ℕ) → p ≡ Set n k → Going t m es i k sets' starts' next' s n l a' b'
+  begun-kept n k q =
+      going-then h
+      (first-kept regular s a b (h .standing) sets (set starts 0 0) next x (length-set starts 0 0 ∙ y) z start few ea p
+      sets' starts' next' a' b' f n k q es l)
 
 -- ---- a turn, and turns
 

@@ -2,7 +2,7 @@
 --     row-inside, row-fits            the row of a set is within the bytes
 --     shape-stands, words-inside      the slots of a set are within the words
 --     found-slots                     a set that has the words of an area
---     met-none, met-flushed           no set
+--     shape-none, first-start, met-none    no set
 --     link-inside, met-linked         a transition more
 -- One set more is in `Kept.antt`. Assumes nothing.
 use Prim.Native.Nat.{ℕ, suc, _+_, _*_, _≤_, _<_}
@@ -54,31 +54,32 @@ module _ {sets starts : List ℕ} {i : ℕ} (s : SetStands sets starts i) where
 
 -- ---- no set
 
+pub shape-none : (A : ℕ) (sets starts next : List ℕ) → A ≤ 128 → length sets ≡ 1664 → length starts ≡ 64
+    → length next ≡ 2560 → getD starts 0 0 ≤ 104 → Shape A 0 sets starts next
+shape-none A sets starts next a x y z r =
+    record {
+      set-words = x;
+      start-places = y;
+      next-bytes = z;
+      small = a;
+      few = omega arith;
+      rows = omega arith;
+      ascend = λ i m. absurd (omega arith);
+      room = λ i m. let e : 0 ≡ i = omega arith in subst (λ (j : ℕ). getD starts j 0 ≤ 104) e r;
+      known = λ i e m q. absurd (omega arith);
+    }
+
+pub first-start : (starts : List ℕ) → length starts ≡ 64 → getD (set starts 0 0) 0 0 ≤ 104
+first-start starts h = let e = getD-set-same starts 0 0 0 (omega arith) in omega arith
+
 pub met-none : (t : Table) (cap : ℕ) (sets starts next : List ℕ) → t .alphabet ≤ 128 → length sets ≡ 1664
     → length starts ≡ 64 → length next ≡ 2560 → getD starts 0 0 ≤ 104 → Met t cap 0 sets starts next
 met-none t cap sets starts next a x y z r =
     record {
-      shape = record {
-        set-words = x;
-        start-places = y;
-        next-bytes = z;
-        small = a;
-        few = omega arith;
-        rows = omega arith;
-        ascend = λ i m. absurd (omega arith);
-        room = λ i m. let e : 0 ≡ i = omega arith in subst (λ (j : ℕ). getD starts j 0 ≤ 104) e r;
-        known = λ i e m q. absurd (omega arith);
-      };
+      shape = shape-none (t .alphabet) sets starts next a x y z r;
       stored = λ i m. absurd (omega arith);
       leads = λ i e j m q u. absurd (omega arith);
     }
-
-pub met-flushed : {t : Table} {cap k : ℕ} {sets starts next : List ℕ} → Met t cap k sets starts next
-    → Met t cap 0 sets starts next
-met-flushed {t} {cap} {k} {sets} {starts} {next} m =
-    let s = m .shape in
-    met-none t cap sets starts next (s .small) (s .set-words) (s .start-places) (s .next-bytes)
-    (s .room 0 (omega arith))
 
 -- ---- one transition more
 

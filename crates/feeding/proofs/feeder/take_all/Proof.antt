@@ -2,7 +2,7 @@
 -- nothing.
 use native.Mathlib.Omega.{arith}
 use mathlib.Core.Path.{_∙_}
-use Rattle.feeding.proofs.run.Turn.{ended-then, ended-all, run-ended, run-left}
+use Rattle.feeding.proofs.run.Turn.{ended-then, ended-done, ended-all, run-ended, run-left}
 use borrow.Author.Needs.{needs}
 use Rattle.feeding.proofs.feeder.take_all.Statement.{statement}
 use Rattle.feeding.proofs.feeder.take_all.Tie as tie
@@ -25,12 +25,25 @@ enum-known-answer c = search needs
 enum-known-reached : tie.Need-enum-known-reached
 enum-known-reached c = search needs
 
+same-length : tie.Need-same-length
+same-length c = search needs
+
+same-length-2 : tie.Need-same-length-2
+same-length-2 c = search needs
+
+returns : tie.Need-returns
+returns c =
+    let at-reached = c .before .before in
+    let at-take-part = at-reached .before .before .before .before .before .before .before in
+    let g = run-left _ _ _ _ _ _ _ _ (at-take-part .take-part .ensures) _ _ (at-reached .reached .given .1) in
+    ended-all _ _ _ _ _ _ (ended-done _ _ _ _ _ _ _ _ (g .0) (c .if1 .taken))
+
 slice-aggregate-take-long : tie.Need-slice-aggregate-take-long
 slice-aggregate-take-long c = search needs
 
 take-long-requires : tie.Need-take-long-requires
 take-long-requires c κs =
-    let at-reached = c .before .before .before .before in
+    let at-reached = c .before .before .before .before .before in
     let at-take-part = at-reached .before .before .before .before .before .before .before in
     let at-shared-slice-known2 = at-take-part .before .before .before .before .before .before .before .before in
     let at-start = at-shared-slice-known2 .before .before in
@@ -46,19 +59,6 @@ take-long-requires c κs =
       ),
     )
 
-same-length : tie.Need-same-length
-same-length c = search needs
-
-same-length-2 : tie.Need-same-length-2
-same-length-2 c = search needs
-
-returns : tie.Need-returns
-returns c =
-    let at-answer = c .before in
-    let at-take-part = at-answer .before .before .before .before .before .before .before in
-    ended-all _ _ _ _ _ _ (run-ended _ _ _ _ _ _ _ _ (at-take-part .take-part .ensures) _
-    (at-answer .answer .given .1))
-
 same-length-3 : tie.Need-same-length-3
 same-length-3 c = search needs
 
@@ -67,8 +67,21 @@ same-length-4 c = search needs
 
 returns-2 : tie.Need-returns-2
 returns-2 c =
+    let at-answer = c .before in
+    let at-take-part = at-answer .before .before .before .before .before .before .before in
+    ended-all _ _ _ _ _ _ (run-ended _ _ _ _ _ _ _ _ (at-take-part .take-part .ensures) _
+    (at-answer .answer .given .1))
+
+same-length-5 : tie.Need-same-length-5
+same-length-5 c = search needs
+
+same-length-6 : tie.Need-same-length-6
+same-length-6 c = search needs
+
+returns-3 : tie.Need-returns-3
+returns-3 c =
     let at-take-long = c .before .before .before .before .before in
-    let at-reached = at-take-long .before .before .before .before .before in
+    let at-reached = at-take-long .before .before .before .before .before .before in
     let at-take-part = at-reached .before .before .before .before .before .before .before in
     let g = run-left _ _ _ _ _ _ _ _ (at-take-part .take-part .ensures) _ _ (at-reached .reached .given .1) in
     ended-all _ _ _ _ _ _ (ended-then _ _ _ _ _ _ (g .0) _ _ _ (at-take-long .take-long .ensures))
@@ -82,11 +95,14 @@ take-all-spec =
     take-part-requires
     enum-known-answer
     enum-known-reached
-    slice-aggregate-take-long
-    take-long-requires
     same-length
     same-length-2
     returns
+    slice-aggregate-take-long
+    take-long-requires
     same-length-3
     same-length-4
-    returns-2)
+    returns-2
+    same-length-5
+    same-length-6
+    returns-3)

@@ -1,5 +1,6 @@
 -- `feeding::met::learn` meets its contract: one law of `proofs/met/Laws.antt` per way out. Assumes nothing.
 use native.Mathlib.Omega.{arith}
+use mathlib.Core.Path.{_∙_}
 use Rattle.index.specs.Facts.{indexed-rules}
 use Rattle.monitor_spec.specs.Regular.Laws.{regular}
 use Rattle.feeding.proofs.run.Turn.{ended-refused}
@@ -45,15 +46,47 @@ pick-up-requires c κs =
 enum-told : tie.Need-enum-told
 enum-told c = search needs
 
-add-t45 : tie.Need-add-t45
-add-t45 c =
-    let at-slice-known11 = c .before .before .before .before .before .before .before .before in
-    let at-pick-up-arg2 = at-slice-known11 .before .before .before .before .before .before .before .before in
-    let at-area1 = at-pick-up-arg2 .before .before .before .before .before .before .before .before in
-    let at-slice-known6 = at-area1 .before .before .before .before .before .before .before .before in
-    let at-shared-slice-known = at-slice-known6 .before .before .before .before .before .before .before .before in
-    let at-start = at-shared-slice-known .before in
+add-begin-again : tie.Need-add-begin-again
+add-begin-again c =
+    let at-area12 = c .before .before .before .before .before .before .before .before in
+    let at-sets = at-area12 .before .before .before .before .before .before .before .before in
+    let at-reached = at-sets .before .before .before .before .before .before .before .before in
+    let at-take-event = at-reached .before .before .before .before .before .before .before .before in
+    let at-slice-known4 = at-take-event .before .before .before .before .before .before .before .before in
+    let at-start = at-slice-known4 .before .before .before .before .before .before in
     omega (arith, at-start .pre .1 .1 .0)
+
+begin-again-requires : tie.Need-begin-again-requires
+begin-again-requires c κs =
+    let at-area12 = c .before .before .before .before .before .before .before .before in
+    let at-sets = at-area12 .before .before .before .before .before .before .before .before in
+    let at-pick-up = at-sets .before in
+    let at-reached = at-pick-up .before .before .before .before .before .before .before in
+    let at-take-event = at-reached .before .before .before .before .before .before .before .before in
+    let at-slice-known4 = at-take-event .before .before .before .before .before .before .before .before in
+    let at-start = at-slice-known4 .before .before .before .before .before .before in
+    let s = out-shape (regular _ (indexed-rules (at-start .pre .0))) (at-start .pre .1 .1 .1 .out)
+    (at-start .pre .1 .1 .0 .0) _ _ _ (at-take-event .take-event .ensures) _ (at-reached .reached .given .1)
+    (at-start .pre .1 .0 .0) in
+    let u = out-room (regular _ (indexed-rules (at-start .pre .0)))
+    (at-start .pre .1 .1 .1 .out) (at-start .pre .1 .1 .0 .0) _ _ _ (at-take-event .take-event .ensures) _
+    (at-reached .reached .given .1) in (
+      (
+        s .small,
+        at-pick-up .pick-up .kept .1 .1 .0 ∙ s .set-words,
+        at-pick-up .pick-up .kept .1 .1 .1 .0 ∙ s .start-places,
+        at-pick-up .pick-up .kept .1 .1 .1 .1 .0 ∙
+            s .next-bytes,
+      ),
+      (
+        omega (arith, u .0, at-pick-up .pick-up .kept .1 .1 .1 .1 .1 .1 .0),
+        omega (
+          arith,
+          u .1,
+          at-pick-up .pick-up .kept .1 .1 .1 .1 .1 .1 .1 .0,
+        ),
+      ),
+    )
 
 enum-known-j : tie.Need-enum-known-j
 enum-known-j c = search needs
@@ -71,8 +104,8 @@ link-requires c κs =
     (at-start .pre .1 .1 .0 .0) _ _ _ (at-take-event .take-event .ensures) _ (at-reached .reached .given .1)
     (at-start .pre .1 .0 .0) _ _ _ _ _ _ (at-pick-up .pick-up .ensures) _ _ (at-j .j .given .1)
 
-add-t49 : tie.Need-add-t49
-add-t49 c =
+add-t59 : tie.Need-add-t59
+add-t59 c =
     let at-area12 = c .before .before .before .before .before .before .before .before in
     let at-sets = at-area12 .before .before .before .before .before .before .before .before in
     let at-reached = at-sets .before .before .before .before .before .before .before .before in
@@ -97,9 +130,8 @@ returns c =
     let at-slice-known4 = at-take-event .before .before .before .before .before .before .before .before in
     let at-start = at-slice-known4 .before .before .before .before .before .before in
     record {
-      from = λ m i h. ended-refused _ _ _ _ _ _ _ _ (out-reached (regular _ (indexed-rules
-          (at-start .pre .0))) h) (at-start .pre .1 .1 .0 .0) _ _ _ (at-take-event .take-event .ensures) _
-          (at-number .number .given .1);
+      from = λ m i h. ended-refused _ _ _ _ _ _ _ _ (out-reached (regular _ (indexed-rules (at-start .pre .0)))
+          h) (at-start .pre .1 .1 .0 .0) _ _ _ (at-take-event .take-event .ensures) _ (at-number .number .given .1);
     }
 
 same-length-4 : tie.Need-same-length-4
@@ -112,31 +144,57 @@ same-length-6 : tie.Need-same-length-6
 same-length-6 c = search needs
 
 same-length-7 : tie.Need-same-length-7
-same-length-7 c = search needs
+same-length-7 c =
+    let at-slice-known15 = c .before .before .before .before .before .before .before .before in
+    let at-begin-again = at-slice-known15 .before .before in
+    let at-slice-known14 = at-begin-again .before .before .before .before .before .before .before .before in
+    let at-slice-known10 = at-slice-known14 .before .before .before .before .before .before .before .before in
+    let at-pick-up = at-slice-known10 .before .before in
+    let at-match = at-pick-up .before .before .before .before .before .before .before .before in
+    let at-take-event = at-match .before .before .before .before .before .before .before in
+    at-begin-again .begin-again .kept .1 .1 .1 .1 .1 .0 ∙ at-pick-up .pick-up .kept .1 .1 .1 .1 .1 .1 .0 ∙
+    at-take-event .take-event .kept .1 .1 .1 .1 .0
 
 same-length-8 : tie.Need-same-length-8
-same-length-8 c = search needs
+same-length-8 c =
+    let at-slice-known15 = c .before .before .before .before .before .before .before .before in
+    let at-begin-again = at-slice-known15 .before .before in
+    let at-slice-known14 = at-begin-again .before .before .before .before .before .before .before .before in
+    let at-slice-known10 = at-slice-known14 .before .before .before .before .before .before .before .before in
+    let at-pick-up = at-slice-known10 .before .before in
+    let at-match = at-pick-up .before .before .before .before .before .before .before .before in
+    let at-take-event = at-match .before .before .before .before .before .before .before in
+    at-begin-again .begin-again .kept .1 .1 .1 .1 .1 .1 .0 ∙ at-pick-up .pick-up .kept .1 .1 .1 .1 .1 .1 .1 .0 ∙
+    at-take-event .take-event .kept .1 .1 .1 .1 .1 .0
 
 same-length-9 : tie.Need-same-length-9
-same-length-9 c = search needs
+same-length-9 c =
+    let at-slice-known15 = c .before .before .before .before .before .before .before .before in
+    let at-enum-told = at-slice-known15 .before .before .before .before .before .before .before .before in
+    let at-slice-known11 = at-enum-told .before .before .before .before .before .before .before .before in
+    let at-pick-up-arg2 = at-slice-known11 .before .before .before .before .before .before .before .before in
+    let at-area1 = at-pick-up-arg2 .before .before .before .before .before .before .before .before in
+    let at-take-event = at-area1 .before .before .before in
+    at-take-event .take-event .kept .1 .1 .1 .1 .1 .1 .0
 
 returns-2 : tie.Need-returns-2
 returns-2 c =
-    let at-slice-known11 = c .before .before .before .before .before .before .before .before in
+    let at-slice-known15 = c .before .before .before .before .before .before .before .before in
+    let at-begin-again = at-slice-known15 .before .before in
+    let at-enum-told = at-begin-again .before .before .before .before .before .before in
+    let at-slice-known11 = at-enum-told .before .before .before .before .before .before .before .before in
     let at-pick-up = at-slice-known11 .before .before .before .before in
     let at-reached = at-pick-up .before .before .before .before .before .before .before in
     let at-take-event = at-reached .before .before .before .before .before .before .before .before in
     let at-slice-known4 = at-take-event .before .before .before .before .before .before .before .before in
     let at-start = at-slice-known4 .before .before .before .before .before .before in
     record {
-      from = λ m i h. let l = at-start .pre .1 .1 .0 .0 in (
-        learn-full (regular _ (indexed-rules
-            (at-start .pre .0))) h (at-start .pre .1 .1 .0 .0) _ _ _ (at-take-event .take-event .ensures) _
-            (at-reached .reached .given .1) (at-start .pre .1 .0 .0) _ _ _ _ _ _ (at-pick-up .pick-up .ensures)
-            (c .enum-told .given .1),
-        omega arith,
-        omega (arith, l),
-      );
+      from = λ m i h. let l = at-start .pre .1 .1 .0 .0 in at-begin-again .begin-again .ensures .from _
+          (regular _ (indexed-rules (at-start .pre .0))) (at-start .pre .1 .0 .0) m _ i _ (omega arith)
+          (omega (arith, l))
+          (learn-full (regular _ (indexed-rules (at-start .pre .0))) h (at-start .pre .1 .1 .0 .0) _ _ _
+          (at-take-event .take-event .ensures) _ (at-reached .reached .given .1) (at-start .pre .1 .0 .0) _ _ _ _ _ _
+          (at-pick-up .pick-up .ensures) (at-enum-told .enum-told .given .1));
     }
 
 same-length-10 : tie.Need-same-length-10
@@ -168,7 +226,7 @@ returns-3 c =
     let at-slice-known4 = at-take-event .before .before .before .before .before .before .before .before in
     let at-start = at-slice-known4 .before .before .before .before .before .before in
     record {
-      from = λ m i h. let l = at-start .pre .1 .1 .0 .0 in (
+      from = λ m i h. let l = (at-start .pre .1 .1 .0 .0) in (
         learn-kept (regular _ (indexed-rules
             (at-start .pre .0))) h (at-start .pre .1 .1 .0 .0) _ _ _ (at-take-event .take-event .ensures) _
             (at-reached .reached .given .1) (at-start .pre .1 .0 .0) _ _ _ _ _ _ (at-pick-up .pick-up .ensures) _ _
@@ -188,10 +246,11 @@ learn-spec =
     enum-known-reached
     pick-up-requires
     enum-told
-    add-t45
+    add-begin-again
+    begin-again-requires
     enum-known-j
     link-requires
-    add-t49
+    add-t59
     same-length
     same-length-2
     same-length-3

@@ -14,7 +14,7 @@ follow-requires c κs =
     let at-start = at-slice-known .before .before .before in (
       going-within (regular _ (indexed-rules (at-start .pre .0))) (at-start .pre .1 .1 .1 .going)
           (at-start .pre .1 .0 .0),
-      (at-start .pre .1 .1 .0 .0, omega arith),
+      (at-start .pre .1 .1 .0 .1, omega arith),
     )
 
 lay-out-requires : tie.Need-lay-out-requires
@@ -59,27 +59,16 @@ returns c =
       );
     }
 
-learn-requires : tie.Need-learn-requires
-learn-requires c κs =
-    let at-if1 = c .before .before .before .before .before .before in
-    let at-lay-out = at-if1 .before .before .before .before .before in
-    let at-follow = at-lay-out .before .before .before .before .before .before in
+sub-since : tie.Need-sub-since
+sub-since c =
+    let at-lay-out-arg2 = c .before .before .before .before .before .before .before .before in
+    let at-follow = at-lay-out-arg2 .before .before .before in
     let at-slice-known2 = at-follow .before .before .before .before .before .before .before .before in
-    let at-start = at-slice-known2 .before .before .before .before in (
-      at-start .pre .0,
-      (
-        (at-start .pre .1 .0 .0, at-start .pre .1 .0 .1),
-        (
-          (at-if1 .if1 .left, at-start .pre .1 .1 .0 .1),
-          record {
-            m = at-start .pre .1 .1 .1 .m;
-            i = at-start .pre .1 .1 .1 .i;
-            out = going-out (regular _ (indexed-rules (at-start .pre .0))) (at-start .pre .1 .1 .1 .going)
-                (at-start .pre .1 .0 .0) (at-follow .follow .ensures) _ _ (at-lay-out .lay-out .ensures);
-          },
-        ),
-      ),
-    )
+    let at-start = at-slice-known2 .before .before .before .before in
+    omega (arith, at-start .pre .1 .1 .0 .0, at-follow .follow .ensures .onward)
+
+may-learn-requires : tie.Need-may-learn-requires
+may-learn-requires c κs = search needs
 
 same-length-6 : tie.Need-same-length-6
 same-length-6 c = search needs
@@ -96,15 +85,76 @@ same-length-9 c = search needs
 same-length-10 : tie.Need-same-length-10
 same-length-10 c = search needs
 
+returns-2 : tie.Need-returns-2
+returns-2 c =
+    let at-lay-out = c .before .before .before .before .before .before .before in
+    let at-follow = at-lay-out .before .before .before .before .before .before in
+    let at-slice-known2 = at-follow .before .before .before .before .before .before .before .before in
+    let at-start = at-slice-known2 .before .before .before .before in
+    record {
+      from = λ m i h. (
+        out-reached (regular _ (indexed-rules (at-start .pre .0))) (going-out (regular _
+            (indexed-rules (at-start .pre .0))) h (at-start .pre .1 .0 .0) (at-follow .follow .ensures) _ _
+            (at-lay-out .lay-out .ensures)),
+        at-follow .follow .ensures .onward,
+        at-follow .follow .ensures .within,
+      );
+    }
+
+has-paid-requires : tie.Need-has-paid-requires
+has-paid-requires c κs = search needs
+
+learn-requires : tie.Need-learn-requires
+learn-requires c κs =
+    let at-may-learn = c .before .before .before .before .before .before .before .before in
+    let at-if1 = at-may-learn .before in
+    let at-lay-out = at-if1 .before .before .before .before .before in
+    let at-follow = at-lay-out .before .before .before .before .before .before in
+    let at-slice-known2 = at-follow .before .before .before .before .before .before .before .before in
+    let at-start = at-slice-known2 .before .before .before .before in (
+      at-start .pre .0,
+      (
+        (at-start .pre .1 .0 .0, at-start .pre .1 .0 .1),
+        (
+          (
+            at-if1 .if1 .left,
+            at-start .pre .1 .1 .0 .2,
+          ),
+          record {
+            m = at-start .pre .1 .1 .1 .m;
+            i = at-start .pre .1 .1 .1 .i;
+            out = going-out
+                (regular _ (indexed-rules (at-start .pre .0))) (at-start .pre .1 .1 .1 .going) (at-start .pre .1 .0 .0)
+                (at-follow .follow .ensures) _ _ (at-lay-out .lay-out .ensures);
+          },
+        ),
+      ),
+    )
+
 same-length-11 : tie.Need-same-length-11
 same-length-11 c = search needs
 
-returns-2 : tie.Need-returns-2
-returns-2 c =
+same-length-12 : tie.Need-same-length-12
+same-length-12 c = search needs
+
+same-length-13 : tie.Need-same-length-13
+same-length-13 c = search needs
+
+same-length-14 : tie.Need-same-length-14
+same-length-14 c = search needs
+
+same-length-15 : tie.Need-same-length-15
+same-length-15 c = search needs
+
+same-length-16 : tie.Need-same-length-16
+same-length-16 c = search needs
+
+returns-3 : tie.Need-returns-3
+returns-3 c =
     let at-slice-known10 = c .before .before .before .before .before .before .before .before in
     let at-learn = at-slice-known10 .before .before .before .before in
-    let at-slice-known8 = at-learn .before .before .before .before .before .before .before .before in
-    let at-lay-out = at-slice-known8 .before .before .before .before in
+    let at-if2 = at-learn .before .before .before .before .before .before .before .before in
+    let at-lay-out = at-if2 .before .before .before .before .before .before .before in
     let at-follow = at-lay-out .before .before .before .before .before .before in
     let at-slice-known2 = at-follow .before .before .before .before .before .before .before .before in
     let at-start = at-slice-known2 .before .before .before .before in
@@ -123,11 +173,20 @@ take-turn-spec =
     same-length-4
     same-length-5
     returns
-    learn-requires
+    sub-since
+    may-learn-requires
     same-length-6
     same-length-7
     same-length-8
     same-length-9
     same-length-10
+    returns-2
+    has-paid-requires
+    learn-requires
     same-length-11
-    returns-2)
+    same-length-12
+    same-length-13
+    same-length-14
+    same-length-15
+    same-length-16
+    returns-3)

@@ -10,14 +10,11 @@ use Rattle.met_sets.proofs.sets.has_room.Tie as tie
 returns : tie.Need-returns
 returns c = λ h. absurd (let z : _≡_ {A = ℕ} 0 1 = cc in omega arith)
 
+sub-if2 : tie.Need-sub-if2
+sub-if2 c = search needs
+
 returns-2 : tie.Need-returns-2
 returns-2 c = λ h. absurd (let z : _≡_ {A = ℕ} 0 1 = cc in omega arith)
-
-sub-if3 : tie.Need-sub-if3
-sub-if3 c = search needs
-
-returns-3 : tie.Need-returns-3
-returns-3 c = λ h. absurd (let z : _≡_ {A = ℕ} 0 1 = cc in omega arith)
 
 mul-result : tie.Need-mul-result
 mul-result c = search needs
@@ -25,11 +22,11 @@ mul-result c = search needs
 sub-result : tie.Need-sub-result
 sub-result c = search needs
 
-returns-4 : tie.Need-returns-4
-returns-4 c =
-    let a = c .before .before .before .args in
+returns-3 : tie.Need-returns-3
+returns-3 c =
+    let a = c .before .before .args in
     λ h. (omega arith, omega arith, omega (arith, leb-true (a .alphabet) (2560 - a .k * a .alphabet) h))
 
 pub has-room-spec : {M : Type 1} → statement M
 has-room-spec =
-    tie.close (tie.spec returns returns-2 sub-if3 returns-3 mul-result sub-result returns-4)
+    tie.close (tie.spec returns sub-if2 returns-2 mul-result sub-result returns-3)
