@@ -44,30 +44,38 @@ module _ (l : List ℕ) (n : ℕ) (room : n + 16 ≤ length l) where
         )))
 
 -- the words from p on, with a gap before their first, put back
-pub gap-part : (l ys : List ℕ) (p n : ℕ) → p ≤ n → n + 16 ≤ length l
-    → ys ≡ gapped (take (length l - p) (drop p l)) 0 (n - p)
-    → take p l ++ (ys ++ drop (length l - p) (drop p l)) ≡ gapped l p n
-unfolding gapped
-gap-part l ys p n h room e =
-    let most : length (drop p l) ≤ length l - p = omega (arith, length-drop p l) in
-    let whole : take (length l - p) (drop p l) ≡ drop p l = take-all _ _ most in
-    let none : drop (length l - p) (drop p l) ≡ [] = drop-of-length-le _ most in
-    let till : p + (n - p) ≡ n = omega arith in
-    let after : p + (n - p + 16) ≡ n + 16 = omega arith in
-    let moved : slice p n l ≡ take (n - p) (drop p l) =
-    ap (λ (k : ℕ). slice p k l) (sym till)
-    ∙ ap (drop p) (take-add p (n - p) l)
-    ∙ drop-at (take p l) (take (n - p) (drop p l)) p (length-take-le p l (omega arith)) in
-    let rest : drop (n - p + 16) (drop p l) ≡ drop (n + 16) l =
-    drop-drop (n - p + 16) p l ∙ ap (λ (k : ℕ). drop k l) after in
-    let part : ys ≡ take 16 (drop p l) ++ (take (n - p) (drop p l) ++ drop (n - p + 16) (drop p l)) =
-    rw whole at e in
-    ap (λ (z : List ℕ). take p l ++ (ys ++ z)) none
-    ∙ ap (λ (z : List ℕ). take p l ++ z) (append-nil ys ∙ part)
-    ∙ sym (append-assoc (take p l) (take 16 (drop p l)) (take (n - p) (drop p l) ++ drop (n - p + 16) (drop p l)))
-    ∙ ap (λ (z : List ℕ). z ++ (take (n - p) (drop p l) ++ drop (n - p + 16) (drop p l))) (sym (take-add p 16 l))
-    ∙ ap (λ (z : List ℕ). take (p + 16) l ++ (take (n - p) (drop p l) ++ z)) rest
-    ∙ ap (λ (z : List ℕ). take (p + 16) l ++ (z ++ drop (n + 16) l)) (sym moved)
+module _ (l : List ℕ) (p n : ℕ) (h : p ≤ n) (room : n + 16 ≤ length l) where
+  moved : take (n - p) (drop p l) ≡ slice p n l
+  moved =
+      let till : p + (n - p) ≡ n = omega arith in
+      sym
+      (ap (λ (k : ℕ). slice p k l) (sym till)
+      ∙ ap (drop p) (take-add p (n - p) l)
+      ∙ drop-at (take p l) (take (n - p) (drop p l)) p (length-take-le p l (omega arith)))
+
+  rest : drop (n - p + 16) (drop p l) ≡ drop (n + 16) l
+  rest =
+      let till : p + (n - p + 16) ≡ n + 16 = omega arith in
+      drop-drop (n - p + 16) p l ∙ ap (λ (k : ℕ). drop k l) till
+
+  in-part : take p l ++ gapped (drop p l) 0 (n - p) ≡ gapped l p n
+  unfolding gapped
+  in-part =
+      sym (append-assoc (take p l) (take 16 (drop p l)) (take (n - p) (drop p l) ++ drop (n - p + 16) (drop p l)))
+      ∙ ap (λ (z : List ℕ). z ++ (take (n - p) (drop p l) ++ drop (n - p + 16) (drop p l))) (sym (take-add p 16 l))
+      ∙ ap (λ (z : List ℕ). take (p + 16) l ++ (take (n - p) (drop p l) ++ z)) rest
+      ∙ ap (λ (z : List ℕ). take (p + 16) l ++ (z ++ drop (n + 16) l)) moved
+
+  pub gap-part : (ys : List ℕ) → ys ≡ gapped (take (length l - p) (drop p l)) 0 (n - p)
+      → take p l ++ (ys ++ drop (length l - p) (drop p l)) ≡ gapped l p n
+  gap-part ys e =
+      let most : length (drop p l) ≤ length l - p = omega (arith, length-drop p l) in
+      let whole : take (length l - p) (drop p l) ≡ drop p l = take-all _ _ most in
+      let none : drop (length l - p) (drop p l) ≡ [] = drop-of-length-le _ most in
+      let part : ys ≡ gapped (drop p l) 0 (n - p) = rw whole at e in
+      ap (λ (z : List ℕ). take p l ++ (ys ++ z)) none
+      ∙ ap (λ (z : List ℕ). take p l ++ z) (append-nil ys ∙ part)
+      ∙ in-part
 
 pub stored-none : (l : List ℕ) (p : ℕ) (s : List ℕ) (n : ℕ) → n ≡ 0 → l ≡ stored l p s n
 unfolding stored

@@ -31,7 +31,7 @@ same-length : tie.Need-same-length
 same-length c = search needs
 
 returns : tie.Need-returns
-returns c = gap-part _ _ _ _ (omega arith) (omega arith) (c .before .before .move-up .ensures)
+returns c = gap-part _ _ _ (omega arith) (omega arith) _ (c .before .before .move-up .ensures)
 
 pub open-gap-spec : {M : Type 1} → statement M
 open-gap-spec =
