@@ -2,4 +2,5 @@
 // The definitions are in `specs/`; `specs/Lib.antt` lists them in reading order.
 mod nodes;
 
+pub use nodes::is_pair;
 pub use nodes::walk;

@@ -23,7 +23,7 @@ ghost use Rattle.tree_walk.specs.Course.{nodeCount, Ready, Place, walked
 
 // Whether a node is a pair, by the kind of its term. A residual's other nodes are STOP and
 // prefixes.
-fn is_pair(list: &[u16], work: &[u64], w: u64) -> bool
+pub fn is_pair(list: &[u16], work: &[u64], w: u64) -> bool
     requires { ⌜ Indexed (now list) (now work) ⌝ }
     requires { ⌜ termOfWord w < termCount (tableIn (now list)) ⌝ }
     ensures { λ r. ⌜ r ≡ eqb (kindAt (tableIn (now (list .entry))) w) 4 ⌝ }
