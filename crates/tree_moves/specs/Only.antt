@@ -6,13 +6,11 @@
 --     moved                         the words of the results that moves say
 --     Active, Single                a leaf that takes the event; one that then has one result
 --     Movable, Marked               the marked leaves are such
---     ShortTree, Only               what `only_at` asks and says
---     Rooted, WayIn                 what `way_of` asks and says
+--     ShortTree, Rooted, WayIn      what `way_of` asks and says
 --     Carries, Rest, Rebuilds       what `carry` and `rebuild` ask
 -- The laws are in `Only/Marks.antt` (marks and the words rebuilt), `Only/Moved.antt` (the words of several results),
--- `Only/Laws.antt` and `Only/Pair.antt` (the residuals after the event), `Only/Ways.antt` and `Only/Turns.antt` (the
--- functions of `only.rt`), `Only/Following.antt` and `Only/Rebuilding.antt` (those of `rebuilding.rt`). Assumes
--- nothing.
+-- `Only/Laws.antt` and `Only/Pair.antt` (the residuals after the event), `Only/Following.antt` and
+-- `Only/Rebuilding.antt` (the functions of `rebuilding.rt`). Those of `only.rt` are in `Code.antt`. Assumes nothing.
 use Prim.Native.Nat.{ℕ, zero, suc, _+_, _*_, _/_, _%_, _<_, _≤_, _^_}
 use mathlib.Core.Path.{_≡_}
 use mathlib.Core.Bool.{Bool, true, false}
@@ -25,7 +23,6 @@ use Rattle.table.specs.Node.{termOf}
 use Rattle.tree_moves.specs.declared.only.Moves.{Moves}
 use Rattle.tree_moves.specs.declared.only.Way.{Way}
 use Rattle.tree_moves.specs.declared.only.Way.the-variants.{Still, Moving, Many}
-use Rattle.tree_moves.specs.declared.only.WayAt.{WayAt}
 use Rattle.node_word.specs.Word.{pack, termOfWord}
 use Rattle.residuals.specs.Residual.{Residual, leaf, pair}
 use Rattle.residuals.specs.Slots.{nodes}
@@ -39,8 +36,6 @@ pub mod Marks
 pub mod Moved
 pub mod Laws
 pub mod Pair
-pub mod Ways
-pub mod Turns
 pub mod Following
 pub mod Rebuilding
 
@@ -114,10 +109,6 @@ pairWay Many Still false n = Many
 pairWay Many (Moving b) h n = Many
 pairWay Many Many h n = Many
 
--- the bits of a pair fit a word
-abbrev pub PairFits : Moves → Moves → ℕ → Type 0
-PairFits a b n = (a .each + a .also) * 2 + (b .each + b .also) * 2 ^ n < 18446744073709551616
-
 unfoldable pub wayOf : Table → ℕ → Residual → Way
 wayOf t e (leaf n m) = leafWay t e (pack n m)
 wayOf t e (pair n m l r) =
@@ -176,10 +167,6 @@ Marked t e (w ∷ ws) marks = ((marks % 2 ≡ 0 → ⊥) → Single t e w) × Ma
 pub record ShortTree (t : Table) (area : List ℕ) (k : ℕ) : Type 0 where
   pub at : TreeAt t area k
   pub few : length (nodes (at .tree)) ≤ 15
-
-pub record Only (t : Table) (e : ℕ) (area : List ℕ) (k : ℕ) (c : WayAt) : Type 0 where
-  pub of : (r : Residual) (ws : List ℕ) → drop k area ≡ nodes r ++ ws → Valid t r → (c .way ≡ wayOf t e r)
-      × (c .next ≡ k + length (nodes r))
 
 pub record Rooted (t : Table) (area : List ℕ) (k n : ℕ) : Type 0 where
   pub short : ShortTree t area k

@@ -1,7 +1,7 @@
 -- Marks, and the node words rebuilt by them.
 --     grown-kept, grown-moved                     one word
 --     rebuilt-none, rebuilt-append, marked-.., movable-..     the words of two trees; where nothing is marked
---     marks-small, marks-fit                      a residual's marks, and those of a pair, fit a word
+--     combined, marks-small                       a pair's marks, from those of its sides; a residual's marks
 -- Assumes nothing.
 use Prim.Native.Nat.{ℕ, zero, suc, _+_, _*_, _/_, _%_, _<_, _≤_, _^_}
 use native.Mathlib.Omega.{arith}
@@ -12,7 +12,7 @@ use mathlib.Core.Bool.{Bool, true, false}
 use mathlib.Core.List.{List, [], _∷_, _++_, append-assoc}
 use lib.ListN.{length, length-append}
 use lib.Dec.{eqb}
-use lib.Pow.{pow-add, pow-mono, pow-pos}
+use lib.Pow.{pow-add, pow-pos}
 use borrow.Author.Tests.{eq-eqb, ne-eqb}
 use Rattle.table.specs.Table.{Table}
 use Rattle.table.specs.Branches.{branches}
@@ -94,7 +94,7 @@ module _ (t : Table) (e : ℕ) where
 pub bits-sum : (x u y v n : ℕ) → bitsOf x y n + bitsOf u v n ≡ bitsOf (x + u) (y + v) n
 bits-sum x u y v n = omega (arith, add-mul y v (2 ^ n))
 
-combined : (a b p q : ℕ) → a < 2 ^ p → b < 2 ^ q → a * 2 + b * 2 ^ (p + 1) < 2 ^ suc (p + q)
+pub combined : (a b p q : ℕ) → a < 2 ^ p → b < 2 ^ q → a * 2 + b * 2 ^ (p + 1) < 2 ^ suc (p + q)
 combined a b p q h k =
     let x : b * 2 ^ (p + 1) ≡ b * 2 ^ p * 2 = rw (add-one p, pow-suc 2 p) (sym (mul-assoc b (2 ^ p) 2)) in
     let y : 2 ^ suc (p + q) ≡ 2 ^ q * 2 ^ p * 2 = rw (pow-suc 2 (p + q), pow-add 2 p q, mul-comm (2 ^ p) (2 ^ q)) in
@@ -157,10 +157,3 @@ marks-small t e (pair n m l r) =
     rw (length-append (nodes l) (nodes r))
     (ways-small (wayOf t e l) (wayOf t e r) (holdsAt t e (pack n m)) (length (nodes l)) (length (nodes r))
     (marks-small t e l) (marks-small t e r))
-
--- the marks of a pair fit a word
-pub marks-fit : (t : Table) (e : ℕ) (l r : Residual) → suc (length (nodes l) + length (nodes r)) ≤ 15
-    → marksOf (wayOf t e l) * 2 + marksOf (wayOf t e r) * 2 ^ (length (nodes l) + 1) < 18446744073709551616
-marks-fit t e l r h =
-    let z = combined _ _ (length (nodes l)) (length (nodes r)) (marks-small t e l) (marks-small t e r) in
-    omega (arith, z, pow-mono h)
