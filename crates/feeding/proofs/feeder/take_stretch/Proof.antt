@@ -1,4 +1,5 @@
 -- `feeding::feeder::take_stretch` meets its contract: a run from where another one left. Assumes nothing.
+use native.Mathlib.Omega.{arith}
 use mathlib.Core.Path.{_∙_}
 use Rattle.feeding.specs.Runs.{RunBy}
 use Rattle.feeding.proofs.run.Turn.{run-ended, run-left, run-then}
@@ -41,7 +42,7 @@ take-part-requires c κs =
       (
         g .0 .standing,
         (
-          (g .2, at-start .pre .1 .1 .1 .0 .1),
+          (omega (arith, g .2, at-start .pre .1 .1 .1 .0 .0), at-start .pre .1 .1 .1 .0 .1),
           at-take-kept .take-kept .kept .1 .1 .1 .1 .1 .1 .1 .1 .1 .1 .0 ∙ at-start .pre .1 .1 .1 .1,
         ),
       ),
