@@ -2,7 +2,7 @@
 --     saidLine     the line
 --     Spoken       the promise of `say`: of its answer
 --     TextStands   and of its buffer: the text of a line stands there, from its first byte on
---     shown        a buffer that has room shows the text of a line
+--     text-put     a buffer that has room has the text of a line
 -- Assumes nothing.
 use Prim.Native.Nat.{ℕ, _≤_}
 use mathlib.Core.Path.{_≡_}
@@ -10,7 +10,7 @@ use mathlib.Core.List.{List}
 use lib.ListN.{length, take}
 use Rattle.io.specs.Counts.{Counts}
 use Rattle.trace_text.specs.TraceText.{traceTextOf}
-use Rattle.trace_text.specs.Put.{Shows}
+use Rattle.trace_text.specs.Put.{PutsText}
 use Rattle.trace_spec.specs.TraceLine.{TraceLine}
 use Rattle.trace.specs.declared.answer.TraceLine as code
 use Rattle.trace.specs.Answers.{traceLineSaid}
@@ -30,6 +30,6 @@ pub record TextStands (x : TraceLine) (out : List ℕ) : Type 0 where
   pub within : count ≤ length out
   pub text : take count out ≡ traceTextOf x
 
-pub shown : (out : List ℕ) (r : ℕ) (text : List ℕ) → Shows out r text → 2816 ≤ length out
+pub text-put : (out : List ℕ) (r : ℕ) (text : List ℕ) → PutsText out r text → 2816 ≤ length out
     → (take r out ≡ text) × Counts r out
-shown out r text h room = (h .bytes room, h .counts)
+text-put out r text h room = (h .bytes room, h .counts)

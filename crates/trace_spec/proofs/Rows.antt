@@ -46,7 +46,8 @@ use Rattle.line_spec.specs.Claims.{drawn}
 use Rattle.trace_spec.specs.TraceLine.{eventsFrom, eventsIn}
 use Rattle.trace_spec.specs.Trace.{beginOpen, beginList, beginTable, beginHead, beginningOf, permittedBy}
 use Rattle.trace_spec.specs.Trace.{eventLines, startLine, traceFrom, traceOf}
-use Rattle.trace_spec.specs.Reads.{readLines, reachedIn, reachedAt, afterRead, reachedFrom, reachedBy, readsFrom}
+use Rattle.trace_spec.specs.Reads.{readLines, reachedIn, reachedAt, reachedAfter, reachedFrom, reachedBy}
+use Rattle.trace_spec.specs.Reads.{readsFrom}
 use Rattle.trace_spec.specs.Reads.{readsOf}
 use Rattle.trace_spec.specs.Claims.{Rows}
 
@@ -67,5 +68,5 @@ unfolding flatMap size sizes bodyOf bodyNumber termIn termOfDefs termAt prefixes
     openOf carry later scanWith readNumber byteToken byteTokensWith byteTokens judgeBytes cut headBy headOf fresh
     monitorLeft drawn bitOf bitsFrom wordBits wordFrom allBits offerBits eventsFrom eventsIn beginOpen beginList
     beginTable beginHead beginningOf permittedBy eventLines startLine traceFrom traceOf readLines reachedIn reachedAt
-    afterRead reachedFrom reachedBy readsFrom readsOf Rows
+    reachedAfter reachedFrom reachedBy readsFrom readsOf Rows
 rows = (refl, refl, refl, refl, refl, refl, refl, refl, refl, refl, refl)

@@ -1,6 +1,6 @@
 -- The lines of an input that comes in reads (ours): what has arrived is judged at once.
---     Reached                   where a trace stands: a monitor on a table, or its end
---     readLines, afterRead      the lines of a read; where it stands after it
+--     Configuration             where a trace stands: a monitor on a table, or its end
+--     readLines, reachedAfter   the lines of a read; where it stands after it
 --     reachedBy                 where the trace of an input stands, with all the events that it has
 --     readsOf                   the lines of an input, and then of each read after it
 --     Decided                   an input whose head is the same, whatever follows
@@ -20,36 +20,36 @@ use Rattle.trace_spec.specs.Trace.{Beginning, begins, declines, beginnin
 pub mod Laws
 
 -- "A refusal is its last line"
-pub data Reached : Type 0 where
-  at : Table → Monitor → Reached
-  ended : Reached
+pub data Configuration : Type 0 where
+  at : Table → Monitor → Configuration
+  ended : Configuration
 
-unfoldable pub readLines : Reached → List ℕ → List TraceLine
+unfoldable pub readLines : Configuration → List ℕ → List TraceLine
 readLines (at t m) es = eventLines t m es
 readLines ended es = []
 
 -- where a fold of events ended
-unfoldable pub reachedIn : Table → Monitor → Option ℕ → Reached
+unfoldable pub reachedIn : Table → Monitor → Option ℕ → Configuration
 reachedIn t m none = at t m
 reachedIn t m (some n) = ended
 
-unfoldable pub reachedAt : Table → Ended Monitor → Reached
+unfoldable pub reachedAt : Table → Ended Monitor → Configuration
 reachedAt t x = reachedIn t (x .at) (x .why)
 
-unfoldable pub afterRead : Reached → List ℕ → Reached
-afterRead (at t m) es = reachedAt t (through (takeEvent t) m 0 es)
-afterRead ended es = ended
+unfoldable pub reachedAfter : Configuration → List ℕ → Configuration
+reachedAfter (at t m) es = reachedAt t (through (takeEvent t) m 0 es)
+reachedAfter ended es = ended
 
-unfoldable pub reachedFrom : Beginning → Reached
-reachedFrom (begins ns t m es) = afterRead (at t m) es
+unfoldable pub reachedFrom : Beginning → Configuration
+reachedFrom (begins ns t m es) = reachedAfter (at t m) es
 reachedFrom (declines n p) = ended
 
-unfoldable pub reachedBy : List ℕ → Reached
+unfoldable pub reachedBy : List ℕ → Configuration
 reachedBy s = reachedFrom (beginningOf s)
 
-unfoldable pub readsFrom : Reached → List (List ℕ) → List TraceLine
+unfoldable pub readsFrom : Configuration → List (List ℕ) → List TraceLine
 readsFrom c [] = []
-readsFrom c (es ∷ ess) = readLines c es ++ readsFrom (afterRead c es) ess
+readsFrom c (es ∷ ess) = readLines c es ++ readsFrom (reachedAfter c es) ess
 
 -- the front, and the reads after it
 unfoldable pub readsOf : List ℕ → List (List ℕ) → List TraceLine

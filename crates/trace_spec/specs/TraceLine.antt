@@ -1,7 +1,7 @@
 -- One line of a trace (ours; docs/DECISIONS.md, "A trace has a line for each event"): "the event, events taken, verdict
 -- with its place, residuals, peak, and the events permitted next"; "A refusal is its last line".
 --     TraceLine                a line, as a value; its text is made of this and of nothing else
---     Shows, TakesEvent        a line with this record and these words; a line after this event
+--     Reports, TakesEvent      a line with this record and these words; a line after this event
 --     OneFor, LineAt           a line for each event of a list; the line at a place, with a record and words
 --     eventsFrom, eventsIn     the events of a word; of Offer's two words, ascending
 -- The laws are in `TraceLine/Laws.antt`. Assumes nothing.
@@ -25,10 +25,10 @@ pub data TraceLine : Type 0 where
   -- a refusal: number and place
   refuses : ℕ → ℕ → TraceLine
 
-abbrev pub Shows : TraceLine → State → EventBits → Type 0
-Shows (starts s bits) st permitted = (s ≡ st) × (bits ≡ permitted)
-Shows (takes e s bits) st permitted = (s ≡ st) × (bits ≡ permitted)
-Shows (refuses n p) st permitted = ⊥
+abbrev pub Reports : TraceLine → State → EventBits → Type 0
+Reports (starts s bits) st permitted = (s ≡ st) × (bits ≡ permitted)
+Reports (takes e s bits) st permitted = (s ≡ st) × (bits ≡ permitted)
+Reports (refuses n p) st permitted = ⊥
 
 abbrev pub TakesEvent : ℕ → TraceLine → Type 0
 TakesEvent e (starts s bits) = ⊥
@@ -49,7 +49,7 @@ pub record LineAt (xs : List TraceLine) (k : ℕ) (st : State) (permitted : Even
   pub after : List TraceLine
   pub split : xs ≡ before ++ line ∷ after
   pub place : length before ≡ k
-  pub shows : Shows line st permitted
+  pub reports : Reports line st permitted
 
 -- ---- the events of two words
 

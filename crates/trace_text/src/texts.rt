@@ -4,7 +4,7 @@ ghost use Rattle.state.specs.Record.{stateOf};
 ghost use Rattle.state.specs.Answers.{bitsOf};
 ghost use Rattle.trace_spec.specs.TraceLine.{starts, takes, refuses};
 ghost use Rattle.trace_text.specs.TraceText.{traceTextOf};
-ghost use Rattle.trace_text.specs.Put.{Shows};
+ghost use Rattle.trace_text.specs.Put.{PutsText};
 use crate::parts::put;
 use crate::parts::put_number;
 use crate::parts::put_rest;
@@ -17,7 +17,7 @@ const ROOM: usize = 2816;
 // Before any event.
 pub fn start_text(state: State, permitted: EventBits, out: &mut [u8]) -> usize
     ensures { λ r.
-        ⌜ Shows (now (out .exit)) r (traceTextOf (starts (stateOf state) (bitsOf permitted))) ⌝ }
+        ⌜ PutsText (now (out .exit)) r (traceTextOf (starts (stateOf state) (bitsOf permitted))) ⌝ }
 {
     if out.len() < ROOM {
         return 0;
@@ -29,7 +29,8 @@ pub fn start_text(state: State, permitted: EventBits, out: &mut [u8]) -> usize
 // After an event.
 pub fn event_text(e: u8, state: State, permitted: EventBits, out: &mut [u8]) -> usize
     ensures { λ r.
-        ⌜ Shows (now (out .exit)) r (traceTextOf (takes e (stateOf state) (bitsOf permitted))) ⌝ }
+        ⌜ PutsText (now (out .exit)) r
+        (traceTextOf (takes e (stateOf state) (bitsOf permitted))) ⌝ }
 {
     if out.len() < ROOM {
         return 0;
@@ -41,7 +42,7 @@ pub fn event_text(e: u8, state: State, permitted: EventBits, out: &mut [u8]) -> 
 
 // A refusal.
 pub fn refusal_text(number: u8, place: u64, out: &mut [u8]) -> usize
-    ensures { λ r. ⌜ Shows (now (out .exit)) r (traceTextOf (refuses number place)) ⌝ }
+    ensures { λ r. ⌜ PutsText (now (out .exit)) r (traceTextOf (refuses number place)) ⌝ }
 {
     if out.len() < ROOM {
         return 0;

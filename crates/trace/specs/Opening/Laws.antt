@@ -57,7 +57,7 @@ use Rattle.trace_spec.specs.TraceLine.{starts, refuses}
 use Rattle.trace_spec.specs.Trace.{begins, declines, beginList, beginTable, beginHead, beginningOf}
 use Rattle.trace_spec.specs.Trace.{permittedBy, eventLines, startLine, traceFrom, traceOf}
 use Rattle.trace_spec.specs.Trace.Begun.{list-exceeds, list-opens}
-use Rattle.trace_spec.specs.Reads.{at, reachedIn, reachedAt, afterRead, reachedFrom, reachedBy}
+use Rattle.trace_spec.specs.Reads.{at, reachedIn, reachedAt, reachedAfter, reachedFrom, reachedBy}
 use Rattle.trace.specs.declared.answer.TraceLine.the-variants as line
 use Rattle.trace.specs.declared.answer.Opened.{Opened}
 use Rattle.trace.specs.declared.answer.Opened.the-variants.{Started, Refused}
@@ -250,7 +250,7 @@ module _ (s : List ℕ) (st : State) (bits : EventBits) (count place : ℕ) (l a
   opened = x .opens ∙ ap (begins (take count l) (tableIn (take count l)) (monitorOf st a b)) none-yet
 
   pub front-reached : reachedBy s ≡ at (tableIn (take count l)) (monitorOf st a b)
-  unfolding reachedBy reachedFrom afterRead reachedAt reachedIn through
+  unfolding reachedBy reachedFrom reachedAfter reachedAt reachedIn through
   front-reached = ap reachedFrom opened
 
   pub front-trace : traceOf s ≡ traceLineSaid (line.Starts st bits) ∷ []

@@ -16,7 +16,7 @@ use Rattle.trace_spec.specs.TraceLine.{TraceLine, refuses}
 use Rattle.trace_spec.specs.Trace.{Beginning, begins, declines, beginningOf, eventLines, startLine, traceFrom, traceOf}
 use Rattle.trace_spec.specs.Trace.{lineBy}
 use Rattle.trace_spec.specs.Trace.Last.{last-line}
-use Rattle.trace_spec.specs.Reads.{at, ended, reachedIn, reachedAt, afterRead, reachedFrom, reachedBy, Decided}
+use Rattle.trace_spec.specs.Reads.{at, ended, reachedIn, reachedAt, reachedAfter, reachedFrom, reachedBy, Decided}
 use Rattle.trace_spec.specs.Reads.Laws.{ended-stands}
 use Rattle.trace_monitor.specs.declared.print.Said.{Said}
 use Rattle.trace_monitor.specs.declared.course.Told.the-variants.{Ended, Refused}
@@ -49,7 +49,7 @@ one-line s x h = last-said s x (record { before = []; split = h })
 
 module _ (s ns : List ℕ) (t : Table) (m : Monitor) (h : beginningOf s ≡ begins ns t m []) where
   begun-reached : reachedBy s ≡ at t m
-  unfolding reachedBy reachedFrom afterRead reachedAt reachedIn through
+  unfolding reachedBy reachedFrom reachedAfter reachedAt reachedIn through
   begun-reached = ap reachedFrom h
 
   begun-line : LastLine s (startLine t m)

@@ -3,7 +3,7 @@
 --     reached-went, trace-went, trace-stops, reached-stops     one event more, on what stands
 --     trace-more, reached-more  an input that goes on;  ended-stands: where it ended
 --     reads-join                all reads
---     reached-last              the last line shows the monitor that stands
+--     reached-last              the last line reports the monitor that stands
 -- Assumes nothing.
 use Prim.Native.Nat.{ℕ}
 use native.Mathlib.Omega.{arith}
@@ -19,13 +19,14 @@ use Rattle.monitor_spec.specs.Fold.Laws.{through-went, through-stops, through-a
 use Rattle.monitor_spec.specs.Feed.{takeEvent}
 use Rattle.line_spec.specs.Line.{Head, parts, wrong, headOf, fresh}
 use Rattle.line_spec.specs.Pieces.Laws.{fold-why}
-use Rattle.trace_spec.specs.TraceLine.{TraceLine, takes, refuses, Shows}
+use Rattle.trace_spec.specs.TraceLine.{TraceLine, takes, refuses, Reports}
 use Rattle.trace_spec.specs.Trace.{Beginning, begins, declines, beginOpen, beginList, beginTable, beginHead}
 use Rattle.trace_spec.specs.Trace.{beginningOf, permittedBy, eventLines, startLine, traceFrom, traceOf}
 use Rattle.trace_spec.specs.Trace.Heads.{parts-more, over-more, loose-more}
 use Rattle.trace_spec.specs.Trace.Lines.{lines-went, lines-stops, onward}
-use Rattle.trace_spec.specs.Reads.{Reached, at, ended, readLines, reachedIn, reachedAt, afterRead, reachedFrom}
-use Rattle.trace_spec.specs.Reads.{reachedBy, readsFrom, readsOf, Decided, tableThere, lengthOver, lengthLoose}
+use Rattle.trace_spec.specs.Reads.{Configuration, at, ended, readLines, reachedIn, reachedAt, reachedAfter}
+use Rattle.trace_spec.specs.Reads.{reachedFrom, reachedBy, readsFrom, readsOf, Decided, tableThere, lengthOver}
+use Rattle.trace_spec.specs.Reads.{lengthLoose}
 
 -- ---- one event
 
@@ -34,44 +35,46 @@ module _ (t : Table) (m : Monitor) (e : ℕ) where
   S = takeEvent t
 
   after-went : (d : Monitor) (es : List ℕ) → takeEvent t m e ≡ went d
-      → afterRead (at t m) (e ∷ es) ≡ afterRead (at t d) es
-  unfolding afterRead reachedAt
+      → reachedAfter (at t m) (e ∷ es) ≡ reachedAfter (at t d) es
+  unfolding reachedAfter reachedAt
   after-went d es h =
       ap (reachedAt t) (through-went S m d 0 e es h)
       ∙ (λ i. reachedIn t (through-at S d 1 0 es i) (fold-why S d 1 0 es i))
 
-  after-stops : (n : ℕ) (es : List ℕ) → takeEvent t m e ≡ stops n → afterRead (at t m) (e ∷ es) ≡ ended
-  unfolding afterRead reachedAt reachedIn
+  after-stops : (n : ℕ) (es : List ℕ) → takeEvent t m e ≡ stops n → reachedAfter (at t m) (e ∷ es) ≡ ended
+  unfolding reachedAfter reachedAt reachedIn
   after-stops n es h = ap (reachedAt t) (through-stops S m 0 n e es h)
 
 -- ---- two reads
 
-pub after-more : (c : Reached) (es fs : List ℕ) → afterRead (afterRead c es) fs ≡ afterRead c (es ++ fs)
-unfolding afterRead through reachedAt reachedIn
+pub after-more : (c : Configuration) (es fs : List ℕ) → reachedAfter (reachedAfter c es) fs ≡ reachedAfter c (es ++ fs)
+unfolding reachedAfter through reachedAt reachedIn
 after-more ended es fs = refl
 after-more (at t m) es fs = from es m
   where
     by : (m : Monitor) (e : ℕ) (es : List ℕ) (y : Step Monitor) → takeEvent t m e ≡ y
-        → ((d : Monitor) → afterRead (afterRead (at t d) es) fs ≡ afterRead (at t d) (es ++ fs))
-        → afterRead (afterRead (at t m) (e ∷ es)) fs ≡ afterRead (at t m) (e ∷ (es ++ fs))
+        → ((d : Monitor) → reachedAfter (reachedAfter (at t d) es) fs ≡ reachedAfter (at t d) (es ++ fs))
+        → reachedAfter (reachedAfter (at t m) (e ∷ es)) fs ≡ reachedAfter (at t m) (e ∷ (es ++ fs))
     by m e es (went d) h ih =
-        ap (λ (c : Reached). afterRead c fs) (after-went t m e d es h) ∙ ih d ∙ sym (after-went t m e d (es ++ fs) h)
+        ap (λ (c : Configuration). reachedAfter c fs) (after-went t m e d es h) ∙ ih d
+        ∙ sym (after-went t m e d (es ++ fs) h)
     by m e es (stops n) h ih =
-        ap (λ (c : Reached). afterRead c fs) (after-stops t m e n es h) ∙ sym (after-stops t m e n (es ++ fs) h)
+        ap (λ (c : Configuration). reachedAfter c fs) (after-stops t m e n es h)
+        ∙ sym (after-stops t m e n (es ++ fs) h)
 
-    from : (es : List ℕ) (m : Monitor) → afterRead (afterRead (at t m) es) fs ≡ afterRead (at t m) (es ++ fs)
+    from : (es : List ℕ) (m : Monitor) → reachedAfter (reachedAfter (at t m) es) fs ≡ reachedAfter (at t m) (es ++ fs)
     from [] m = refl
     from (e ∷ es) m = by m e es (takeEvent t m e) refl (λ d. from es d)
 
-pub read-more : (c : Reached) (es fs : List ℕ)
-    → readLines c (es ++ fs) ≡ readLines c es ++ readLines (afterRead c es) fs
-unfolding readLines eventLines afterRead through reachedAt reachedIn
+pub read-more : (c : Configuration) (es fs : List ℕ)
+    → readLines c (es ++ fs) ≡ readLines c es ++ readLines (reachedAfter c es) fs
+unfolding readLines eventLines reachedAfter through reachedAt reachedIn
 read-more ended es fs = refl
 read-more (at t m) es fs = from es m
   where
     by : (m : Monitor) (e : ℕ) (es : List ℕ) (y : Step Monitor) → takeEvent t m e ≡ y
-        → ((d : Monitor) → eventLines t d (es ++ fs) ≡ eventLines t d es ++ readLines (afterRead (at t d) es) fs)
-        → eventLines t m (e ∷ (es ++ fs)) ≡ eventLines t m (e ∷ es) ++ readLines (afterRead (at t m) (e ∷ es)) fs
+        → ((d : Monitor) → eventLines t d (es ++ fs) ≡ eventLines t d es ++ readLines (reachedAfter (at t d) es) fs)
+        → eventLines t m (e ∷ (es ++ fs)) ≡ eventLines t m (e ∷ es) ++ readLines (reachedAfter (at t m) (e ∷ es)) fs
     by m e es (went d) h ih =
         lines-went t m e d (es ++ fs) h ∙ ap (takes e (d .state) (permittedBy t d) ∷_) (ih d)
         ∙ sym (λ i. lines-went t m e d es h i ++ readLines (after-went t m e d es h i) fs)
@@ -80,7 +83,7 @@ read-more (at t m) es fs = from es m
         ∙ sym (λ i. lines-stops t m e n es h i ++ readLines (after-stops t m e n es h i) fs)
 
     from : (es : List ℕ) (m : Monitor)
-        → eventLines t m (es ++ fs) ≡ eventLines t m es ++ readLines (afterRead (at t m) es) fs
+        → eventLines t m (es ++ fs) ≡ eventLines t m es ++ readLines (reachedAfter (at t m) es) fs
     from [] m = refl
     from (e ∷ es) m = by m e es (takeEvent t m e) refl (λ d. from es d)
 
@@ -130,11 +133,11 @@ trace-more s r d = ap traceFrom (begin-more s r d) ∙ by (beginningOf s)
     by (begins ns t m es) = ap (startLine t m ∷_) (read-more (at t m) es r)
     by (declines n p) = refl
 
-pub reached-more : (s r : List ℕ) → Decided s → reachedBy (s ++ r) ≡ afterRead (reachedBy s) r
-unfolding reachedBy reachedFrom widenBeginning afterRead
+pub reached-more : (s r : List ℕ) → Decided s → reachedBy (s ++ r) ≡ reachedAfter (reachedBy s) r
+unfolding reachedBy reachedFrom widenBeginning reachedAfter
 reached-more s r d = ap reachedFrom (begin-more s r d) ∙ by (beginningOf s)
   where
-    by : (b : Beginning) → reachedFrom (widenBeginning b r) ≡ afterRead (reachedFrom b) r
+    by : (b : Beginning) → reachedFrom (widenBeginning b r) ≡ reachedAfter (reachedFrom b) r
     by (begins ns t m es) = sym (after-more (at t m) es r)
     by (declines n p) = refl
 
@@ -142,7 +145,7 @@ reached-more s r d = ap reachedFrom (begin-more s r d) ∙ by (beginningOf s)
 pub ended-stands : (s r : List ℕ) → Decided s → reachedBy s ≡ ended → traceOf (s ++ r) ≡ traceOf s
 unfolding readLines
 ended-stands s r d e =
-    trace-more s r d ∙ ap (λ (c : Reached). traceOf s ++ readLines c r) e ∙ append-nil (traceOf s)
+    trace-more s r d ∙ ap (λ (c : Configuration). traceOf s ++ readLines c r) e ∙ append-nil (traceOf s)
 
 -- ---- one event more, on what stands
 
@@ -161,14 +164,15 @@ module _ (s : List ℕ) (t : Table) (m : Monitor) (here : reachedBy s ≡ at t m
   one-more : traceOf (s ++ e ∷ []) ≡ traceOf s ++ eventLines t m (e ∷ [])
   unfolding readLines
   one-more = trace-more s (e ∷ []) (at-decided s t m here)
-      ∙ ap (λ (c : Reached). traceOf s ++ readLines c (e ∷ [])) here
+      ∙ ap (λ (c : Configuration). traceOf s ++ readLines c (e ∷ [])) here
 
-  one-reached : reachedBy (s ++ e ∷ []) ≡ afterRead (at t m) (e ∷ [])
-  one-reached = reached-more s (e ∷ []) (at-decided s t m here) ∙ ap (λ (c : Reached). afterRead c (e ∷ [])) here
+  one-reached : reachedBy (s ++ e ∷ []) ≡ reachedAfter (at t m) (e ∷ [])
+  one-reached = reached-more s (e ∷ []) (at-decided s t m here)
+      ∙ ap (λ (c : Configuration). reachedAfter c (e ∷ [])) here
 
   -- an event that is taken: its line is said, and the next monitor stands
   pub reached-went : (d : Monitor) → takeEvent t m e ≡ went d → reachedBy (s ++ e ∷ []) ≡ at t d
-  unfolding afterRead through reachedAt reachedIn
+  unfolding reachedAfter through reachedAt reachedIn
   reached-went d h = one-reached ∙ after-went t m e d [] h
 
   pub trace-went : (d : Monitor) → takeEvent t m e ≡ went d
@@ -182,7 +186,7 @@ module _ (s : List ℕ) (t : Table) (m : Monitor) (here : reachedBy s ≡ at t m
   unfolding readLines
   trace-stops n h rest =
       trace-more s (e ∷ rest) (at-decided s t m here)
-      ∙ ap (λ (c : Reached). traceOf s ++ readLines c (e ∷ rest)) here
+      ∙ ap (λ (c : Configuration). traceOf s ++ readLines c (e ∷ rest)) here
       ∙ ap (traceOf s ++_) (lines-stops t m e n rest h)
 
   pub reached-stops : (n : ℕ) → takeEvent t m e ≡ stops n → reachedBy (s ++ e ∷ []) ≡ ended
@@ -190,15 +194,15 @@ module _ (s : List ℕ) (t : Table) (m : Monitor) (here : reachedBy s ≡ at t m
 
 -- ---- all reads
 
-from-join : (c : Reached) (ess : List (List ℕ)) → readsFrom c ess ≡ readLines c (flatten ess)
+from-join : (c : Configuration) (ess : List (List ℕ)) → readsFrom c ess ≡ readLines c (flatten ess)
 unfolding readsFrom flatten
 from-join c [] = none-said c
   where
-    none-said : (c : Reached) → [] ≡ readLines c []
+    none-said : (c : Configuration) → [] ≡ readLines c []
     none-said (at t m) = unfold readLines in unfold eventLines in refl
     none-said ended = unfold readLines in refl
 from-join c (es ∷ ess) =
-    ap (readLines c es ++_) (from-join (afterRead c es) ess) ∙ sym (read-more c es (flatten ess))
+    ap (readLines c es ++_) (from-join (reachedAfter c es) ess) ∙ sym (read-more c es (flatten ess))
 
 pub reads-join : (s : List ℕ) (ess : List (List ℕ)) → Decided s ⊎ (ess ≡ [])
     → readsOf s ess ≡ traceOf (s ++ flatten ess)
@@ -211,15 +215,15 @@ reads-join s ess (inr e) = rw e alone
 
 -- ---- the last line
 
--- the lines xs end with one that shows the monitor m on the table t
+-- the lines xs end with one that reports the monitor m on the table t
 pub record EndsAt (xs : List TraceLine) (t : Table) (m : Monitor) : Type 0 where
   pub before : List TraceLine
   pub last : TraceLine
   pub split : xs ≡ before ++ last ∷ []
-  pub shows : Shows last (m .state) (permittedBy t m)
+  pub reports : Reports last (m .state) (permittedBy t m)
 
 pub reached-last : (s : List ℕ) (t : Table) (m : Monitor) → reachedBy s ≡ at t m → EndsAt (traceOf s) t m
-unfolding traceOf reachedBy traceFrom reachedFrom afterRead reachedAt reachedIn startLine eventLines
+unfolding traceOf reachedBy traceFrom reachedFrom reachedAfter reachedAt reachedIn startLine eventLines
 reached-last s t m h = by (beginningOf s) refl h
   where
     same : (x y : Table) (u v : Monitor) → at x u ≡ at y v → (x ≡ y) × (u ≡ v)
@@ -238,9 +242,9 @@ reached-last s t m h = by (beginningOf s) refl h
           before = o .before;
           last = o .last;
           split = r;
-          shows = subst (λ (z : Monitor). Shows (o .last) (z .state) (permittedBy t z)) q
-              (subst (λ (z : Table). Shows (o .last) ((through (takeEvent x) u 0 es) .at .state)
-              (permittedBy z ((through (takeEvent x) u 0 es) .at))) p (o .shows));
+          reports = subst (λ (z : Monitor). Reports (o .last) (z .state) (permittedBy t z)) q
+              (subst (λ (z : Table). Reports (o .last) ((through (takeEvent x) u 0 es) .at .state)
+              (permittedBy z ((through (takeEvent x) u 0 es) .at))) p (o .reports));
         }
 
     by : (b : Beginning) → beginningOf s ≡ b → reachedFrom b ≡ at t m → EndsAt (traceFrom b) t m

@@ -20,12 +20,13 @@ use Rattle.monitor_spec.specs.Joined.{residualCount}
 use Rattle.line_spec.specs.Line.{parts, wrong, headOf, Line, stateLine, answerLine, readLine, headLine, lineOf}
 use Rattle.line_spec.specs.Line as line
 use Rattle.line_spec.specs.Line.Opened.{whole-opened}
+use Rattle.line_spec.specs.Judged.Taken.{event-took}
 use Rattle.trace_spec.specs.TraceLine.{TraceLine, takes, refuses}
 use Rattle.trace_spec.specs.Trace.{Beginning, beginningOf, permittedBy, eventLines, startLine, traceFrom, traceOf}
 use Rattle.trace_spec.specs.Trace.{Begins, lineBy}
 use Rattle.trace_spec.specs.Trace.Begun.{BeginWay, badHead, badTable, badList, exceeds, opens, begin-ways}
 use Rattle.trace_spec.specs.Trace.Begun.{lent-256, slots-256}
-use Rattle.trace_spec.specs.Trace.Lines.{lines-went, lines-stops, event-taken}
+use Rattle.trace_spec.specs.Trace.Lines.{lines-went, lines-stops}
 
 -- the last of the lines xs says x
 pub record Ends (xs : List TraceLine) (x : Line) : Type 0 where
@@ -40,7 +41,7 @@ pub record Ends (xs : List TraceLine) (x : Line) : Type 0 where
 unfoldable endLine : Ended Monitor → Line
 endLine x = answerLine (endingOf 0 x .answer)
 
--- from a line that shows the monitor m, which has taken k events
+-- from a line that reports the monitor m, which has taken k events
 last-said : (t : Table) (es : List ℕ) (m : Monitor) (k : ℕ) (x : TraceLine) → k ≡ m .state .taken
     → lineBy x ≡ stateLine (m .state) → Ends (x ∷ eventLines t m es) (endLine (through (takeEvent t) m k es))
 unfolding eventLines through endLine endingOf answerLine lineBy
@@ -57,7 +58,7 @@ last-said t (e ∷ es) m k x i s =
         → Ends (takes e (d .state) (permittedBy t d) ∷ eventLines t d es) (endLine (through S d (suc k) es)))
         → Ends (x ∷ eventLines t m (e ∷ es)) (endLine (through S m k (e ∷ es)))
     by (went d) g ih =
-        let o = ih d (omega (arith, event-taken t m e d g)) in
+        let o = ih d (omega (arith, event-took t m d e g .all)) in
         record {
           before = x ∷ o .before;
           last = o .last;

@@ -1,23 +1,22 @@
 -- The lines of events, from a monitor on.
 --     lines-went, lines-stops     of one event that is taken, or refused
---     event-taken                 an event counts one
 --     OnlyLast, lines-last        a refusal is the last line
---     Onward, onward              where events are taken, a line for each, and the last shows the monitor then
+--     Onward, onward              where events are taken, a line for each, and the last reports the monitor then
 --     Each, each                  a line for each event that is taken, and then a refusal or none
 -- Assumes nothing.
 use Prim.Native.Nat.{ℕ, suc, _+_}
 use native.Mathlib.Omega.{arith}
 use mathlib.Core.Path.{_≡_, refl, ap, sym, subst, _∙_}
 use mathlib.Core.List.{List, [], _∷_, _++_}
-use mathlib.Core.Option.{Option, none, some}
+use mathlib.Core.Option.{none}
 use lib.ListN.{length}
 use Rattle.table.specs.Table.{Table}
-use Rattle.monitor_spec.specs.State.{counted, holding, stateAfter, Monitor}
+use Rattle.monitor_spec.specs.State.{Monitor}
 use Rattle.monitor_spec.specs.Fold.{Step, went, stops, Ended, through, took}
 use Rattle.monitor_spec.specs.Fold.Laws.{through-went, through-stops, took-went, took-stops}
-use Rattle.monitor_spec.specs.Feed.{nextSlots, taking, takeEvent}
-use Rattle.monitor_spec.specs.Feed.Laws.{metBy, take-refused, take-passes}
-use Rattle.trace_spec.specs.TraceLine.{TraceLine, starts, takes, refuses, Shows, OneFor}
+use Rattle.monitor_spec.specs.Feed.{takeEvent}
+use Rattle.line_spec.specs.Judged.Taken.{event-took}
+use Rattle.trace_spec.specs.TraceLine.{TraceLine, starts, takes, refuses, Reports, OneFor}
 use Rattle.trace_spec.specs.Trace.{permittedBy, eventLines}
 
 module _ (t : Table) (m : Monitor) (e : ℕ) where
@@ -30,22 +29,6 @@ module _ (t : Table) (m : Monitor) (e : ℕ) where
       → eventLines t m (e ∷ es) ≡ refuses n (m .state .taken) ∷ []
   unfolding eventLines
   lines-stops n es h = rw (h, eventLines)
-
-  pub event-taken : (d : Monitor) → takeEvent t m e ≡ went d → d .state .taken ≡ suc (m .state .taken)
-  unfolding taking stateAfter counted holding
-  event-taken d h = by (metBy t m e) refl
-    where
-      same : (x y : Monitor) → went x ≡ went y → x ≡ y
-      same x y p = cc
-
-      by : (o : Option ℕ) → metBy t m e ≡ o → d .state .taken ≡ suc (m .state .taken)
-      by none q =
-          let g : taking m (nextSlots t m e) ≡ d =
-          same (taking m (nextSlots t m e)) d (sym (take-passes t m e q) ∙ h) in
-          sym (ap (λ (y : Monitor). y .state .taken) g)
-      by (some n) q =
-          let g : stops n ≡ went d = sym (take-refused t m e n q) ∙ h in
-          absurd (let z : _≡_ {A = ℕ} 0 1 = cc in omega arith)
 
 -- ---- a refusal
 
@@ -73,12 +56,12 @@ pub record Onward (t : Table) (x : TraceLine) (m : Monitor) (fs : List ℕ) (d :
   pub last : TraceLine
   pub split : (rest : List ℕ) → x ∷ eventLines t m (fs ++ rest) ≡ before ++ last ∷ eventLines t d rest
   pub place : length before ≡ length fs
-  pub shows : Shows last (d .state) (permittedBy t d)
+  pub reports : Reports last (d .state) (permittedBy t d)
 
-pub onward : (t : Table) (fs : List ℕ) (m : Monitor) (k : ℕ) (x : TraceLine) → Shows x (m .state) (permittedBy t m)
+pub onward : (t : Table) (fs : List ℕ) (m : Monitor) (k : ℕ) (x : TraceLine) → Reports x (m .state) (permittedBy t m)
     → (through (takeEvent t) m k fs) .why ≡ none → Onward t x m fs ((through (takeEvent t) m k fs) .at)
 unfolding through
-onward t [] m k x s h = record { before = []; last = x; split = λ rest. refl; place = refl; shows = s }
+onward t [] m k x s h = record { before = []; last = x; split = λ rest. refl; place = refl; reports = s }
 onward t (e ∷ fs) m k x s h =
     by (takeEvent t m e) refl
     (λ d. onward t fs d (suc k) (takes e (d .state) (permittedBy t d)) (refl, refl))
@@ -99,7 +82,7 @@ onward t (e ∷ fs) m k x s h =
           last = o .last;
           split = λ rest. ap (x ∷_) (lines-went t m e d (fs ++ rest) g ∙ o .split rest);
           place = ap suc (o .place);
-          shows = o .shows;
+          reports = o .reports;
         })
     by (stops n) g ih =
         let w = ap (λ (z : Ended Monitor). z .why) (through-stops S m k n e fs g) in
@@ -128,7 +111,7 @@ each t (e ∷ es) m = by (takeEvent t m e) refl (λ d. each t es d)
         allTaken (takes e (d .state) (permittedBy t d) ∷ zs) (took-went S m d e es g ∙ ap (e ∷_) a) (refl, b)
     more d g ys (stopsAt fs f rest zs n a b c) =
         let p : d .state .taken + length fs ≡ m .state .taken + length (e ∷ fs) =
-        omega (arith, event-taken t m e d g) in
+        omega (arith, event-took t m d e g .all) in
         subst
         (λ (j : ℕ). Each t m (e ∷ es) (takes e (d .state) (permittedBy t d) ∷ (zs ++ refuses n j ∷ [])))
         (sym p)

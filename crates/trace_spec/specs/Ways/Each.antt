@@ -18,13 +18,13 @@ use Rattle.monitor_spec.specs.Joined.{extend}
 use Rattle.monitor_spec.specs.History.Laws.{extends}
 use Rattle.monitor_spec.specs.History.Begun.{fresh-after, fresh-fed}
 use Rattle.line_spec.specs.Line.{refused, lineOf}
-use Rattle.trace_spec.specs.TraceLine.{TraceLine, starts, takes, refuses, Shows}
+use Rattle.trace_spec.specs.TraceLine.{TraceLine, starts, takes, refuses, Reports}
 use Rattle.trace_spec.specs.Trace.{Beginning, begins, declines, Begins, beginningOf, permittedBy, eventLines}
 use Rattle.trace_spec.specs.Trace.{startLine, traceFrom, traceOf, lineBy}
 use Rattle.trace_spec.specs.Trace.Begun.{begins-in, begins-out}
 use Rattle.trace_spec.specs.Trace.Lines.{OnlyLast, lines-last, Each, allTaken, stopsAt, each}
 use Rattle.trace_spec.specs.Trace.Last.{Ends, last-line}
-use Rattle.trace_spec.specs.Reads.{Reached, at, ended, reachedBy, Decided}
+use Rattle.trace_spec.specs.Reads.{Configuration, at, ended, reachedBy, Decided}
 use Rattle.trace_spec.specs.Reads.Laws.{ended-stands, reached-last}
 use Rattle.trace_spec.specs.Ways.{TraceWay, onlyRefusal, takesAll, takesSome}
 
@@ -121,7 +121,7 @@ pub refusal-stands : (s : List ℕ) (before : List TraceLine) (n p : ℕ) → De
     → traceOf s ≡ before ++ refuses n p ∷ [] → (r : List ℕ) → traceOf (s ++ r) ≡ traceOf s
 refusal-stands s before n p d e r = by (reachedBy s) refl
   where
-    by : (c : Reached) → reachedBy s ≡ c → traceOf (s ++ r) ≡ traceOf s
+    by : (c : Configuration) → reachedBy s ≡ c → traceOf (s ++ r) ≡ traceOf s
     by ended h = ended-stands s r d h
     by (at t m) h =
         let o = reached-last s t m h in
@@ -129,4 +129,4 @@ refusal-stands s before n p d e r = by (reachedBy s) refl
         sym (last-snoc (refuses n p) (o .last) (o .before))
         ∙ ap (lastIn (refuses n p)) (sym (o .split) ∙ e)
         ∙ last-snoc (refuses n p) (refuses n p) before in
-        absurd (subst (λ (x : TraceLine). Shows x (m .state) (permittedBy t m)) q (o .shows))
+        absurd (subst (λ (x : TraceLine). Reports x (m .state) (permittedBy t m)) q (o .reports))

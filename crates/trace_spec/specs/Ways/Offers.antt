@@ -32,7 +32,7 @@ use Rattle.monitor_spec.specs.History.Laws.{extends, measured, after-consistent
 use Rattle.monitor_spec.specs.History.Begun.{fresh-after, fresh-fed}
 use Rattle.line_spec.specs.Line.{monitorLeft}
 use Rattle.line_spec.specs.Pieces.Laws as pieces
-use Rattle.trace_spec.specs.TraceLine.{TraceLine, starts, takes, refuses, Shows, LineAt}
+use Rattle.trace_spec.specs.TraceLine.{TraceLine, starts, takes, refuses, Reports, LineAt}
 use Rattle.trace_spec.specs.Trace.{Beginning, begins, declines, Begins, beginningOf, permittedBy, eventLines}
 use Rattle.trace_spec.specs.Trace.{startLine, traceFrom, traceOf}
 use Rattle.trace_spec.specs.Ways.{OffersThere}
@@ -70,7 +70,7 @@ module _ (ns ks : List ℕ) (t : Table) (says : judgeList ns ≡ accepted ks t) 
 
 -- ---- the line at a place
 
--- after events that are all taken, a line shows st and bits
+-- after events that are all taken, a line reports st and bits
 record Shown (t : Table) (m : Monitor) (es : List ℕ) (k : ℕ) (st : State) (bits : EventBits) : Type 0 where
   events : List ℕ
   rest : List ℕ
@@ -90,16 +90,16 @@ cons-head x y xs ys e = cc
 cons-tail : (x y : TraceLine) (xs ys : List TraceLine) → x ∷ xs ≡ y ∷ ys → xs ≡ ys
 cons-tail x y xs ys e = cc
 
-shows-same : (x : TraceLine) (t : Table) (m : Monitor) (st : State) (bits : EventBits)
-    → Shows x (m .state) (permittedBy t m) → Shows x st bits → (st ≡ m .state) × (bits ≡ permittedBy t m)
-shows-same (starts s b) t m st bits (p, q) (u, v) = (sym u ∙ p, sym v ∙ q)
-shows-same (takes e s b) t m st bits (p, q) (u, v) = (sym u ∙ p, sym v ∙ q)
-shows-same (refuses n k) t m st bits p u = absurd p
+reports-same : (x : TraceLine) (t : Table) (m : Monitor) (st : State) (bits : EventBits)
+    → Reports x (m .state) (permittedBy t m) → Reports x st bits → (st ≡ m .state) × (bits ≡ permittedBy t m)
+reports-same (starts s b) t m st bits (p, q) (u, v) = (sym u ∙ p, sym v ∙ q)
+reports-same (takes e s b) t m st bits (p, q) (u, v) = (sym u ∙ p, sym v ∙ q)
+reports-same (refuses n k) t m st bits p u = absurd p
 
-module _ (t : Table) (st : State) (bits : EventBits) (y : TraceLine) (after : List TraceLine) (sh : Shows y st bits)
+module _ (t : Table) (st : State) (bits : EventBits) (y : TraceLine) (after : List TraceLine) (sh : Reports y st bits)
   where
-    -- from a line x that shows m, y stands after the lines `before`
-    shown : (es : List ℕ) (m : Monitor) (x : TraceLine) → Shows x (m .state) (permittedBy t m)
+    -- from a line x that reports m, y stands after the lines `before`
+    shown : (es : List ℕ) (m : Monitor) (x : TraceLine) → Reports x (m .state) (permittedBy t m)
         → (before : List TraceLine) → x ∷ eventLines t m es ≡ before ++ y ∷ after → Shown t m es (length before) st bits
     unfolding through eventLines
     shown es m x s [] e =
@@ -110,7 +110,7 @@ module _ (t : Table) (st : State) (bits : EventBits) (y : TraceLine) (after : Li
           split = refl;
           place = refl;
           all = λ j. refl;
-          then = λ j. shows-same x t m st bits s (subst (λ (z : TraceLine). Shows z st bits) (sym p) sh);
+          then = λ j. reports-same x t m st bits s (subst (λ (z : TraceLine). Reports z st bits) (sym p) sh);
         }
     shown [] m x s (z ∷ before) e = nothing-there before y after (cons-tail x z [] (before ++ y ∷ after) e)
     shown (e ∷ es) m x s (z ∷ before) q =
@@ -123,7 +123,7 @@ module _ (t : Table) (st : State) (bits : EventBits) (y : TraceLine) (after : Li
         refusal : (n p : ℕ) (before : List TraceLine) → refuses n p ∷ [] ≡ before ++ y ∷ after
             → Shown t m (e ∷ es) (suc (length before)) st bits
         refusal n p [] g =
-            absurd (subst (λ (z : TraceLine). Shows z st bits) (sym (cons-head (refuses n p) y [] after g)) sh)
+            absurd (subst (λ (z : TraceLine). Reports z st bits) (sym (cons-head (refuses n p) y [] after g)) sh)
         refusal n p (z ∷ before) g = nothing-there before y after (cons-tail (refuses n p) z [] (before ++ y ∷ after) g)
 
         by : (v : Step Monitor) → takeEvent t m e ≡ v → eventLines t m (e ∷ es) ≡ before ++ y ∷ after
@@ -195,8 +195,8 @@ lines-offer s k st bits l = by (beginningOf s) refl (l .split)
     one : (n p : ℕ) (before : List TraceLine) → refuses n p ∷ [] ≡ before ++ l .line ∷ l .after
         → OffersThere s k st bits
     one n p [] e =
-        absurd (subst (λ (z : TraceLine). Shows z st bits) (sym (cons-head (refuses n p) (l .line) [] (l .after) e))
-        (l .shows))
+        absurd (subst (λ (z : TraceLine). Reports z st bits) (sym (cons-head (refuses n p) (l .line) [] (l .after) e))
+        (l .reports))
     one n p (z ∷ before) e =
         nothing-there before (l .line) (l .after) (cons-tail (refuses n p) z [] (before ++ l .line ∷ l .after) e)
 
@@ -204,7 +204,7 @@ lines-offer s k st bits l = by (beginningOf s) refl (l .split)
     by (declines n p) e f = one n p (l .before) f
     by (begins ns t m es) e f =
         let (g, q) = begins-out s ns t m es e in
-        let x = shown t st bits (l .line) (l .after) (l .shows) es m (startLine t m) (refl, refl) (l .before) f in
+        let x = shown t st bits (l .line) (l .after) (l .reports) es m (startLine t m) (refl, refl) (l .before) f in
         offers-there s ns t es g k st bits
         (subst (λ (z : Monitor). Shown t z es k st bits) q
         (subst (λ (j : ℕ). Shown t m es j st bits) (l .place) x))

@@ -3,7 +3,7 @@
 --     put-then, put-number              one part and then another; a space and then digits
 --     event-set, event-clear            an event, by its bit
 --     Putting, first-event, next-event, last-event    the loop of `put_events`
---     put-shown, none-shown             all of a text, or nothing
+--     put-all, put-none                 all of a text, or nothing
 -- Assumes nothing.
 use Prim.Native.Nat.{ℕ, suc, _+_, _-_, _*_, _/_, _%_, _≤_, _<_}
 use native.Mathlib.Omega.{arith}
@@ -15,7 +15,7 @@ use Rattle.decimal.specs.Decimal.{decimal}
 use Rattle.trace_spec.specs.TraceLine.{eventsFrom}
 use Rattle.trace_text.specs.TraceText.{numberText, numbersText}
 use Rattle.trace_text.specs.TraceText.Laws.{text-set, text-clear, events-next}
-use Rattle.trace_text.specs.Put.{Puts, Shows}
+use Rattle.trace_text.specs.Put.{Puts, PutsText}
 
 -- ---- the loop of `put`
 
@@ -117,12 +117,12 @@ module _ (before : List ℕ) (n : ℕ) (text : List ℕ) where
 
 -- ---- all of a text
 
-pub put-shown : (most r : ℕ) (before after text : List ℕ) → Puts most before 0 text after r
-    → most ≤ 2816 → 2816 ≤ length after → Shows after r text
-put-shown most r before after text p h e =
+pub put-all : (most r : ℕ) (before after text : List ℕ) → Puts most before 0 text after r
+    → most ≤ 2816 → 2816 ≤ length after → PutsText after r text
+put-all most r before after text p h e =
     let k : r ≤ length after = omega (arith, p .count, p .few) in
     record { bytes = λ _. p .bytes; none = λ i. absurd (omega arith); counts = (k, sym (length-take-le r after k)) }
 
-pub none-shown : (out text : List ℕ) → length out < 2816 → Shows out 0 text
-none-shown out text h =
+pub put-none : (out text : List ℕ) → length out < 2816 → PutsText out 0 text
+put-none out text h =
     record { bytes = λ i. absurd (omega arith); none = λ _. refl; counts = (omega arith, refl) }

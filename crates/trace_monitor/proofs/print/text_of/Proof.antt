@@ -1,7 +1,7 @@
 -- `print::text_of` meets its contract, by the kind of the line. Assumes nothing.
 use native.Mathlib.Omega.{arith}
 use borrow.Author.Needs.{needs}
-use Rattle.trace_monitor.specs.Spoken.{shown}
+use Rattle.trace_monitor.specs.Spoken.{text-put}
 use Rattle.trace_monitor.proofs.print.text_of.Statement.{statement}
 use Rattle.trace_monitor.proofs.print.text_of.Tie as tie
 
@@ -31,7 +31,7 @@ returns c =
     let at-start-text = c .before .before in
     let at-line = at-start-text .before .before .before in
     let at-pre = at-line .before .before .before in
-    rw (at-line .line .given .1) (shown _ _ _ (at-start-text .start-text .ensures) (omega (
+    rw (at-line .line .given .1) (text-put _ _ _ (at-start-text .start-text .ensures) (omega (
       arith,
       at-start-text .start-text .kept .1 .1 .0,
       at-pre .pre,
@@ -45,7 +45,7 @@ returns-2 c =
     let at-event-text = c .before .before in
     let at-line2 = at-event-text .before .before .before in
     let at-pre = at-line2 .before .before .before in
-    rw (at-line2 .line2 .given .1) (shown _ _ _ (at-event-text .event-text .ensures) (omega (
+    rw (at-line2 .line2 .given .1) (text-put _ _ _ (at-event-text .event-text .ensures) (omega (
       arith,
       at-event-text .event-text .kept .1 .1 .1 .0,
       at-pre .pre,
@@ -59,7 +59,7 @@ returns-3 c =
     let at-refusal-text = c .before .before in
     let at-line3 = at-refusal-text .before .before .before in
     let at-pre = at-line3 .before .before .before in
-    rw (at-line3 .line3 .given .1) (shown _ _ _ (at-refusal-text .refusal-text .ensures) (omega (
+    rw (at-line3 .line3 .given .1) (text-put _ _ _ (at-refusal-text .refusal-text .ensures) (omega (
       arith,
       at-refusal-text .refusal-text .kept .1 .1 .0,
       at-pre .pre,

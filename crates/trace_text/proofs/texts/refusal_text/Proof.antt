@@ -3,12 +3,12 @@ use native.Mathlib.Omega.{arith}
 use borrow.Author.Needs.{needs}
 use Rattle.format.specs.Text.{spelled, textOf}
 use Rattle.trace_text.specs.TraceText.{numberText, traceTextOf}
-use Rattle.trace_text.specs.Put.Laws.{put-then, put-shown, none-shown}
+use Rattle.trace_text.specs.Put.Laws.{put-then, put-all, put-none}
 use Rattle.trace_text.proofs.texts.refusal_text.Statement.{statement}
 use Rattle.trace_text.proofs.texts.refusal_text.Tie as tie
 
 returns : tie.Need-returns
-returns c = none-shown _ _ (c .if1 .taken)
+returns c = put-none _ _ (c .if1 .taken)
 
 slice-aggregate-put : tie.Need-slice-aggregate-put
 slice-aggregate-put c = search needs
@@ -46,7 +46,7 @@ returns-2 c =
     let end = put-then _ _ _ _ _ _ _ _ _ _ 22 (put-number2 .ensures) (put2 .ensures) (omega arith) in
     let last = put-then _ _ _ _ _ _ _ _ _ _ 43 (put-number .ensures) end (omega arith) in
     let all = put-then _ _ _ _ _ _ _ _ _ _ 50 (put .ensures) last (omega arith) in
-    put-shown _ _ _ _ _ all (omega arith)
+    put-all _ _ _ _ _ all (omega arith)
     (omega (arith, put .kept .0, put-number .kept .0, put-number2 .kept .0, put2 .kept .0, if1 .left))
 
 pub refusal-text-spec : {M : Type 1} → statement M

@@ -2,12 +2,12 @@
 use native.Mathlib.Omega.{arith}
 use borrow.Author.Needs.{needs}
 use Rattle.trace_text.specs.TraceText.{traceTextOf}
-use Rattle.trace_text.specs.Put.Laws.{put-then, put-shown, none-shown}
+use Rattle.trace_text.specs.Put.Laws.{put-then, put-all, put-none}
 use Rattle.trace_text.proofs.texts.start_text.Statement.{statement}
 use Rattle.trace_text.proofs.texts.start_text.Tie as tie
 
 returns : tie.Need-returns
-returns c = none-shown _ _ (c .if1 .taken)
+returns c = put-none _ _ (c .if1 .taken)
 
 slice-aggregate-put : tie.Need-slice-aggregate-put
 slice-aggregate-put c = search needs
@@ -30,7 +30,7 @@ returns-2 c =
     let put = at-put .put in
     let if1 = at-put .before .before .before .if1 in
     let all = put-then _ _ _ _ _ _ _ _ _ _ 2788 (put .ensures) (put-rest .ensures) (omega arith) in
-    put-shown _ _ _ _ _ all (omega arith) (omega (arith, put .kept .0, put-rest .kept .0, if1 .left))
+    put-all _ _ _ _ _ all (omega arith) (omega (arith, put .kept .0, put-rest .kept .0, if1 .left))
 
 pub start-text-spec : {M : Type 1} → statement M
 start-text-spec =
