@@ -5,7 +5,8 @@
 --     stateLine, answerLine         of a record; of an answer of Open or Feed
 --     freshOn, fresh                Open of an empty list; of 256 slots
 --     startedLine, lineOf           of a number list and events; of a whole input
--- The laws are in `Line/`: `Laws`; `Opened`, of one Open with all events. Assumes nothing.
+-- The laws are in `Line/`: `Laws`; `Heads`, of an input that goes on; `Opened`, of one Open with all events. Assumes
+-- nothing.
 use Prim.Native.Nat.{ℕ, _≤_, _<_}
 use mathlib.Core.Path.{_≡_}
 use mathlib.Core.Bool.{true, false}
@@ -20,6 +21,7 @@ use Rattle.monitor_spec.specs.State as state
 use Rattle.monitor_spec.specs.Feed.{feedOf}
 use Rattle.monitor_spec.specs.Open.{openOf}
 pub mod Laws
+pub mod Heads
 pub mod Opened
 
 pub data Head : Type 0 where

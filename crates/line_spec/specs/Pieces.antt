@@ -4,7 +4,7 @@
 --     afterPiece                     a course where the input ended, or did not
 --     Front, frontOf, feedFront      what Open leaves, with the events of the front; these fed
 --     piecesOf                       all of it
--- The laws are in `Pieces/`: `Laws`, `Whole`, `Joined`. Assumes nothing.
+-- The laws are in `Pieces/`: `Laws`, `Joined`. Assumes nothing.
 use Prim.Native.Nat.{ℕ}
 use mathlib.Core.Bool.{Bool, cond}
 use mathlib.Core.List.{List, [], _∷_}
@@ -15,7 +15,6 @@ use Rattle.monitor_spec.specs.State as state
 use Rattle.monitor_spec.specs.Feed.{feedOf}
 use Rattle.line_spec.specs.Line.{Head, parts, wrong, headOf, Line, refused, stateLine, fresh, monitorLeft}
 pub mod Laws
-pub mod Whole
 pub mod Joined
 
 pub data Course : Type 0 where

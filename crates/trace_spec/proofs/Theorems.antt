@@ -1,7 +1,7 @@
 -- What `specs/Claims.antt` says, proved. Assumes nothing.
 use Rattle.trace_spec.specs.TraceLine.Laws.{in-ascending, in-exact}
 use Rattle.trace_spec.specs.Trace.Begun.{read-list}
-use Rattle.trace_spec.specs.Trace.Heads.{parts-more, over-more, loose-more}
+use Rattle.line_spec.specs.Line.Heads.{parts-more, over-more, loose-more}
 use Rattle.trace_spec.specs.Trace.Last.{last-line}
 use Rattle.trace_spec.specs.Reads.Laws as reading
 use Rattle.trace_spec.specs.Ways.Each.{trace-ways, refusal-last, refusal-stands}

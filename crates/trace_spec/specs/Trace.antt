@@ -6,8 +6,8 @@
 --     eventLines                 the lines of events, from a monitor on
 --     traceOf                    the lines of an input
 --     lineBy                     what `line_monitor` would print in a line's place
--- The laws are in `Trace/`: `Begun`, what a beginning is, by the input; `Heads`, and what follows it; `Lines`, of the
--- lines of events; `Last`, of the last one. Assumes nothing.
+-- The laws are in `Trace/`: `Begun`, what a beginning is, by the input; `Lines`, of the lines of events; `Last`, of the
+-- last one. Assumes nothing.
 use Prim.Native.Nat.{ℕ, _≤_}
 use mathlib.Core.Path.{_≡_}
 use mathlib.Core.List.{List, [], _∷_}
@@ -22,7 +22,6 @@ use Rattle.line_spec.specs.Line.{Head, parts, wrong, headOf, Line, stateLine, f
 use Rattle.line_spec.specs.Line as line
 use Rattle.trace_spec.specs.TraceLine.{TraceLine, starts, takes, refuses}
 pub mod Begun
-pub mod Heads
 pub mod Lines
 pub mod Last
 

@@ -1,6 +1,7 @@
 -- Pieces, one after the other, come to a line of the input.
 --     goes-first, goes-next, goes-over    no piece; one piece more, after which the monitor goes on, or a line stands
 --     goes-took                           where it goes on, all of the piece is taken
+--     flatten-last                        a piece more, joined
 --     front-line, follows-judged          a line that is said of the front, or after it, is one of the input
 -- Assumes nothing.
 use Prim.Native.Nat.{ℕ, _≤_, _<_}
@@ -100,7 +101,7 @@ module _ (n : ℕ) (o p q : ResumeOutcome) (es : List ℕ) where
 
 -- ---- the input
 
-flatten-last : (ess : List (List ℕ)) (es : List ℕ) → flatten (ess ++ (es ∷ [])) ≡ flatten ess ++ es
+pub flatten-last : (ess : List (List ℕ)) (es : List ℕ) → flatten (ess ++ (es ∷ [])) ≡ flatten ess ++ es
 unfolding flatten
 flatten-last [] es = append-nil es
 flatten-last (fs ∷ ess) es =

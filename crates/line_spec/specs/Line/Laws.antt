@@ -2,13 +2,14 @@
 --     cut-over, cut-missing, cut-there     its parts, by the length number
 --     head-events                          the events end the input
 --     head-ways                            what it is, by the bytes
+--     slots-256                            the slots that the program lends
 -- Assumes nothing.
 use Prim.Native.Nat.{ℕ, _+_, _-_, _≤_, _<_}
 use native.Mathlib.Omega.{arith}
 use mathlib.Core.Path.{_≡_, refl, ap, sym, subst, _∙_}
 use mathlib.Core.Bool.{Bool, true, false}
 use mathlib.Core.List.{List, _++_}
-use lib.ListN.{length, take, drop, length-drop, take-append-drop}
+use lib.ListN.{length, take, drop, length-drop, length-replicate, take-append-drop}
 use lib.Seq.{drop-drop, length-take-le}
 use lib.Dec.{ltb}
 use borrow.Author.Tests.{lt-ltb, le-ltb, ltb-true, ltb-false}
@@ -16,6 +17,8 @@ use Rattle.numbers.specs.Number.{Bytes, Scan, value, truncated, malformed, read
 use Rattle.numbers.specs.Number.Extent.{scan-extent}
 use Rattle.numbers.specs.Number.Laws.{read-is-written}
 use Rattle.numbers.specs.Number.Unread.{truncated-out, malformed-out}
+use Rattle.table.specs.Operations.{zeros}
+use Rattle.monitor_spec.specs.State.{slotCount}
 use Rattle.line_spec.specs.Line.{Head, parts, wrong, cut, headBy, headOf, HeadWay, inputParts, lengthOver}
 use Rattle.line_spec.specs.Line.{tableCut, lengthCut, lengthLoose}
 
@@ -100,3 +103,10 @@ module _ (s : List ℕ) (w : Bytes s) where
       by malformed e = subst (HeadWay s) (sym (ap headBy e)) (lengthLoose (malformed-out 2 3 s e))
       by (value v n rest) e =
           subst (HeadWay s) (sym (ap headBy e)) (cut-ways v n rest e (ltb 16384 v) (ltb (length rest) v) refl refl)
+
+-- ---- Open of an empty list
+
+-- "256 slots": 4,096 words
+pub slots-256 : slotCount (zeros 4096) ≡ 256
+unfolding slotCount
+slots-256 = let e : length (zeros 4096) ≡ 4096 = length-replicate {A = ℕ} 4096 0 in omega arith

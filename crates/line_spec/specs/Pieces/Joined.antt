@@ -10,7 +10,7 @@ use mathlib.Core.Bool.{Bool, true, false, _&&_}
 use mathlib.Core.List.{List, [], _∷_, _++_, append-assoc, append-nil, flatten}
 use mathlib.Core.Option.{Option, none, some}
 use mathlib.Core.Logic.{_⊎_, inl, inr}
-use lib.ListN.{length, length-append, length-replicate}
+use lib.ListN.{length, length-append}
 use Rattle.table.specs.Table.{Table}
 use Rattle.table.specs.Rules.{Rules}
 use Rattle.table.specs.Judge.{Judgement, accepted, declined, judgeBytes, judgeList}
@@ -36,11 +36,12 @@ use Rattle.monitor_spec.specs.History.Begun.{Began, opened-began, empty-joins}
 use Rattle.line_spec.specs.Line.{Head, parts, wrong, headOf, Line, refused, stateLine, answerLine}
 use Rattle.line_spec.specs.Line.{freshOn, fresh, monitorLeft}
 use Rattle.line_spec.specs.Line.{startedBy, startedLine, readLine, headLine, lineOf}
+use Rattle.line_spec.specs.Line.Laws.{slots-256}
+use Rattle.line_spec.specs.Line.Heads.{widenHead, head-more, long-fixed}
 use Rattle.line_spec.specs.Pieces.{Course, going, over, fed, fedBy, pieceOf, frontBy, frontHead, frontOf}
 use Rattle.line_spec.specs.Pieces.{feedFront}
 use Rattle.line_spec.specs.Pieces.{concludeOf, throughPieces, piecesOf}
 use Rattle.line_spec.specs.Pieces.Laws.{Good, courseBy, course, good-feed, piece-course, piece-more}
-use Rattle.line_spec.specs.Pieces.Whole.{widenHead, head-more}
 
 -- a monitor that Open gave with an empty list is good, or a line stands
 pub data Sound : Course → Type 0 where
@@ -121,10 +122,6 @@ declined-gives l a b w n p s j e = by (areasMeasured a b && workMeasured w) refl
     by : (x : Bool) → (areasMeasured a b && workMeasured w) ≡ x → ⊥
     by true h = never n p (sym (ap (λ (o : Outcome). o .answer) (open-declined l a b [] w h n p j)) ∙ e)
     by false h = never 1 0 (sym (ap (λ (o : Outcome). o .answer) (open-unmeasured l a b [] w h)) ∙ e)
-
-slots-256 : slotCount (zeros 4096) ≡ 256
-unfolding slotCount
-slots-256 = let e : length (zeros 4096) ≡ 4096 = length-replicate {A = ℕ} 4096 0 in omega arith
 
 good-fresh : (l : List ℕ) (s : State) → fresh l .answer ≡ given s
     → Good l (monitorLeft (fresh l) s) × (s .taken ≡ 0)
@@ -218,7 +215,8 @@ fronts (parts bs es) = by (judgeBytes bs) refl
 pub pieces-whole : (s : List ℕ) (ess : List (List ℕ)) → (16387 ≤ length s) ⊎ (ess ≡ [])
     → piecesOf s ess ≡ lineOf (s ++ flatten ess)
 unfolding piecesOf frontOf lineOf
-pieces-whole s ess (inl h) = fronts (headOf s) .more ess ∙ sym (ap headLine (head-more s (flatten ess) h))
+pieces-whole s ess (inl h) =
+    fronts (headOf s) .more ess ∙ sym (ap headLine (head-more s (flatten ess) (long-fixed s h)))
 pieces-whole s ess (inr h) = rw h (none s)
   where
     none : (s : List ℕ)

@@ -18,10 +18,10 @@ use Rattle.numbers.specs.Position.{readAt}
 use Rattle.numbers.specs.Position.Laws.{value-read, truncated-read, malformed-read}
 use Rattle.line_spec.specs.Line.{Head, parts, wrong, cut, headBy, headOf}
 use Rattle.line_spec.specs.Line.Laws.{cut-over, cut-missing, cut-there}
+use Rattle.line_spec.specs.Line.Heads.{value-more, truncated-short}
 use Rattle.trace_spec.specs.Reads.{Decided, tableThere, lengthOver, lengthLoose}
 use Rattle.trace_front.specs.Wanted.{missingOf, wantedBy, wantedOf, Fronts, CutShort}
-use Rattle.trace_spec.specs.Trace.Heads.{value-more}
-use Rattle.trace_front.specs.Wanted.Scans.{truncated-short, truncated-last}
+use Rattle.trace_front.specs.Wanted.Scans.{truncated-last}
 
 -- ---- what is missing of a table
 

@@ -1,56 +1,14 @@
 -- Bytes that end within a number.
---     truncated-short    they are two at most
 --     truncated-last     where a byte more ends the number, nothing is left
 -- Assumes nothing.
-use Prim.Native.Nat.{ℕ, zero, suc, _-_, _≤_}
+use Prim.Native.Nat.{ℕ, zero, suc, _-_}
 use native.Mathlib.Omega.{arith}
 use mathlib.Core.Path.{_≡_, refl, subst}
 use mathlib.Core.Bool.{Bool, true, false, cond}
 use mathlib.Core.List.{List, [], _∷_, _++_}
-use lib.ListN.{length}
 use lib.Dec.{ltb, leb, eqb}
+use Rattle.numbers.specs.Choice.{cond-cases}
 use Rattle.numbers.specs.Number.{Scan, value, truncated, malformed, carry, later, scanWith, readNumber}
-
--- ---- a scan that is truncated
-
-abbrev Short : ℕ → List ℕ → Scan → Type 0
-Short k s (value v n r) = Unit
-Short k s truncated = length s ≤ k
-Short k s malformed = Unit
-
-carry-short : (low k b : ℕ) (s : List ℕ) (x : Scan) → Short k s x → Short (suc k) (b ∷ s) (carry low x)
-unfolding carry
-carry-short low k b s (value v n r) h = tt
-carry-short low k b s truncated h = omega arith
-carry-short low k b s malformed h = tt
-
-short-cond : (b : Bool) (k : ℕ) (s : List ℕ) (x y : Scan) → Short k s x → Short k s y → Short k s (cond b x y)
-short-cond true k s x y h j = h
-short-cond false k s x y h j = j
-
-later-short : (k top : ℕ) (s : List ℕ) → Short k s (later k top s)
-unfolding later
-later-short k top [] = omega arith
-later-short zero top (b ∷ s) =
-    short-cond (eqb b 0) 0 (b ∷ s) malformed (cond (leb b top) (value b 1 s) malformed) tt
-    (short-cond (leb b top) 0 (b ∷ s) (value b 1 s) malformed tt tt)
-later-short (suc k) top (b ∷ s) =
-    short-cond (eqb b 0) (suc k) (b ∷ s) malformed (cond (ltb b 128) (value b 1 s) (carry (b - 128) (later k top s)))
-    tt (short-cond (ltb b 128) (suc k) (b ∷ s) (value b 1 s) (carry (b - 128) (later k top s)) tt
-    (carry-short (b - 128) k b s (later k top s) (later-short k top s)))
-
-scan-short : (k top : ℕ) (s : List ℕ) → Short (suc k) s (scanWith (suc k) top s)
-unfolding scanWith
-scan-short k top [] = omega arith
-scan-short k top (a ∷ s) =
-    short-cond (ltb a 128) (suc k) (a ∷ s) (value a 1 s) (carry (a - 128) (later k top s)) tt
-    (carry-short (a - 128) k a s (later k top s) (later-short k top s))
-
-pub truncated-short : (s : List ℕ) → readNumber s ≡ truncated → length s ≤ 2
-unfolding readNumber
-truncated-short s e = subst (Short 2 s) e (scan-short 1 3 s)
-
--- ---- one byte more
 
 abbrev Last : Scan → Type 0
 Last (value v n r) = r ≡ []
@@ -63,10 +21,6 @@ carry-last low (value v n r) h = h
 carry-last low truncated h = tt
 carry-last low malformed h = tt
 
-last-cond : (b : Bool) (x y : Scan) → Last x → Last y → Last (cond b x y)
-last-cond true x y h j = h
-last-cond false x y h j = j
-
 -- the carry of a scan is truncated only where that is
 carry-truncated : (low : ℕ) (x : Scan) → carry low x ≡ truncated → x ≡ truncated
 unfolding carry
@@ -77,12 +31,12 @@ carry-truncated low malformed e = absurd (let z : _≡_ {A = ℕ} 0 1 = cc in om
 later-one : (k top x : ℕ) → Last (later k top (x ∷ []))
 unfolding later
 later-one zero top x =
-    last-cond (eqb x 0) malformed (cond (leb x top) (value x 1 []) malformed) tt
-    (last-cond (leb x top) (value x 1 []) malformed refl tt)
+    cond-cases Last (eqb x 0) malformed _ (λ _. tt)
+    (λ _. cond-cases Last (leb x top) (value x 1 []) malformed (λ _. refl) (λ _. tt))
 later-one (suc k) top x =
-    last-cond (eqb x 0) malformed (cond (ltb x 128) (value x 1 []) (carry (x - 128) (later k top []))) tt
-    (last-cond (ltb x 128) (value x 1 []) (carry (x - 128) (later k top [])) refl
-    (carry-last (x - 128) (later k top []) tt))
+    cond-cases Last (eqb x 0) malformed _ (λ _. tt)
+    (λ _. cond-cases Last (ltb x 128) (value x 1 []) (carry (x - 128) (later k top [])) (λ _. refl)
+    (λ _. carry-last (x - 128) (later k top []) tt))
 
 later-last : (k top x : ℕ) (s : List ℕ) → later k top s ≡ truncated → Last (later k top (s ++ (x ∷ [])))
 unfolding later
@@ -108,7 +62,8 @@ scan-last : (k top x : ℕ) (s : List ℕ) → scanWith (suc k) top s ≡ trunca
     → Last (scanWith (suc k) top (s ++ (x ∷ [])))
 unfolding scanWith later
 scan-last k top x [] e =
-    last-cond (ltb x 128) (value x 1 []) (carry (x - 128) truncated) refl (carry-last (x - 128) truncated tt)
+    cond-cases Last (ltb x 128) (value x 1 []) (carry (x - 128) truncated) (λ _. refl)
+    (λ _. carry-last (x - 128) truncated tt)
 scan-last k top x (a ∷ s) e = by (ltb a 128) e
   where
     by : (q : Bool) → cond q (value a 1 s) (carry (a - 128) (later k top s)) ≡ truncated

@@ -15,6 +15,7 @@ use Rattle.table_index.specs.Index.{tableIn}
 use Rattle.monitor_spec.specs.State.{Monitor}
 use Rattle.state.specs.declared.record.State.{State}
 use Rattle.state.specs.Record.{monitorOf}
+use Rattle.line_spec.specs.Judged.Laws.{flatten-last}
 use Rattle.line_spec.specs.Judged.Taken.{event-took}
 use Rattle.trace_spec.specs.TraceLine.{TraceLine, refuses}
 use Rattle.trace_spec.specs.Trace.{traceOf}
@@ -112,11 +113,6 @@ module _ (l : List ℕ) (m : Monitor) (e : ℕ) (y : TraceLine) (a b : List ℕ)
 
 -- ---- some reads
 
-flatten-last : (ess : List (List ℕ)) (es : List ℕ) → flatten ess ++ es ≡ flatten (ess ++ es ∷ [])
-unfolding flatten
-flatten-last [] es = sym (append-nil es)
-flatten-last (fs ∷ ess) es = append-assoc fs (flatten ess) es ∙ ap (λ (v : List ℕ). fs ++ v) (flatten-last ess es)
-
 some-last : (ess : List (List ℕ)) (es : List ℕ) → EachSome ess → 0 < length es → EachSome (ess ++ es ∷ [])
 some-last [] es h i = (i, tt)
 some-last (fs ∷ ess) es (f, h) i = (f, some-last ess es h i)
@@ -135,7 +131,7 @@ module _ (t : Table) (m : Monitor) (x : TraceLine) where
         record {
           reads = gone .reads ++ es ∷ [];
           some = each;
-          onward = subst (λ (v : List ℕ). Onward t m x v f z) (flatten-last (gone .reads) es)
+          onward = subst (λ (v : List ℕ). Onward t m x v f z) (sym (flatten-last (gone .reads) es))
               (onward-then t m x (flatten (gone .reads)) d y (gone .onward) es f z h);
         }
 
@@ -144,6 +140,6 @@ module _ (t : Table) (m : Monitor) (x : TraceLine) where
         record {
           reads = gone .reads ++ es ∷ [];
           some = each;
-          refused = subst (λ (v : List ℕ). RefusedIn t m v z) (flatten-last (gone .reads) es)
+          refused = subst (λ (v : List ℕ). RefusedIn t m v z) (sym (flatten-last (gone .reads) es))
               (refused-then t m x (flatten (gone .reads)) d y (gone .onward) es z h);
         }

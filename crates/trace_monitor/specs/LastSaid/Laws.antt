@@ -15,7 +15,7 @@ use Rattle.input.specs.declared.reading.End.{End}
 use Rattle.trace_spec.specs.TraceLine.{TraceLine, refuses}
 use Rattle.trace_spec.specs.Trace.{Beginning, begins, declines, beginningOf, eventLines, startLine, traceFrom, traceOf}
 use Rattle.trace_spec.specs.Trace.{lineBy}
-use Rattle.trace_spec.specs.Trace.Last.{last-line}
+use Rattle.trace_spec.specs.Trace.Last.{last-same, last-line}
 use Rattle.trace_spec.specs.Reads.{at, ended, reachedIn, reachedAt, reachedAfter, reachedFrom, reachedBy, Decided}
 use Rattle.trace_spec.specs.Reads.Laws.{ended-stands}
 use Rattle.trace_monitor.specs.declared.print.Said.{Said}
@@ -26,20 +26,10 @@ use Rattle.trace_monitor.specs.LastSaid.{LastSaid, AfterReads, WhateverF
 
 -- ---- the last line of a trace
 
-lastIn : TraceLine → List TraceLine → TraceLine
-lastIn d [] = d
-lastIn d (x ∷ xs) = lastIn x xs
-
-last-snoc : (d y : TraceLine) (xs : List TraceLine) → lastIn d (xs ++ y ∷ []) ≡ y
-unfolding lastIn
-last-snoc d y [] = refl
-last-snoc d y (x ∷ xs) = last-snoc x y xs
-
 pub last-said : (s : List ℕ) (x : TraceLine) → LastLine s x → LastSaid s x
 last-said s x h =
     let o = last-line s in
-    let q : x ≡ o .last =
-    sym (last-snoc x x (h .before)) ∙ ap (lastIn x) (sym (h .split) ∙ o .split) ∙ last-snoc x (o .last) (o .before) in
+    let q : x ≡ o .last = last-same x (o .last) (h .before) (o .before) (sym (h .split) ∙ o .split) in
     record { last = h; line = ap lineBy q ∙ o .says }
 
 one-line : (s : List ℕ) (x : TraceLine) → traceOf s ≡ x ∷ [] → LastSaid s x

@@ -18,12 +18,12 @@ use Rattle.monitor_spec.specs.Fold.{Step, went, stops, through}
 use Rattle.monitor_spec.specs.Fold.Laws.{through-went, through-stops, through-at}
 use Rattle.monitor_spec.specs.Feed.{takeEvent}
 use Rattle.line_spec.specs.Line.{Head, parts, wrong, headOf, fresh}
+use Rattle.line_spec.specs.Line.Heads.{parts-more, over-more, loose-more}
 use Rattle.line_spec.specs.Pieces.Laws.{fold-why}
 use Rattle.trace_spec.specs.TraceLine.{TraceLine, takes, refuses, Reports}
 use Rattle.trace_spec.specs.Trace.{Beginning, begins, declines, beginOpen, beginList, beginTable, beginHead}
 use Rattle.trace_spec.specs.Trace.{beginningOf, permittedBy, eventLines, startLine, traceFrom, traceOf}
-use Rattle.trace_spec.specs.Trace.Heads.{parts-more, over-more, loose-more}
-use Rattle.trace_spec.specs.Trace.Lines.{lines-went, lines-stops, onward}
+use Rattle.trace_spec.specs.Trace.Lines.{lines-went, lines-stops, lines-to}
 use Rattle.trace_spec.specs.Reads.{Configuration, at, ended, readLines, reachedIn, reachedAt, reachedAfter}
 use Rattle.trace_spec.specs.Reads.{reachedFrom, reachedBy, readsFrom, readsOf, Decided, tableThere, lengthOver}
 use Rattle.trace_spec.specs.Reads.{lengthLoose}
@@ -234,7 +234,7 @@ reached-last s t m h = by (beginningOf s) refl h
         → EndsAt (startLine x u ∷ eventLines x u es) t m
     ends x u es (some n) e g = absurd (let z : _≡_ {A = ℕ} 0 1 = cc in omega arith)
     ends x u es none e g =
-        let o = onward x es u 0 (startLine x u) (refl, refl) e in
+        let o = lines-to x es u 0 (startLine x u) (refl, refl) e in
         let (p, q) = same x t ((through (takeEvent x) u 0 es) .at) m g in
         let r : startLine x u ∷ eventLines x u es ≡ o .before ++ o .last ∷ [] =
         ap (λ (z : List ℕ). startLine x u ∷ eventLines x u z) (sym (append-nil es)) ∙ o .split [] in

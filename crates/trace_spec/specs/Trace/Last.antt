@@ -1,6 +1,7 @@
 -- The last line of a trace says what `line_monitor` prints of the input.
+--     last-same      a list has one last line
 --     Ends           a list of lines by its last
---     last-said      of events, from a monitor on;  last-line: of an input
+--     events-last    of events, from a monitor on;  last-line: of an input
 -- Assumes nothing.
 use Prim.Native.Nat.{ℕ, suc, _≤_, _<_}
 use native.Mathlib.Omega.{arith}
@@ -19,14 +20,28 @@ use Rattle.monitor_spec.specs.Open.Laws.{exceededOf, open-declined, open-exceed
 use Rattle.monitor_spec.specs.Joined.{residualCount}
 use Rattle.line_spec.specs.Line.{parts, wrong, headOf, Line, stateLine, answerLine, readLine, headLine, lineOf}
 use Rattle.line_spec.specs.Line as line
+use Rattle.line_spec.specs.Line.Laws.{slots-256}
 use Rattle.line_spec.specs.Line.Opened.{whole-opened}
 use Rattle.line_spec.specs.Judged.Taken.{event-took}
 use Rattle.trace_spec.specs.TraceLine.{TraceLine, takes, refuses}
 use Rattle.trace_spec.specs.Trace.{Beginning, beginningOf, permittedBy, eventLines, startLine, traceFrom, traceOf}
 use Rattle.trace_spec.specs.Trace.{Begins, lineBy}
 use Rattle.trace_spec.specs.Trace.Begun.{BeginWay, badHead, badTable, badList, exceeds, opens, begin-ways}
-use Rattle.trace_spec.specs.Trace.Begun.{lent-256, slots-256}
+use Rattle.trace_spec.specs.Trace.Begun.{lent-256}
 use Rattle.trace_spec.specs.Trace.Lines.{lines-went, lines-stops}
+
+-- the last of x and then the lines xs
+lastIn : TraceLine → List TraceLine → TraceLine
+lastIn x [] = x
+lastIn x (y ∷ ys) = lastIn y ys
+
+last-in : (x y : TraceLine) (xs : List TraceLine) → lastIn x (xs ++ y ∷ []) ≡ y
+unfolding lastIn
+last-in x y [] = refl
+last-in x y (z ∷ xs) = last-in z y xs
+
+pub last-same : (x y : TraceLine) (xs ys : List TraceLine) → xs ++ x ∷ [] ≡ ys ++ y ∷ [] → x ≡ y
+last-same x y xs ys e = sym (last-in x x xs) ∙ ap (lastIn x) e ∙ last-in x y ys
 
 -- the last of the lines xs says x
 pub record Ends (xs : List TraceLine) (x : Line) : Type 0 where
@@ -42,13 +57,13 @@ unfoldable endLine : Ended Monitor → Line
 endLine x = answerLine (endingOf 0 x .answer)
 
 -- from a line that reports the monitor m, which has taken k events
-last-said : (t : Table) (es : List ℕ) (m : Monitor) (k : ℕ) (x : TraceLine) → k ≡ m .state .taken
+events-last : (t : Table) (es : List ℕ) (m : Monitor) (k : ℕ) (x : TraceLine) → k ≡ m .state .taken
     → lineBy x ≡ stateLine (m .state) → Ends (x ∷ eventLines t m es) (endLine (through (takeEvent t) m k es))
 unfolding eventLines through endLine endingOf answerLine lineBy
-last-said t [] m k x i s = record { before = []; last = x; split = refl; says = s }
-last-said t (e ∷ es) m k x i s =
+events-last t [] m k x i s = record { before = []; last = x; split = refl; says = s }
+events-last t (e ∷ es) m k x i s =
     by (takeEvent t m e) refl
-    (λ d j. last-said t es d (suc k) (takes e (d .state) (permittedBy t d)) j refl)
+    (λ d j. events-last t es d (suc k) (takes e (d .state) (permittedBy t d)) j refl)
   where
     S : Monitor → ℕ → Step Monitor
     S = takeEvent t
@@ -129,7 +144,7 @@ module _ (s : List ℕ) where
   begun-said ns t es g =
       let m : Monitor = freshMonitor t 256 in
       subst (Ends (startLine t m ∷ eventLines t m es)) (line-runs ns t es g)
-      (last-said t es m 0 (startLine t m) refl refl)
+      (events-last t es m 0 (startLine t m) refl refl)
 
   pub last-line : Ends (traceOf s) (lineOf s)
   unfolding traceOf traceFrom

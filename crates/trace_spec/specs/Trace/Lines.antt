@@ -1,7 +1,7 @@
 -- The lines of events, from a monitor on.
 --     lines-went, lines-stops     of one event that is taken, or refused
 --     OnlyLast, lines-last        a refusal is the last line
---     Onward, onward              where events are taken, a line for each, and the last reports the monitor then
+--     LinesTo, lines-to           where events are taken, a line for each, and the last reports the monitor then
 --     Each, each                  a line for each event that is taken, and then a refusal or none
 -- Assumes nothing.
 use Prim.Native.Nat.{ℕ, suc, _+_}
@@ -51,32 +51,32 @@ lines-last t m (e ∷ es) = by (takeEvent t m e) refl (λ d. lines-last t d es)
 -- ---- events that are taken
 
 -- from a line x on, before the lines of events fs: after them the monitor d stands, and its line is the last
-pub record Onward (t : Table) (x : TraceLine) (m : Monitor) (fs : List ℕ) (d : Monitor) : Type 0 where
+pub record LinesTo (t : Table) (x : TraceLine) (m : Monitor) (fs : List ℕ) (d : Monitor) : Type 0 where
   pub before : List TraceLine
   pub last : TraceLine
   pub split : (rest : List ℕ) → x ∷ eventLines t m (fs ++ rest) ≡ before ++ last ∷ eventLines t d rest
   pub place : length before ≡ length fs
   pub reports : Reports last (d .state) (permittedBy t d)
 
-pub onward : (t : Table) (fs : List ℕ) (m : Monitor) (k : ℕ) (x : TraceLine) → Reports x (m .state) (permittedBy t m)
-    → (through (takeEvent t) m k fs) .why ≡ none → Onward t x m fs ((through (takeEvent t) m k fs) .at)
+pub lines-to : (t : Table) (fs : List ℕ) (m : Monitor) (k : ℕ) (x : TraceLine) → Reports x (m .state) (permittedBy t m)
+    → (through (takeEvent t) m k fs) .why ≡ none → LinesTo t x m fs ((through (takeEvent t) m k fs) .at)
 unfolding through
-onward t [] m k x s h = record { before = []; last = x; split = λ rest. refl; place = refl; reports = s }
-onward t (e ∷ fs) m k x s h =
+lines-to t [] m k x s h = record { before = []; last = x; split = λ rest. refl; place = refl; reports = s }
+lines-to t (e ∷ fs) m k x s h =
     by (takeEvent t m e) refl
-    (λ d. onward t fs d (suc k) (takes e (d .state) (permittedBy t d)) (refl, refl))
+    (λ d. lines-to t fs d (suc k) (takes e (d .state) (permittedBy t d)) (refl, refl))
   where
     S : Monitor → ℕ → Step Monitor
     S = takeEvent t
 
     by : (y : Step Monitor) → takeEvent t m e ≡ y
         → ((d : Monitor) → (through S d (suc k) fs) .why ≡ none
-        → Onward t (takes e (d .state) (permittedBy t d)) d fs ((through S d (suc k) fs) .at))
-        → Onward t x m (e ∷ fs) ((through S m k (e ∷ fs)) .at)
+        → LinesTo t (takes e (d .state) (permittedBy t d)) d fs ((through S d (suc k) fs) .at))
+        → LinesTo t x m (e ∷ fs) ((through S m k (e ∷ fs)) .at)
     by (went d) g ih =
         let w = through-went S m d k e fs g in
         let o = ih d (sym (ap (λ (z : Ended Monitor). z .why) w) ∙ h) in
-        subst (Onward t x m (e ∷ fs)) (sym (ap (λ (z : Ended Monitor). z .at) w))
+        subst (LinesTo t x m (e ∷ fs)) (sym (ap (λ (z : Ended Monitor). z .at) w))
         (record {
           before = x ∷ o .before;
           last = o .last;

@@ -1,6 +1,7 @@
 -- The events of two words are those whose bits are set, ascending.
---     from-exact      of one word
---     in-exact        of both;  in-ascending: their order
+--     from-set, from-clear     one event more, by its bit
+--     from-exact               of one word
+--     in-exact                 of both;  in-ascending: their order
 -- Assumes nothing.
 use Prim.Native.Nat.{ℕ, zero, suc, _+_, _-_, _/_, _%_, _^_, _≤_, _<_}
 use native.Mathlib.Omega.{arith}
@@ -57,11 +58,11 @@ elem-cases e (x ∷ l) r h = by (ℕ-discrete e x) (elem-cases e l r)
 
 -- ---- one word
 
-from-set : (w b k : ℕ) → w % 2 ≡ 1 → eventsFrom w b (suc k) ≡ b ∷ eventsFrom (w / 2) (suc b) k
+pub from-set : (w b k : ℕ) → w % 2 ≡ 1 → eventsFrom w b (suc k) ≡ b ∷ eventsFrom (w / 2) (suc b) k
 unfolding eventsFrom
 from-set w b k h = rw (eq-eqb (w % 2) 1 h, eventsFrom)
 
-from-clear : (w b k : ℕ) → (w % 2 ≡ 1 → ⊥) → eventsFrom w b (suc k) ≡ eventsFrom (w / 2) (suc b) k
+pub from-clear : (w b k : ℕ) → (w % 2 ≡ 1 → ⊥) → eventsFrom w b (suc k) ≡ eventsFrom (w / 2) (suc b) k
 unfolding eventsFrom
 from-clear w b k h = rw (ne-eqb (w % 2) 1 h, eventsFrom)
 

@@ -23,7 +23,7 @@ use Rattle.trace_spec.specs.Trace.{Beginning, begins, declines, Begins, 
 use Rattle.trace_spec.specs.Trace.{startLine, traceFrom, traceOf, lineBy}
 use Rattle.trace_spec.specs.Trace.Begun.{begins-in, begins-out}
 use Rattle.trace_spec.specs.Trace.Lines.{OnlyLast, lines-last, Each, allTaken, stopsAt, each}
-use Rattle.trace_spec.specs.Trace.Last.{Ends, last-line}
+use Rattle.trace_spec.specs.Trace.Last.{last-same, Ends, last-line}
 use Rattle.trace_spec.specs.Reads.{Configuration, at, ended, reachedBy, Decided}
 use Rattle.trace_spec.specs.Reads.Laws.{ended-stands, reached-last}
 use Rattle.trace_spec.specs.Ways.{TraceWay, onlyRefusal, takesAll, takesSome}
@@ -107,16 +107,6 @@ refusal-last s before after n p e = only-out (traceOf s) before after n p (by (b
     by (begins ns t m es) = lines-last t m es
     by (declines j k) = refl
 
--- the last of a list
-lastIn : TraceLine → List TraceLine → TraceLine
-lastIn d [] = d
-lastIn d (x ∷ xs) = lastIn x xs
-
-last-snoc : (d y : TraceLine) (xs : List TraceLine) → lastIn d (xs ++ y ∷ []) ≡ y
-unfolding lastIn
-last-snoc d y [] = refl
-last-snoc d y (x ∷ xs) = last-snoc x y xs
-
 pub refusal-stands : (s : List ℕ) (before : List TraceLine) (n p : ℕ) → Decided s
     → traceOf s ≡ before ++ refuses n p ∷ [] → (r : List ℕ) → traceOf (s ++ r) ≡ traceOf s
 refusal-stands s before n p d e r = by (reachedBy s) refl
@@ -126,7 +116,5 @@ refusal-stands s before n p d e r = by (reachedBy s) refl
     by (at t m) h =
         let o = reached-last s t m h in
         let q : o .last ≡ refuses n p =
-        sym (last-snoc (refuses n p) (o .last) (o .before))
-        ∙ ap (lastIn (refuses n p)) (sym (o .split) ∙ e)
-        ∙ last-snoc (refuses n p) (refuses n p) before in
+        last-same (o .last) (refuses n p) (o .before) before (sym (o .split) ∙ e) in
         absurd (subst (λ (x : TraceLine). Reports x (m .state) (permittedBy t m)) q (o .reports))

@@ -31,12 +31,13 @@ use Rattle.monitor_spec.specs.Expected.Steps.{Fed}
 use Rattle.monitor_spec.specs.History.Laws.{extends, measured, after-consistent}
 use Rattle.monitor_spec.specs.History.Begun.{fresh-after, fresh-fed}
 use Rattle.line_spec.specs.Line.{monitorLeft}
+use Rattle.line_spec.specs.Line.Laws.{slots-256}
 use Rattle.line_spec.specs.Pieces.Laws as pieces
 use Rattle.trace_spec.specs.TraceLine.{TraceLine, starts, takes, refuses, Reports, LineAt}
 use Rattle.trace_spec.specs.Trace.{Beginning, begins, declines, Begins, beginningOf, permittedBy, eventLines}
 use Rattle.trace_spec.specs.Trace.{startLine, traceFrom, traceOf}
 use Rattle.trace_spec.specs.Ways.{OffersThere}
-use Rattle.trace_spec.specs.Trace.Begun.{lent-256, slots-256, begins-out}
+use Rattle.trace_spec.specs.Trace.Begun.{lent-256, begins-out}
 use Rattle.trace_spec.specs.Trace.Lines.{lines-went, lines-stops}
 
 -- ---- Offer

@@ -3,13 +3,13 @@
 --     events-next                of the events from one on: that one, and then the rest
 --     events-both                of both words
 -- Assumes nothing.
-use Prim.Native.Nat.{ℕ, zero, suc, _/_, _%_}
+use Prim.Native.Nat.{ℕ, suc, _/_, _%_}
 use native.Mathlib.Decide.{ℕ-discrete}
 use mathlib.Core.Path.{_≡_, refl, ap, sym, _∙_}
 use mathlib.Core.List.{List, [], _∷_, _++_, append-assoc, append-nil}
-use borrow.Author.Tests.{eq-eqb, ne-eqb}
 use Rattle.monitor_spec.specs.Offer.{EventBits, wordBits}
 use Rattle.trace_spec.specs.TraceLine.{eventsFrom, eventsIn}
+use Rattle.trace_spec.specs.TraceLine.Laws.{from-set, from-clear}
 use Rattle.trace_text.specs.TraceText.{numberText, numbersText}
 
 pub numbers-join : (xs ys : List ℕ) → numbersText (xs ++ ys) ≡ numbersText xs ++ numbersText ys
@@ -18,15 +18,6 @@ numbers-join [] ys = refl
 numbers-join (x ∷ xs) ys =
     ap (λ (l : List ℕ). numberText x ++ l) (numbers-join xs ys)
     ∙ sym (append-assoc (numberText x) (numbersText xs) (numbersText ys))
-
-module _ (w b k : ℕ) where
-  from-set : w % 2 ≡ 1 → eventsFrom w b (suc k) ≡ b ∷ eventsFrom (w / 2) (suc b) k
-  unfolding eventsFrom
-  from-set h = rw (eq-eqb (w % 2) 1 h, eventsFrom)
-
-  from-clear : (w % 2 ≡ 1 → ⊥) → eventsFrom w b (suc k) ≡ eventsFrom (w / 2) (suc b) k
-  unfolding eventsFrom
-  from-clear h = rw (ne-eqb (w % 2) 1 h, eventsFrom)
 
 pub text-set : (w b : ℕ) → w % 2 ≡ 1 → numbersText (eventsFrom w b 1) ≡ numberText b
 unfolding numbersText eventsFrom
