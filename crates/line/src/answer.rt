@@ -3,6 +3,13 @@ use format::Line;
 use state::State;
 use table::Refusal;
 
+// A table's numbers, the first `count` of the lent list, with the place of the first event; or a
+// refusal.
+pub enum TableRead {
+    Numbers { count: usize, next: usize },
+    Refused(Refusal),
+}
+
 // A fresh monitor on the first `count` numbers of the lent list, with the place of the first event;
 // or a refusal.
 pub enum Opened {

@@ -6,14 +6,17 @@
 //     after_piece             a course where the input ended, or did not
 //     take_piece              `resume` on a piece, and then `after_piece`
 //     head                    where the table and the events of an input are
+//     read_table              its head and its table, read into a lent list
 //     lent_fit                whether lent lengths are the program's
 mod answer;
 mod feeder;
 mod opener;
+mod reader;
 mod whole;
 
 pub use answer::Course;
 pub use answer::Opened;
+pub use answer::TableRead;
 pub use feeder::after_piece;
 pub use feeder::resume;
 pub use feeder::take_piece;
@@ -21,6 +24,7 @@ pub use format::Head;
 pub use format::Line;
 pub use format::conclude;
 pub use format::head;
-pub use opener::lent_fit;
 pub use opener::open;
+pub use reader::lent_fit;
+pub use reader::read_table;
 pub use whole::line;

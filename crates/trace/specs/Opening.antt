@@ -1,6 +1,6 @@
 -- What the functions on the front of an input promise.
 --     Starts            a monitor that was opened, by what a beginning comes to for any events
---     ListOpened, TableOpened     of a list; of a table's bytes
+--     ListOpened        of a list
 --     TraceOpened       the promise of `open_trace`
 -- The laws are in `Opening/Laws.antt`. Assumes nothing.
 use Prim.Native.Nat.{ℕ, _≤_}
@@ -8,14 +8,14 @@ use mathlib.Core.Path.{_≡_}
 use mathlib.Core.Bool.{true, false}
 use mathlib.Core.List.{List}
 use lib.ListN.{length, take, drop}
-use Rattle.table.specs.Judge.{judgeBytes, judgeList}
+use Rattle.table.specs.Judge.{judgeList}
 use Rattle.table_index.specs.Index.{tableIn}
 use Rattle.state.specs.declared.record.State.{State}
 use Rattle.state.specs.declared.answer.EventBits.{EventBits}
 use Rattle.state.specs.Record.{monitorOf}
 use Rattle.state.specs.Answers.{bitsOf}
 use Rattle.line_spec.specs.Opening.{lent}
-use Rattle.trace_spec.specs.Trace.{Beginning, begins, declines, beginList, beginTable, beginningOf, permittedBy}
+use Rattle.trace_spec.specs.Trace.{Beginning, begins, declines, beginList, beginningOf, permittedBy}
 use Rattle.trace.specs.declared.answer.Opened.{Opened}
 use Rattle.trace.specs.declared.answer.Opened.the-variants.{Started, Refused}
 use Rattle.trace.specs.Tracing.{Tracing}
@@ -37,15 +37,6 @@ OpensOn beginning l next (Refused q) a b w = (es : List ℕ) → beginning es �
 
 abbrev pub ListOpened : List ℕ → ℕ → Opened → List ℕ → List ℕ → List ℕ → Type 0
 ListOpened l next r a b w = OpensOn (λ es. beginList l es (judgeList l)) l next r a b w
-
--- on the first `count` numbers of the list l
-abbrev pub OpensIn : (List ℕ → Beginning) → ℕ → Opened → List ℕ → List ℕ → List ℕ → List ℕ → Type 0
-OpensIn beginning next (Started s bits count place) l a b w =
-    (count ≤ length l) × (place ≡ next) × Starts beginning (take count l) s bits a b w
-OpensIn beginning next (Refused q) l a b w = (es : List ℕ) → beginning es ≡ declines (q .number) (q .place)
-
-abbrev pub TableOpened : List ℕ → ℕ → Opened → List ℕ → List ℕ → List ℕ → List ℕ → Type 0
-TableOpened bs next r l a b w = OpensIn (λ es. beginTable es (judgeBytes bs)) next r l a b w
 
 -- ---- an input
 

@@ -3,13 +3,11 @@
 ghost use mathlib.Core.Path.{_≡_};
 ghost use lib.ListN.{length};
 ghost use Rattle.table_index.specs.Index.{Indexed};
-ghost use Rattle.trace.specs.Opening.{ListOpened, TableOpened, TraceOpened};
-ghost use Rattle.line_spec.specs.Opening.Front.{Lengths};
+ghost use Rattle.trace.specs.Opening.{ListOpened, TraceOpened};
 use crate::answer::Opened;
 use entering::enter;
-use format::Head;
-use format::head;
-use line::lent_fit;
+use line::TableRead;
+use line::read_table;
 use offering::offered;
 use opening::resolve_last;
 use slots::Held;
@@ -63,26 +61,6 @@ fn open_list(
     }
 }
 
-// Reads a table and opens a monitor on it.
-fn open_table(
-    bytes: &[u8],
-    next: usize,
-    list: &mut [u16],
-    area0: &mut [u64],
-    area1: &mut [u64],
-    work: &mut [u64],
-) -> Opened
-    requires { ⌜ Lengths (now list) (now area0) (now area1) (now work) ⌝ }
-    ensures { λ r.
-        ⌜ TableOpened (now (bytes .entry)) next
-        r (now (list .exit)) (now (area0 .exit)) (now (area1 .exit)) (now (work .exit)) ⌝ }
-{
-    match codec::read(bytes, list, work) {
-        table::Answer::Count(count) => open_list(&list[..count], next, area0, area1, work),
-        table::Answer::Refused(refusal) => Opened::Refused(refusal),
-    }
-}
-
 // Reads the head and the table of an input, of which events may be missing, and opens the monitor.
 // Lent lengths are tried first.
 pub fn open_trace(
@@ -97,14 +75,8 @@ pub fn open_trace(
         (now (area1 .entry)) (now (work .entry))
         r (now (list .exit)) (now (area0 .exit)) (now (area1 .exit)) (now (work .exit)) ⌝ }
 {
-    if !lent_fit(list.len(), area0.len(), area1.len(), work.len()) {
-        return Opened::Refused(Refusal {
-            number: 1,
-            place: 0,
-        });
-    }
-    match head(input) {
-        Head::Parts(from, to) => open_table(&input[from..to], to, list, area0, area1, work),
-        Head::Wrong(refusal) => Opened::Refused(refusal),
+    match read_table(input, list, area0, area1, work) {
+        TableRead::Numbers { count, next } => open_list(&list[..count], next, area0, area1, work),
+        TableRead::Refused(refusal) => Opened::Refused(refusal),
     }
 }

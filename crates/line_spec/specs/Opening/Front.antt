@@ -1,6 +1,7 @@
 -- What `openOf` leaves is the front of the input.
 --     lent-out, lent-in          the lent lengths
---     open-fit, open-unfit       by the test of them
+--     open-unfit                 where one is wrong
+--     open-wrong, open-accepted, open-declined     by the head, and by Read's judgement
 --     open-ways                  its ways
 --     open-course, open-began    the course is that of the front; where there is a record, what holds besides
 -- Assumes nothing.
@@ -13,6 +14,7 @@ use lib.ListN.{length, take, drop, length-append}
 use lib.Seq.{take-append-seam}
 use lib.Dec.{eqb}
 use borrow.Author.Tests.{eq-eqb, eqb-true}
+use Rattle.table.specs.Table.{Table}
 use Rattle.table.specs.Judge.{Judgement, accepted, declined, judgeBytes}
 use Rattle.table.specs.Operations.{zeros}
 use Rattle.monitor_spec.specs.Valid.Laws.{and-split}
@@ -49,7 +51,7 @@ unfolding lentFit
 lent-in l a b w h = rw (eq-eqb _ _ (h .list), eq-eqb _ _ (h .area0), eq-eqb _ _ (h .area1), eq-eqb _ _ (h .work)) refl
 
 module _ (s l a b w : List ℕ) where
-  pub open-fit : lent l a b w ≡ true → openOf s l a b w ≡ openHead (length s) (headOf s) l a b w
+  open-fit : lent l a b w ≡ true → openOf s l a b w ≡ openHead (length s) (headOf s) l a b w
   unfolding openOf
   open-fit e = rw (e, openOf)
 
@@ -63,26 +65,38 @@ module _ (s l a b w : List ℕ) where
   headed : lent l a b w ≡ true → (h : Head) → headOf s ≡ h → openOf s l a b w ≡ openHead (length s) h l a b w
   headed e h k = open-fit s l a b w e ∙ ap (λ (x : Head). openHead (length s) x l a b w) k
 
-  judged : (bs es : List ℕ) → lent l a b w ≡ true → headOf s ≡ parts bs es → (j : Judgement) → judgeBytes bs ≡ j
-      → OpenWay s l a b w (openOf s l a b w)
-  unfolding openHead openRefused startedOn
-  judged bs es e h (accepted ns t) j =
-      let d = lent-out l a b w e in
-      subst (OpenWay s l a b w) (sym (headed e (parts bs es) h
-      ∙ table-accepted bs (length s - length es) l a b w (d .list) (d .work) ns t j)) (tableAccepted bs es ns t e h j)
-  judged bs es e h (declined n p) j =
-      let d = lent-out l a b w e in
-      subst (OpenWay s l a b w) (sym (headed e (parts bs es) h
-      ∙ table-declined bs (length s - length es) l a b w (d .list) (d .work) n p j)) (tableDeclined bs es n p e h j)
+  pub open-wrong : lent l a b w ≡ true → (n p : ℕ) → headOf s ≡ wrong n p → openOf s l a b w ≡ openRefused n p l a b w
+  unfolding openHead
+  open-wrong e n p h = headed e (wrong n p) h
+
+  module _ (e : lent l a b w ≡ true) (bs es : List ℕ) (h : headOf s ≡ parts bs es) where
+    pub open-accepted : (ns : List ℕ) (t : Table) → judgeBytes bs ≡ accepted ns t → openOf s l a b w
+        ≡ startedOn (length ns) (length s - length es) (ns ++ zeros (16384 - length ns)) (freshOn ns a b (zeros 8192))
+    unfolding openHead
+    open-accepted ns t j =
+        let d = lent-out l a b w e in
+        headed e (parts bs es) h ∙ table-accepted bs (length s - length es) l a b w (d .list) (d .work) ns t j
+
+    pub open-declined : (n p : ℕ) → judgeBytes bs ≡ declined n p → openOf s l a b w
+        ≡ openRefused n p (zeros 16384) a b (zeros 8192)
+    unfolding openHead
+    open-declined n p j =
+        let d = lent-out l a b w e in
+        headed e (parts bs es) h ∙ table-declined bs (length s - length es) l a b w (d .list) (d .work) n p j
+
+    judged : (j : Judgement) → judgeBytes bs ≡ j → OpenWay s l a b w (openOf s l a b w)
+    unfolding openRefused startedOn
+    judged (accepted ns t) j = subst (OpenWay s l a b w) (sym (open-accepted ns t j)) (tableAccepted bs es ns t e h j)
+    judged (declined n p) j = subst (OpenWay s l a b w) (sym (open-declined n p j)) (tableDeclined bs es n p e h j)
 
   pub open-ways : OpenWay s l a b w (openOf s l a b w)
-  unfolding openHead openRefused
+  unfolding openRefused
   open-ways = by (lent l a b w) refl (headOf s) refl
     where
       by : (x : Bool) → lent l a b w ≡ x → (h : Head) → headOf s ≡ h → OpenWay s l a b w (openOf s l a b w)
       by false e h k = subst (OpenWay s l a b w) (sym (open-unfit s l a b w e)) (lengthsWrong e)
-      by true e (wrong n p) h = subst (OpenWay s l a b w) (sym (headed e (wrong n p) h)) (headWrong n p e h)
-      by true e (parts bs es) h = judged bs es e h (judgeBytes bs) refl
+      by true e (wrong n p) h = subst (OpenWay s l a b w) (sym (open-wrong e n p h)) (headWrong n p e h)
+      by true e (parts bs es) h = judged e bs es h (judgeBytes bs) refl
 
 -- ---- the course
 

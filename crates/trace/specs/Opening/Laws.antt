@@ -2,25 +2,19 @@
 -- says of the trace.
 --     settled-tracing, settled-starts, settled-exceeds     of a list that is indexed
 --     list-enters, list-declined                           of a list
---     table-count, table-refused                           of a table's bytes
---     front-unfit, front-parts, front-wrong                of an input
+--     front-numbers, front-declined                        of an input, by the table that was read
 --     front-reached, front-trace, front-refused            the trace of an input that has no event yet
 -- Assumes nothing.
 use Prim.Native.Nat.{ℕ, _-_, _≤_, _<_}
 use native.Mathlib.Omega.{arith}
 use mathlib.Core.Path.{_≡_, refl, ap, sym, subst, _∙_}
-use mathlib.Core.Bool.{true, false, _&&_}
+use mathlib.Core.Bool.{true, _&&_}
 use mathlib.Core.List.{List, [], _∷_}
 use lib.ListN.{length, take, drop}
 use Rattle.table.specs.Table.{Table}
-use Rattle.table.specs.Judge.{Judgement, accepted, declined, judgeBytes, judgeList}
+use Rattle.table.specs.Judge.{Judgement, accepted, declined, judgeList}
 use Rattle.table.specs.Judge.Laws.{list-out}
-use Rattle.table.specs.Operations.{zeros, done, refusal, readJudged, readOf}
-use Rattle.table.specs.Operations as read
-use Rattle.table.specs.Operations.Laws.{ReadDone, read-done}
-use Rattle.table.specs.Answers as tableAnswers
-use Rattle.table.specs.declared.answer.Answer as tableCode
-use Rattle.table.specs.declared.answer.Answer.the-variants as told
+use Rattle.table.specs.Operations.{zeros}
 use Rattle.table.specs.declared.answer.Refusal.{Refusal}
 use Rattle.table.specs.declared.answer.Judged.{Judged}
 use Rattle.table.specs.declared.answer.Judged.the-variants.{Accepted, Declined}
@@ -45,14 +39,13 @@ use Rattle.entering.specs.Entered.{Entered}
 use Rattle.entering.specs.Entered.Laws.{entered-shut, entered-open}
 use Rattle.opening.specs.Opening.{Resolved}
 use Rattle.opening.specs.Opening.Laws.{fresh-same}
-use Rattle.format.specs.declared.answer.Head as headCode
-use Rattle.format.specs.declared.answer.Head.the-variants.{Parts, Wrong}
-use Rattle.format.specs.Head.{HeadIs, HeadSaid}
-use Rattle.format.specs.Head.Laws.{head-within}
-use Rattle.line_spec.specs.Line.{headOf}
 use Rattle.line_spec.specs.Opening.{lent}
 use Rattle.line_spec.specs.Opening.Laws.{all-measured, zeros-length}
-use Rattle.line.specs.Answers.Opening.{read-few}
+use Rattle.line.specs.declared.answer.TableRead.{TableRead}
+use Rattle.line.specs.declared.answer.TableRead.the-variants.{Numbers}
+use Rattle.line.specs.declared.answer.TableRead.the-variants as table
+use Rattle.line.specs.TableRead.{NumbersRead, TableRefused, lengthsWrong, headWrong, tableDeclined, TableSaid}
+use Rattle.line.specs.TableRead.Laws.{numbers-front, numbers-few, said-numbers, said-refused}
 use Rattle.trace_spec.specs.TraceLine.{starts, refuses}
 use Rattle.trace_spec.specs.Trace.{begins, declines, beginList, beginTable, beginHead, beginningOf}
 use Rattle.trace_spec.specs.Trace.{permittedBy, eventLines, startLine, traceFrom, traceOf}
@@ -63,8 +56,7 @@ use Rattle.trace.specs.declared.answer.Opened.{Opened}
 use Rattle.trace.specs.declared.answer.Opened.the-variants.{Started, Refused}
 use Rattle.trace.specs.Answers.{traceLineSaid}
 use Rattle.trace.specs.Tracing.{Tracing}
-use Rattle.trace.specs.Opening.{Starts, ListOpened, TableOpened, FrontOpened, FrontBy}
-use Rattle.trace.specs.Opening.{TraceOpened}
+use Rattle.trace.specs.Opening.{Starts, ListOpened, FrontOpened, FrontBy, TraceOpened}
 
 -- ---- a list that is indexed
 
@@ -136,107 +128,64 @@ module _ (l w : List ℕ) (size : length w ≡ 8192) (j : Judged) (w' : List ℕ
       by (accepted ks u) e =
           shut-admits (r .number) (r .place) w' u shuts (ap (λ (z : Judgement). judging z (length w)) e)
 
--- ---- a table's bytes
-
-module _ (bs l w : List ℕ) (r : tableCode.Answer) (l' v : List ℕ)
-    (said : tableAnswers.outcome r l' v ≡ readOf bs l w) where
-  table-done : (n : ℕ) → r ≡ told.Count n → ReadDone bs n l'
-  table-done n k =
-      let e = sym said ∙ ap (λ (y : tableCode.Answer). tableAnswers.outcome y l' v) k in
-      subst (ReadDone bs n) (sym (ap (λ (o : read.Outcome). o .output) said))
-      (read-done bs l w n (ap (λ (o : read.Outcome). o .answer) e))
-
-  table-begins : (n : ℕ) → r ≡ told.Count n → (es : List ℕ)
-      → beginTable es (judgeBytes bs) ≡ beginList (take n l') es (judgeList (take n l'))
-  unfolding beginTable
-  table-begins n k es =
-      let d = table-done n k in
-      ap (beginTable es) (d .verdict) ∙ ap (λ (z : List ℕ). beginList z es (judgeList z)) (sym (d .front))
-
-  pub table-count : (n : ℕ) → r ≡ told.Count n → (next : ℕ) (y : Opened) (a b w' : List ℕ)
-      → ListOpened (take n l') next y a b w' → TableOpened bs next y l' a b w'
-  table-count n k next (Refused q) a b w' h = λ es. table-begins n k es ∙ h es
-  table-count n k next (Started s bits count place) a b w' (c, p, x) =
-      let (few, size) = read-few bs l w r l' v said n k in
-      let z : count ≡ n = c ∙ size in (
-        omega arith,
-        p,
-        subst (λ (i : ℕ). Starts (λ es. beginTable es (judgeBytes bs)) (take i l') s bits a b w') (sym z)
-            (record {
-              opens = λ es. table-begins n k es ∙ x .opens es;
-              permitted = x .permitted;
-              tracing = x .tracing;
-            }),
-      )
-
-  pub table-refused : length l ≡ 16384 → length w ≡ 8192 → (q : Refusal) → r ≡ told.Refused q → (es : List ℕ)
-      → beginTable es (judgeBytes bs) ≡ declines (q .number) (q .place)
-  unfolding beginTable readOf read.measured readJudged
-  table-refused e f q k es = by (judgeBytes bs) refl
-    where
-      fit : readOf bs l w ≡ readJudged (judgeBytes bs)
-      fit = rw (e, f)
-
-      answers : readJudged (judgeBytes bs) .answer ≡ refusal (q .number) (q .place)
-      answers = ap (λ (o : read.Outcome). o .answer)
-          (sym fit ∙ sym said ∙ ap (λ (y : tableCode.Answer). tableAnswers.outcome y l' v) k)
-
-      same : (n p i j : ℕ) → refusal n p ≡ refusal i j → (n ≡ i) × (p ≡ j)
-      same n p i j g = (let z : n ≡ i = cc in z, let z : p ≡ j = cc in z)
-
-      by : (y : Judgement) → judgeBytes bs ≡ y → beginTable es (judgeBytes bs) ≡ declines (q .number) (q .place)
-      by (declined n p) g =
-          let (i, j) = same n p (q .number) (q .place)
-          (sym (ap (λ (z : Judgement). readJudged z .answer) g) ∙ answers) in
-          ap (beginTable es) g ∙ (λ d. declines (i d) (j d))
-      by (accepted ns u) g =
-          let z : done (length ns) ≡ refusal (q .number) (q .place) =
-          sym (ap (λ (z : Judgement). readJudged z .answer) g) ∙ answers in
-          absurd (let z : _≡_ {A = ℕ} 0 1 = cc in omega arith)
-
 -- ---- an input
 
-module _ (s l a b w : List ℕ) where
-  pub front-unfit : (l' a' b' w' : List ℕ) → lent l a b w ≡ false
-      → TraceOpened s l a b w (Refused (record { number = 1; place = 0 })) l' a' b' w'
-  front-unfit l' a' b' w' e =
-      record { fit = λ f. absurd (let z : _≡_ {A = ℕ} 0 1 = cc in omega arith); unfit = λ f. refl }
+module _ (s l a b w : List ℕ) (r : TableRead) (l' v : List ℕ) (said : TableSaid s l a b w r l' v) where
+  fitting : lent l a b w ≡ true → (y : Opened) (l' a' b' w' : List ℕ) → FrontBy s y l' a' b' w'
+      → TraceOpened s l a b w y l' a' b' w'
+  fitting e y l' a' b' w' f =
+      record { fit = λ _. f; unfit = λ n. absurd (let z : _≡_ {A = ℕ} 0 1 = cc in omega arith) }
 
-  module _ (fit : lent l a b w ≡ true) (h : headCode.Head) (says : HeadSaid s h) where
-    told-head : (x : headCode.Head) → h ≡ x → HeadIs (headOf s) s x
-    told-head x k = subst (HeadIs (headOf s) s) k says
+  module _ (count next : ℕ) (k : r ≡ Numbers count next) where
+    here : NumbersRead s l a b w count next l' v
+    here = said-numbers s l a b w r l' v said count next k
 
-    taken : (r : Opened) (l' a' b' w' : List ℕ) → FrontBy s r l' a' b' w' → TraceOpened s l a b w r l' a' b' w'
-    taken r l' a' b' w' f =
-        record { fit = λ e. f; unfit = λ e. absurd (let z : _≡_ {A = ℕ} 0 1 = cc in omega arith) }
+    -- the table that was read is judged as the list is
+    begins-list : beginningOf s ≡ beginList (take count l') (drop next s) (judgeList (take count l'))
+    unfolding beginningOf beginHead beginTable
+    begins-list =
+        ap beginHead (here .head) ∙ ap (beginTable (drop next s)) (here .judged)
+        ∙ ap (λ (z : List ℕ). beginList z (drop next s) (judgeList z))
+        (sym (numbers-front s l a b w count next l' v here))
 
-    pub front-wrong : (q : Refusal) → h ≡ Wrong q → (l' a' b' w' : List ℕ)
-        → TraceOpened s l a b w (Refused q) l' a' b' w'
-    unfolding beginningOf beginHead
-    front-wrong q k l' a' b' w' = taken (Refused q) l' a' b' w' (ap beginHead (told-head (Wrong q) k))
-
-    front-begins : (x y : ℕ) → h ≡ Parts x y
-        → beginningOf s ≡ beginTable (drop y s) (judgeBytes (take (y - x) (drop x s)))
-    unfolding beginningOf beginHead
-    front-begins x y k = ap beginHead (told-head (Parts x y) k .same)
-
-    pub front-parts : (x y : ℕ) → h ≡ Parts x y → (r : Opened) (l' a' b' w' : List ℕ)
-        → TableOpened (take (y - x) (drop x s)) y r l' a' b' w' → TraceOpened s l a b w r l' a' b' w'
-    front-parts x y k r l' a' b' w' o = taken r l' a' b' w' (by r o)
+    pub front-numbers : (y : Opened) (a' b' w' : List ℕ) → ListOpened (take count l') next y a' b' w'
+        → TraceOpened s l a b w y l' a' b' w'
+    front-numbers y a' b' w' o = fitting (here .fit) y l' a' b' w' (by y o)
       where
-        by : (r : Opened) → TableOpened (take (y - x) (drop x s)) y r l' a' b' w' → FrontBy s r l' a' b' w'
-        by (Refused q) f = front-begins x y k ∙ f (drop y s)
-        by (Started st bits count place) (few, p, z) =
-            let i = head-within s h says x y k in
-            record {
+        by : (y : Opened) → ListOpened (take count l') next y a' b' w' → FrontBy s y l' a' b' w'
+        by (Refused q) h = begins-list ∙ h (drop next s)
+        by (Started st bits n place) (c, p, x) =
+            let (few, size) = numbers-few s l a b w count next l' v here in
+            let z : n ≡ count = c ∙ size in
+            let i = here .within in
+            subst (λ (m : ℕ). FrontOpened s st bits m place l' a' b' w') (sym z)
+            (record {
               few = few;
-              within = omega (arith, i .1, p);
-              opens = front-begins x y k ∙ z .opens (drop y s)
+              within = omega arith;
+              opens = begins-list ∙ x .opens (drop next s)
                   ∙ ap (λ (j : ℕ). begins (take count l') (tableIn (take count l')) (monitorOf st a' b') (drop j s))
                   (sym p);
-              permitted = z .permitted;
-              tracing = z .tracing;
-            }
+              permitted = x .permitted;
+              tracing = x .tracing;
+            })
+
+  pub front-declined : (q : Refusal) → r ≡ table.Refused q → (l″ a' b' w' : List ℕ)
+      → TraceOpened s l a b w (Refused q) l″ a' b' w'
+  unfolding beginningOf beginHead beginTable
+  front-declined q k l″ a' b' w' = by (q .number) (q .place) l' v (said-refused s l a b w r l' v said q k) refl refl
+    where
+      by : (n p : ℕ) (m u : List ℕ) → TableRefused s l a b w n p m u → n ≡ q .number → p ≡ q .place
+          → TraceOpened s l a b w (Refused q) l″ a' b' w'
+      by n p m u (lengthsWrong e) i j =
+          record {
+            fit = λ f. absurd (let z : _≡_ {A = ℕ} 0 1 = cc in omega arith);
+            unfit = λ _. λ d. Refused (record { number = sym i d; place = sym j d });
+          }
+      by n p m u (headWrong _ _ e h) i j =
+          fitting e (Refused q) l″ a' b' w' (ap beginHead h ∙ (λ d. declines (i d) (j d)))
+      by n p m u (tableDeclined bs es _ _ _ _ e h g _ _) i j =
+          fitting e (Refused q) l″ a' b' w'
+          (ap beginHead h ∙ ap (beginTable es) g ∙ (λ d. declines (i d) (j d)))
 
 -- ---- the trace of the front
 

@@ -1,51 +1,38 @@
--- `opener::open` meets its contract: lent lengths are tried first, then the head; the table's bytes lie within the
--- input. Assumes nothing.
+-- `opener::open` meets its contract, by the table that was read. Assumes nothing.
 use native.Mathlib.Omega.{arith}
-use mathlib.Core.Path.{sym, _∙_}
-use borrow.Author.Tests.{not-true, not-false}
-use Rattle.format.specs.Head.Laws.{head-within}
-use Rattle.line.specs.Answers.Opening.{opens-unfit, opens-parts, opens-wrong}
+use mathlib.Core.Path.{sym}
+use Rattle.line.specs.TableRead.Laws.{said-numbers, numbers-few}
+use Rattle.line.specs.Answers.Opening.{opens-numbers, opens-refused}
 use borrow.Author.Needs.{needs}
 use Rattle.line.proofs.opener.open.Statement.{statement}
 use Rattle.line.proofs.opener.open.Tie as tie
 
-lent-fit-requires : tie.Need-lent-fit-requires
-lent-fit-requires c κs = search needs
+read-table-requires : tie.Need-read-table-requires
+read-table-requires c κs = search needs
 
--- a lent length is wrong
-returns : tie.Need-returns
-returns c =
-    let at-lent-fit = c .before in
-    let args = at-lent-fit .before .before .before .before .before .before .args in
-    opens-unfit _ (args .list .now) (args .area0 .now) (args .area1 .now) (args .work .now)
-    (sym (at-lent-fit .lent-fit .ensures) ∙ not-true _ (c .if1 .taken))
+enum-known-count : tie.Need-enum-known-count
+enum-known-count c = search needs
 
-head-requires : tie.Need-head-requires
-head-requires c κs = search needs
+slice-reshare-prefix-open-list : tie.Need-slice-reshare-prefix-open-list
+slice-reshare-prefix-open-list c =
+    let at-count = c .before in
+    let at-read-table = at-count .before .before .before .before .before .before in
+    let args = at-read-table .before .before .before .before .before .before .before .before .before .before .args in
+    let numbers = said-numbers (args .input .now) (args .list .now) (args .area0 .now) (args .area1 .now)
+    (args .work .now) _ _ _ (at-read-table .read-table .ensures) _ _ (at-count .count .given .1) in
+    omega (arith, numbers-few _ _ _ _ _ _ _ _ _ numbers)
 
-enum-known-from : tie.Need-enum-known-from
-enum-known-from c = search needs
+slice-aggregate-open-list : tie.Need-slice-aggregate-open-list
+slice-aggregate-open-list c =
+    let at-count = c .before .before in
+    let at-read-table = at-count .before .before .before .before .before .before in
+    let args = at-read-table .before .before .before .before .before .before .before .before .before .before .args in
+    let numbers = said-numbers (args .input .now) (args .list .now) (args .area0 .now) (args .area1 .now)
+    (args .work .now) _ _ _ (at-read-table .read-table .ensures) _ _ (at-count .count .given .1) in
+    sym (numbers-few _ _ _ _ _ _ _ _ _ numbers .1)
 
-sub-open-table : tie.Need-sub-open-table
-sub-open-table c =
-    let at-from = c .before in
-    let within = head-within _ _ (at-from .before .before .head .ensures) _ _ (at-from .from .given .1) in
-    omega arith
-
-part-open-table-start : tie.Need-part-open-table-start
-part-open-table-start c =
-    let at-from = c .before in
-    let within = head-within _ _ (at-from .before .before .head .ensures) _ _ (at-from .from .given .1) in
-    omega arith
-
-part-open-table-end : tie.Need-part-open-table-end
-part-open-table-end c =
-    let at-from = c .before in
-    let within = head-within _ _ (at-from .before .before .head .ensures) _ _ (at-from .from .given .1) in
-    omega arith
-
-open-table-requires : tie.Need-open-table-requires
-open-table-requires c κs = search needs
+open-list-requires : tie.Need-open-list-requires
+open-list-requires c κs = search needs
 
 enum-known-refusal : tie.Need-enum-known-refusal
 enum-known-refusal c = search needs
@@ -62,48 +49,55 @@ same-length-3 c = search needs
 same-length-4 : tie.Need-same-length-4
 same-length-4 c = search needs
 
--- the head is right
+-- the table is read
+returns : tie.Need-returns
+returns c =
+    let at-open-list = c .before .before .before .before .before .before in
+    let at-count = at-open-list .before .before .before .before .before .before in
+    let at-read-table = at-count .before .before .before .before .before .before in
+    let args = at-read-table .before .before .before .before .before .before .before .before .before .before .args in
+    opens-numbers (args .input .now) (args .list .now) (args .area0 .now) (args .area1 .now) (args .work .now)
+    _ _ _ (at-read-table .read-table .ensures) _ _ (at-count .count .given .1) (at-open-list .open-list .result) _ _ _
+    (at-open-list .open-list .ensures)
+
+same-length-5 : tie.Need-same-length-5
+same-length-5 c = search needs
+
+same-length-6 : tie.Need-same-length-6
+same-length-6 c = search needs
+
+same-length-7 : tie.Need-same-length-7
+same-length-7 c = search needs
+
+same-length-8 : tie.Need-same-length-8
+same-length-8 c = search needs
+
+-- it is refused
 returns-2 : tie.Need-returns-2
 returns-2 c =
-    let at-open-table = c .before .before .before .before .before .before .before .before in
-    let at-from = at-open-table .before .before .before .before .before .before .before in
-    let at-head = at-from .before .before in
-    let at-if1 = at-head .before in
-    let at-lent-fit = at-if1 .before in
-    let args = at-lent-fit .before .before .before .before .before .before .args in
-    let fit = sym (at-lent-fit .lent-fit .ensures) ∙ not-false _ (at-if1 .if1 .left) in
-    opens-parts (args .input .now) (args .list .now) (args .area0 .now) (args .area1 .now) (args .work .now) fit
-    _ (at-head .head .ensures) _ _ (at-from .from .given .1) (at-open-table .open-table .result) _ _ _ _
-    (at-open-table .open-table .ensures)
-
--- it is not
-returns-3 : tie.Need-returns-3
-returns-3 c =
     let at-refusal = c .before in
-    let at-head = at-refusal .before .before in
-    let at-if1 = at-head .before in
-    let at-lent-fit = at-if1 .before in
-    let args = at-lent-fit .before .before .before .before .before .before .args in
-    let fit = sym (at-lent-fit .lent-fit .ensures) ∙ not-false _ (at-if1 .if1 .left) in
-    opens-wrong (args .input .now) (args .list .now) (args .area0 .now) (args .area1 .now) (args .work .now) fit
-    _ (at-head .head .ensures) _ (at-refusal .refusal .given .1)
+    let at-read-table = at-refusal .before .before .before .before .before .before in
+    let args = at-read-table .before .before .before .before .before .before .before .before .before .before .args in
+    opens-refused (args .input .now) (args .list .now) (args .area0 .now) (args .area1 .now) (args .work .now)
+    _ _ _ (at-read-table .read-table .ensures) _ (at-refusal .refusal .given .1)
 
 pub open-spec : {M : Type 1} → statement M
 open-spec =
     tie.close
     (tie.spec
-    lent-fit-requires
-    returns
-    head-requires
-    enum-known-from
-    sub-open-table
-    part-open-table-start
-    part-open-table-end
-    open-table-requires
+    read-table-requires
+    enum-known-count
+    slice-reshare-prefix-open-list
+    slice-aggregate-open-list
+    open-list-requires
     enum-known-refusal
     same-length
     same-length-2
     same-length-3
     same-length-4
-    returns-2
-    returns-3)
+    returns
+    same-length-5
+    same-length-6
+    same-length-7
+    same-length-8
+    returns-2)

@@ -1,8 +1,8 @@
--- `opener::lent_fit` meets its contract: the tests of each return say which part of `lentFit` decides. Assumes nothing.
+-- `reader::lent_fit` meets its contract: the tests of each return say which part of `lentFit` decides. Assumes nothing.
 use borrow.Author.Tests.{eq-eqb, ne-eqb}
 use Rattle.line_spec.specs.Opening.{lentFit}
-use Rattle.line.proofs.opener.lent_fit.Statement.{statement}
-use Rattle.line.proofs.opener.lent_fit.Tie as tie
+use Rattle.line.proofs.reader.lent_fit.Statement.{statement}
+use Rattle.line.proofs.reader.lent_fit.Tie as tie
 
 returns : tie.Need-returns
 unfolding lentFit
