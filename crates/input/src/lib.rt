@@ -43,6 +43,7 @@ pub fn arrive(buffer: &mut [u8]) -> Arrived
     after_arrival(buffer.len(), got)
 }
 
-pub fn fail() {
+// The message that it could not be read. Only where a read failed is there a `Failure` to give.
+pub fn fail(_failure: Failure) {
     os::fail(b"standard input");
 }

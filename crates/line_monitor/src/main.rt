@@ -12,12 +12,12 @@ use pieces::Report;
 
 fn main() {
     let mut front = [0u8; 16387];
-    let Filled::Bytes(part) = input::fill(&mut front) else {
-        input::fail();
-        return;
+    let part = match input::fill(&mut front) {
+        Filled::Bytes(part) => part,
+        Filled::Broken(failure) => return input::fail(failure),
     };
     match pieces::run(&front, part) {
         Report::Line(line) => print::say(line),
-        Report::Broken(_) => input::fail(),
+        Report::Broken(failure) => input::fail(failure),
     }
 }

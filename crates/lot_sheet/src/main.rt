@@ -25,9 +25,8 @@ fn answer(book: &[u8], part: Part)
 
 fn main() {
     let mut book = [0u8; 65537];
-    let Filled::Bytes(part) = input::fill(&mut book) else {
-        input::fail();
-        return;
-    };
-    answer(&book, part);
+    match input::fill(&mut book) {
+        Filled::Bytes(part) => answer(&book, part),
+        Filled::Broken(failure) => input::fail(failure),
+    }
 }

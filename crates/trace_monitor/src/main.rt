@@ -31,7 +31,7 @@ fn main() {
     match told_by(&front, read) {
         Told::Ended(_, _) => {}
         Told::Refused(_) => {}
-        Told::Unread(_) => input::fail(),
+        Told::Unread(failure) => input::fail(failure),
         Told::Unwritten(_) => os::fail(b"standard output"),
     }
 }

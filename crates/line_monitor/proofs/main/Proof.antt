@@ -16,8 +16,8 @@ fill-requires c κs = search needs
 enum-known-part : tie.Need-enum-known-part
 enum-known-part c = search needs
 
-enum-told : tie.Need-enum-told
-enum-told c = search needs
+enum-known-failure : tie.Need-enum-known-failure
+enum-known-failure c = search needs
 
 fail-requires : tie.Need-fail-requires
 fail-requires c κs = search needs
@@ -40,8 +40,8 @@ enum-known-line c = search needs
 say-requires : tie.Need-say-requires
 say-requires c κs = search needs
 
-enum-told-2 : tie.Need-enum-told-2
-enum-told-2 c = search needs
+enum-known-failure-2 : tie.Need-enum-known-failure-2
+enum-known-failure-2 c = search needs
 
 fail-requires-2 : tie.Need-fail-requires-2
 fail-requires-2 c κs = search needs
@@ -59,14 +59,14 @@ main-spec =
     slice-aggregate-fill
     fill-requires
     enum-known-part
-    enum-told
+    enum-known-failure
     fail-requires
     returns
     slice-aggregate-run
     run-requires
     enum-known-line
     say-requires
-    enum-told-2
+    enum-known-failure-2
     fail-requires-2
     returns-2
     returns-3)

@@ -16,15 +16,6 @@ fill-requires c κs = search needs
 enum-known-part : tie.Need-enum-known-part
 enum-known-part c = search needs
 
-enum-told : tie.Need-enum-told
-enum-told c = search needs
-
-fail-requires : tie.Need-fail-requires
-fail-requires c κs = search needs
-
-returns : tie.Need-returns
-returns c = search needs
-
 slice-aggregate-answer : tie.Need-slice-aggregate-answer
 slice-aggregate-answer c = search needs
 
@@ -33,6 +24,15 @@ answer-requires c κs =
     let at-part = c .before .before in
     let fill = at-part .before .before .before .fill in
     (fill .kept .0 ∙ length-replicate {A = ℕ} 65537 0, fills-part _ _ (fill .ensures) _ (at-part .part .given .1))
+
+enum-known-failure : tie.Need-enum-known-failure
+enum-known-failure c = search needs
+
+fail-requires : tie.Need-fail-requires
+fail-requires c κs = search needs
+
+returns : tie.Need-returns
+returns c = search needs
 
 returns-2 : tie.Need-returns-2
 returns-2 c = search needs
@@ -44,9 +44,9 @@ main-spec =
     slice-aggregate-fill
     fill-requires
     enum-known-part
-    enum-told
-    fail-requires
-    returns
     slice-aggregate-answer
     answer-requires
+    enum-known-failure
+    fail-requires
+    returns
     returns-2)
