@@ -14,12 +14,14 @@ ghost use Rattle.trace.specs.Answers.{traceLineSaid};
 ghost use Rattle.trace.specs.declared.answer.TraceLine.the-variants.{Starts};
 ghost use Rattle.trace.specs.Tracing.{Tracing};
 ghost use Rattle.trace_front.specs.Wanted.{Fronts};
-ghost use Rattle.trace_monitor.specs.Spoken.{saidLine};
+ghost use Rattle.trace_monitor.specs.Spoken.{saidOf, firstSaid};
 ghost use Rattle.trace_monitor.specs.Course.{Rooms, Turned, ReadOn, AfterArrived};
 ghost use Rattle.trace_monitor.specs.Course.{Followed, ToldRefusal, Says};
+use crate::print::Count;
 use crate::print::Said;
 use crate::print::Saying;
 use crate::print::Unsaid;
+use crate::print::none;
 use crate::print::say;
 use input::Arrived;
 use input::End;
@@ -46,11 +48,11 @@ pub enum Course {
 }
 
 // Says a refusal, which is the last line.
-fn say_refusal(number: u8, place: u64, text: &mut [u8]) -> Told
+fn say_refusal(number: u8, place: u64, before: Count, text: &mut [u8]) -> Told
     requires { ⌜ 2816 ≤ length (now text) ⌝ }
-    ensures { λ r. ⌜ ToldRefusal number place r ⌝ }
+    ensures { λ r. ⌜ ToldRefusal number place (before .lines) r ⌝ }
 {
-    match say(TraceLine::Refuses(number, place), text) {
+    match say(TraceLine::Refuses(number, place), before, text) {
         Saying::Written(said) => Told::Refused(said),
         Saying::Failed(unsaid) => Told::Unwritten(unsaid),
     }
@@ -62,6 +64,7 @@ fn turn(
     work: &[u64],
     e: u8,
     state: State,
+    before: Count,
     area0: &mut [u64],
     area1: &mut [u64],
     store: &mut [u64],
@@ -71,15 +74,17 @@ fn turn(
     requires { ⌜ Rooms (now store) (now text) ⌝ }
     ensures { λ r.
         ⌜ Turned (now (list .entry)) (now (work .entry))
-        (monitorOf state (now (area0 .entry)) (now (area1 .entry))) e
+        (monitorOf state (now (area0 .entry)) (now (area1 .entry))) (before .lines) e
         r (now (area0 .exit)) (now (area1 .exit)) ⌝ }
 {
     match trace::trace_event(list, work, e, state, area0, area1, store) {
-        Traced::Went(next, permitted) => match say(TraceLine::Takes(e, next, permitted), text) {
-            Saying::Written(said) => Course::Going(next, said),
-            Saying::Failed(unsaid) => Course::Over(Told::Unwritten(unsaid)),
-        },
-        Traced::Stopped(number, place) => Course::Over(say_refusal(number, place, text)),
+        Traced::Went(next, permitted) => {
+            match say(TraceLine::Takes(e, next, permitted), before, text) {
+                Saying::Written(said) => Course::Going(next, said),
+                Saying::Failed(unsaid) => Course::Over(Told::Unwritten(unsaid)),
+            }
+        }
+        Traced::Stopped(number, place) => Course::Over(say_refusal(number, place, before, text)),
     }
 }
 
@@ -99,14 +104,25 @@ fn take_read(
     requires { ⌜ Rooms (now store) (now text) ⌝ }
     ensures { λ r.
         ⌜ ReadOn (now (list .entry)) (now (work .entry))
-        (monitorOf state (now (area0 .entry)) (now (area1 .entry))) (saidLine said)
+        (monitorOf state (now (area0 .entry)) (now (area1 .entry))) (saidOf said)
         (now (events .entry)) r (now (area0 .exit)) (now (area1 .exit)) ⌝ }
 {
     let mut last = state;
     let mut spoken = said;
     let mut i = 0;
     while i < events.len() {
-        match turn(list, work, events[i], last, area0, area1, store, text) {
+        let before = spoken.count();
+        match turn(
+            list,
+            work,
+            events[i],
+            last,
+            before,
+            area0,
+            area1,
+            store,
+            text,
+        ) {
             Course::Going(next, now) => {
                 last = next;
                 spoken = now;
@@ -172,7 +188,7 @@ fn follow(
     requires { ⌜ Rooms (now store) (now text) × (0 < length (now piece)) ⌝ }
     ensures { λ r.
         ⌜ Followed (tableIn (now (list .entry)))
-        (monitorOf state (now (area0 .entry)) (now (area1 .entry))) (saidLine said) r ⌝ }
+        (monitorOf state (now (area0 .entry)) (now (area1 .entry))) (saidOf said) r ⌝ }
 {
     let mut last = state;
     let mut spoken = said;
@@ -214,9 +230,9 @@ fn begin(
     ensures { λ r.
         ⌜ Followed (tableIn (now (list .entry)))
         (monitorOf state (now (area0 .entry)) (now (area1 .entry)))
-        (traceLineSaid (Starts state permitted)) r ⌝ }
+        (firstSaid (traceLineSaid (Starts state permitted))) r ⌝ }
 {
-    match say(TraceLine::Starts(state, permitted), text) {
+    match say(TraceLine::Starts(state, permitted), none(), text) {
         Saying::Written(said) => {
             let mut store = [0u64; 4112];
             let mut piece = [0u8; 4096];
@@ -264,7 +280,9 @@ fn open_front(
             area1,
             &mut text,
         ),
-        Opened::Refused(refusal) => say_refusal(refusal.number, refusal.place as u64, &mut text),
+        Opened::Refused(refusal) => {
+            say_refusal(refusal.number, refusal.place as u64, none(), &mut text)
+        }
     }
 }
 

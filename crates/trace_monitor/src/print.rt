@@ -1,20 +1,36 @@
 // A line, on standard output. Its bytes are those of crate `trace_text`.
-//     Said, Unsaid     a line that was written; that one could not be
+//     Count            how many lines were said, one after the other
+//     Said, Unsaid     a line that was written, with the count; that one could not be
 //     say              writes a line
-// Only `say` makes one of them: no other code can tell that a line was said, or was not.
+// Only `say` makes one of them, and a count but that of no line: no other code can tell that a line
+// was said, or was not, or how many were.
 ghost use Prim.Native.Nat.{_≤_};
 ghost use mathlib.Core.Path.{_≡_};
 ghost use lib.ListN.{length, take};
 ghost use Rattle.io.specs.Counts.{Counts};
 ghost use Rattle.trace.specs.Answers.{traceLineSaid};
 ghost use Rattle.trace_text.specs.TraceText.{traceTextOf};
-ghost use Rattle.trace_monitor.specs.Spoken.{Spoken, TextStands};
+ghost use Rattle.trace_monitor.specs.Spoken.{Counted, Spoken, TextStands};
 use libc::STDOUT_FILENO;
 use trace::TraceLine;
 
-// A line that was written.
+// So many lines were said, or more than 2^64-1.
+pub struct Count {
+    lines: u64,
+}
+
+// A line that was written, and how many were with it.
 pub struct Said {
     line: TraceLine,
+    count: Count,
+}
+
+impl Said {
+    pub fn count(self) -> Count
+        ensures { λ r. ⌜ r ≡ self .count ⌝ }
+    {
+        self.count
+    }
 }
 
 // A line could not be written.
@@ -26,6 +42,25 @@ pub struct Unsaid {
 pub enum Saying {
     Written(Said),
     Failed(Unsaid),
+}
+
+// Before the first line.
+pub fn none() -> Count
+    ensures { λ r. ⌜ r .lines ≡ 0 ⌝ }
+{
+    Count { lines: 0 }
+}
+
+// With one line more.
+fn one_more(count: Count) -> Count
+    ensures { λ r. ⌜ Counted (count .lines) 1 (r .lines) ⌝ }
+{
+    if count.lines == u64::MAX {
+        return count;
+    }
+    Count {
+        lines: count.lines + 1,
+    }
 }
 
 // The text of a line, in a buffer that has room for the longest.
@@ -42,16 +77,17 @@ fn text_of(line: TraceLine, out: &mut [u8]) -> usize
     }
 }
 
-// Writes a line, or answers that it could not be written. The buffer is for its text, which is there
-// afterwards.
-pub fn say(line: TraceLine, text: &mut [u8]) -> Saying
+// Writes a line after those that were said, or answers that it could not be written. The buffer is
+// for its text, which is there afterwards.
+pub fn say(line: TraceLine, before: Count, text: &mut [u8]) -> Saying
     requires { ⌜ 2816 ≤ length (now text) ⌝ }
-    ensures { λ r. ⌜ Spoken line r ⌝ }
+    ensures { λ r. ⌜ Spoken line before r ⌝ }
     ensures { λ r. ⌜ TextStands (traceLineSaid line) (now (text .exit)) ⌝ }
 {
     let n = text_of(line, text);
     if io::write_all(STDOUT_FILENO, &text[..n]) {
-        return Saying::Written(Said { line });
+        let count = one_more(before);
+        return Saying::Written(Said { line, count });
     }
     Saying::Failed(Unsaid { failed: true })
 }

@@ -34,6 +34,7 @@ use Rattle.trace_front.specs.Wanted.Laws.{wanted-cut}
 use Rattle.trace_front.specs.Front.{Held, FrontRead}
 use Rattle.trace_monitor.specs.declared.course.Told.{Told}
 use Rattle.trace_monitor.specs.declared.course.Told.the-variants.{Unread}
+use Rattle.trace_monitor.specs.Spoken.{firstSaid}
 use Rattle.trace_monitor.specs.Course.{Followed, ToldRefusal, SaysBy, Says, FrontTold}
 
 cut-declines : (s : List ℕ) (x : CutShort s) → beginningOf s ≡ declines 3 (x .place)
@@ -101,14 +102,16 @@ module _ (s : List ℕ) where
     first-line = ap (λ (v : offer.EventBits). starts (stateOf st) v) (x .permitted)
 
     pub says-started : (t : Told)
-        → Followed (tableIn (take count l)) (monitorOf st a b) (traceLineSaid (Starts st bits)) t → Says s t
+        → Followed (tableIn (take count l)) (monitorOf st a b) (firstSaid (traceLineSaid (Starts st bits))) t → Says s t
     unfolding SaysBy
     says-started t h =
         subst (λ (v : Beginning). SaysBy v t) (sym (x .opens)) (
           none-yet,
-          subst (λ (v : TraceLine). Followed (tableIn (take count l)) (monitorOf st a b) v t) first-line h,
+          subst (λ (v : TraceLine). Followed (tableIn (take count l)) (monitorOf st a b) (firstSaid v) t) first-line h,
         )
 
-  pub says-refused : (n p : ℕ) → beginningOf s ≡ declines n p → (t : Told) → ToldRefusal n p t → Says s t
+  pub says-refused : (n p : ℕ) → beginningOf s ≡ declines n p → (c : ℕ) → c ≡ 0 → (t : Told) → ToldRefusal n p c t
+      → Says s t
   unfolding SaysBy
-  says-refused n p e t h = subst (λ (v : Beginning). SaysBy v t) (sym e) h
+  says-refused n p e c z t h =
+      subst (λ (v : Beginning). SaysBy v t) (sym e) (subst (λ (k : ℕ). ToldRefusal n p k t) z h)

@@ -1,5 +1,7 @@
 -- What the functions promise, by the ways out of their code.
+--     written                                      `say`
 --     turn-went, turn-unsaid, turn-stopped         `turn`, by what `trace_event` and `say` answered
+--     turned-after                                 after as many lines
 --     read-tracing, read-next, read-whole, read-over     `take_read`, after i events
 --     arrived-bytes, arrived-ended, arrived-broken     `after_arrived`
 --     Brought, brought, follow-over                `follow`, by what `after_arrived` answered
@@ -22,13 +24,13 @@ use Rattle.input.specs.declared.reading.Failure.{Failure}
 use Rattle.input.specs.declared.reading.Arrived.{Arrived}
 use Rattle.input.specs.declared.reading.Arrived.the-variants as came
 use Rattle.input.specs.Arrival.{Arrives}
-use Rattle.trace_spec.specs.TraceLine.{TraceLine}
 use Rattle.trace.specs.declared.answer.TraceLine.the-variants.{Starts, Takes}
 use Rattle.trace.specs.declared.answer.TraceLine as code
 use Rattle.trace.specs.Answers.{traceLineSaid}
 use Rattle.trace.specs.declared.answer.Traced.{Traced}
 use Rattle.trace.specs.declared.answer.Traced.the-variants.{Went, Stopped}
 use Rattle.trace.specs.Tracing.{Tracing, StoppedAt, TracedBy}
+use Rattle.trace_monitor.specs.declared.print.Count.{Count}
 use Rattle.trace_monitor.specs.declared.print.Said.{Said}
 use Rattle.trace_monitor.specs.declared.print.Unsaid.{Unsaid}
 use Rattle.trace_monitor.specs.declared.print.Saying.{Saying}
@@ -37,34 +39,40 @@ use Rattle.trace_monitor.specs.declared.course.Told.{Told}
 use Rattle.trace_monitor.specs.declared.course.Told.the-variants.{Ended, Refused, Unread, Unwritten}
 use Rattle.trace_monitor.specs.declared.course.Course.{Course}
 use Rattle.trace_monitor.specs.declared.course.Course.the-variants.{Going, Over}
-use Rattle.trace_monitor.specs.Spoken.{saidLine, Spoken}
+use Rattle.trace_monitor.specs.Spoken.{saidLine, Counted, Utterance, saidOf, firstSaid, Spoken}
 use Rattle.trace_monitor.specs.Course.{WentOn, StopSaid, Turned, Onward, RefusedIn, ReadOver, ReadOn}
 use Rattle.trace_monitor.specs.Course.{AfterArrived, Gone, EndsAfter, Followed, ToldRefusal}
 use Rattle.trace_monitor.specs.Course.Steps.{onward-then, refused-then, refused-more, event-onward}
 use Rattle.trace_monitor.specs.Course.Steps.{event-refused, gone-refused}
 
-pub written-line : (line : code.TraceLine) (q : Saying) → Spoken line q → (y : Said) → q ≡ Written y → y .line ≡ line
-written-line line q h y e = subst (Spoken line) e h
+pub written : (line : code.TraceLine) (before : Count) (q : Saying) → Spoken line before q → (y : Said) → q ≡ Written y
+    → (saidLine y ≡ traceLineSaid line) × Counted (before .lines) 1 (y .count .lines)
+written line before q h y e =
+    let (i, n) = subst (Spoken line before) e h in
+    (ap traceLineSaid i, n)
 
 -- ---- one turn
 
-module _ (l w : List ℕ) (m : Monitor) (e : ℕ) (a b : List ℕ) where
+module _ (l w : List ℕ) (m : Monitor) (c : Count) (e : ℕ) (a b : List ℕ) where
   pub turn-went : (r : Traced) → TracedBy l w m e r a b → (st : State) (bits : EventBits) → r ≡ Went st bits
-      → (q : Saying) → Spoken (Takes e st bits) q → (y : Said) → q ≡ Written y → Turned l w m e (Going st y) a b
+      → (q : Saying) → Spoken (Takes e st bits) c q → (y : Said) → q ≡ Written y
+      → Turned l w m (c .lines) e (Going st y) a b
   unfolding Turned
   turn-went r traced st bits k q h y i =
+      let (line, count) = written (Takes e st bits) c q h y i in
       record {
         bits = bits;
         traced = subst (λ (v : Traced). TracedBy l w m e v a b) k traced;
-        line = ap traceLineSaid (written-line (Takes e st bits) q h y i);
+        line = line;
+        count = count;
       }
 
-  pub turn-unsaid : (u : Unsaid) → Turned l w m e (Over (Unwritten u)) a b
+  pub turn-unsaid : (u : Unsaid) → Turned l w m (c .lines) e (Over (Unwritten u)) a b
   unfolding Turned
   turn-unsaid u = tt
 
   pub turn-stopped : (r : Traced) → TracedBy l w m e r a b → (number place : ℕ) → r ≡ Stopped number place
-      → (t : Told) → ToldRefusal number place t → Turned l w m e (Over t) a b
+      → (t : Told) → ToldRefusal number place (c .lines) t → Turned l w m (c .lines) e (Over t) a b
   unfolding Turned
   turn-stopped r traced number place k (Ended end y) h = h
   turn-stopped r traced number place k (Refused y) h =
@@ -72,67 +80,73 @@ module _ (l w : List ℕ) (m : Monitor) (e : ℕ) (a b : List ℕ) where
         number = number;
         place = place;
         stopped = subst (λ (v : Traced). TracedBy l w m e v a b) k traced;
-        line = h;
+        line = h .0;
+        count = h .1;
       }
   turn-stopped r traced number place k (Unread f) h = h
   turn-stopped r traced number place k (Unwritten u) h = tt
 
+pub turned-after : (l w : List ℕ) (m : Monitor) (e : ℕ) (r : Course) (a b : List ℕ) (c d : Count) → c ≡ d
+    → Turned l w m (c .lines) e r a b → Turned l w m (d .lines) e r a b
+turned-after l w m e r a b c d p h = subst (λ (v : Count). Turned l w m (v .lines) e r a b) p h
+
 -- ---- the events of a read, of which i are taken
 
-module _ (l : List ℕ) (m : Monitor) (x : TraceLine) (es : List ℕ) where
-  module _ (w : List ℕ) (i : ℕ) (d : Monitor) (y : TraceLine) (far : Onward (tableIn l) m x (take i es) d y) where
+module _ (l : List ℕ) (m : Monitor) (x : Utterance) (es : List ℕ) where
+  module _ (w : List ℕ) (i : ℕ) (d : Monitor) (y : Utterance) (far : Onward (tableIn l) m x (take i es) d y) where
     pub read-whole : length es ≤ i → (next : State) (z : Said) (a b : List ℕ) → monitorOf next a b ≡ d
-        → saidLine z ≡ y → Tracing l w d → ReadOn l w m x es (Going next z) a b
+        → saidOf z ≡ y → Tracing l w d → ReadOn l w m x es (Going next z) a b
     unfolding ReadOn
     read-whole k next z a b p q tracing = (
       subst (Tracing l w) (sym p) tracing,
-      subst (λ (v : List ℕ). Onward (tableIn l) m x v (monitorOf next a b) (saidLine z)) (take-all i es k)
-          (subst (λ (v : TraceLine). Onward (tableIn l) m x (take i es) (monitorOf next a b) v) (sym q)
+      subst (λ (v : List ℕ). Onward (tableIn l) m x v (monitorOf next a b) (saidOf z)) (take-all i es k)
+          (subst (λ (v : Utterance). Onward (tableIn l) m x (take i es) (monitorOf next a b) v) (sym q)
           (subst (λ (v : Monitor). Onward (tableIn l) m x (take i es) v y) (sym p) far)),
     )
 
-    module _ (inside : i < length es) (r : Course) (a b : List ℕ) (one : Turned l w d (getD es i 0) r a b) where
+    module _ (inside : i < length es) (r : Course) (a b : List ℕ)
+        (one : Turned l w d (y .lines) (getD es i 0) r a b) where
       one-more : take i es ++ getD es i 0 ∷ [] ≡ take (i + 1) es
       one-more = let n : suc i ≡ i + 1 = omega arith in sym (take-suc es i 0 inside) ∙ ap (λ (k : ℕ). take k es) n
 
-      went : (next : State) (z : Said) → r ≡ Going next z → WentOn l w d (getD es i 0) next (saidLine z) a b
+      went : (next : State) (z : Said) → r ≡ Going next z → WentOn l w d (y .lines) (getD es i 0) next (saidOf z) a b
       unfolding Turned
-      went next z k = subst (λ (v : Course). Turned l w d (getD es i 0) v a b) k one
+      went next z k = subst (λ (v : Course). Turned l w d (y .lines) (getD es i 0) v a b) k one
 
       pub read-tracing : (next : State) (z : Said) → r ≡ Going next z → Tracing l w (monitorOf next a b)
       read-tracing next z k = went next z k .traced .tracing
 
       pub read-next : (next : State) (z : Said) → r ≡ Going next z
-          → Onward (tableIn l) m x (take (i + 1) es) (monitorOf next a b) (saidLine z)
+          → Onward (tableIn l) m x (take (i + 1) es) (monitorOf next a b) (saidOf z)
       read-next next z k =
-          subst (λ (v : List ℕ). Onward (tableIn l) m x v (monitorOf next a b) (saidLine z)) one-more
-          (onward-then (tableIn l) m x (take i es) d y far (getD es i 0 ∷ []) (monitorOf next a b) (saidLine z)
-          (event-onward l d (getD es i 0) (saidLine z) a b w next (went next z k) y))
+          subst (λ (v : List ℕ). Onward (tableIn l) m x v (monitorOf next a b) (saidOf z)) one-more
+          (onward-then (tableIn l) m x (take i es) d y far (getD es i 0 ∷ []) (monitorOf next a b) (saidOf z)
+          (event-onward l d y (getD es i 0) (saidOf z) a b w next (went next z k)))
 
-      stopped : (z : TraceLine) → StopSaid l d (getD es i 0) z a b → RefusedIn (tableIn l) m es z
+      stopped : (z : Utterance) → StopSaid l d (y .lines) (getD es i 0) z a b → RefusedIn (tableIn l) m x es z
       stopped z h =
-          subst (λ (v : List ℕ). RefusedIn (tableIn l) m v z) (take-append-drop (i + 1) es)
-          (refused-more (tableIn l) m (take (i + 1) es) z
-          (subst (λ (v : List ℕ). RefusedIn (tableIn l) m v z) one-more
+          subst (λ (v : List ℕ). RefusedIn (tableIn l) m x v z) (take-append-drop (i + 1) es)
+          (refused-more (tableIn l) m x (take (i + 1) es) z
+          (subst (λ (v : List ℕ). RefusedIn (tableIn l) m x v z) one-more
           (refused-then (tableIn l) m x (take i es) d y far (getD es i 0 ∷ []) z
-          (event-refused l d (getD es i 0) z a b h)))
+          (event-refused l d y (getD es i 0) z a b h)))
           (drop (i + 1) es))
 
-      over : (t : Told) → Turned l w d (getD es i 0) (Over t) a b → ReadOver (tableIn l) m es t
+      over : (t : Told) → Turned l w d (y .lines) (getD es i 0) (Over t) a b → ReadOver (tableIn l) m x es t
       unfolding Turned ReadOver
       over (Ended end z) h = h
-      over (Refused z) h = stopped (saidLine z) h
+      over (Refused z) h = stopped (saidOf z) h
       over (Unread f) h = h
       over (Unwritten u) h = tt
 
       pub read-over : (t : Told) → r ≡ Over t → ReadOn l w m x es (Over t) a b
       unfolding ReadOn
-      read-over t k = over t (subst (λ (v : Course). Turned l w d (getD es i 0) v a b) k one)
+      read-over t k = over t (subst (λ (v : Course). Turned l w d (y .lines) (getD es i 0) v a b) k one)
 
 -- ---- what arrived
 
 module _ (l w : List ℕ) (m : Monitor) (said : Said) (piece : List ℕ) (q : Arrived) (a b : List ℕ) where
-  pub arrived-bytes : (n : ℕ) → q ≡ came.Bytes n → (r : Course) → ReadOn l w m (saidLine said) (take n piece) r a b
+  pub arrived-bytes : (n : ℕ) → q ≡ came.Bytes n → (r : Course) → ReadOn l w m (saidOf said) (take n piece) r a b
       → AfterArrived l w m said piece q r a b
   unfolding AfterArrived
   arrived-bytes n e r h = subst (λ (v : Arrived). AfterArrived l w m said piece v r a b) (sym e) h
@@ -149,7 +163,7 @@ module _ (l w : List ℕ) (m : Monitor) (said : Said) (piece : List ℕ) (q : Ar
 -- ---- one read more
 
 -- it brought some events, and the monitor goes on
-pub record Brought (l w : List ℕ) (m : Monitor) (x : TraceLine) (d : Monitor) (y : TraceLine) : Type 0 where
+pub record Brought (l w : List ℕ) (m : Monitor) (x : Utterance) (d : Monitor) (y : Utterance) : Type 0 where
   pub events : List ℕ
   pub some : 0 < length events
   pub tracing : Tracing l w d
@@ -161,22 +175,22 @@ module _ (l w : List ℕ) (d : Monitor) (said : Said) (piece : List ℕ) (room :
   bytes-some n (few, some) = let k = length-take-le n piece few in let i = some room in omega arith
 
   pub brought : (q : Arrived) → Arrives (length piece) q → AfterArrived l w d said piece q r a b
-      → (next : State) (z : Said) → r ≡ Going next z → Brought l w d (saidLine said) (monitorOf next a b) (saidLine z)
+      → (next : State) (z : Said) → r ≡ Going next z → Brought l w d (saidOf said) (monitorOf next a b) (saidOf z)
   unfolding AfterArrived ReadOn
   brought (came.Bytes n) arrives h next z e =
-      let (tracing, onward) : ReadOn l w d (saidLine said) (take n piece) (Going next z) a b =
-      subst (λ (v : Course). ReadOn l w d (saidLine said) (take n piece) v a b) e h in
+      let (tracing, onward) : ReadOn l w d (saidOf said) (take n piece) (Going next z) a b =
+      subst (λ (v : Course). ReadOn l w d (saidOf said) (take n piece) v a b) e h in
       record { events = take n piece; some = bytes-some n arrives; tracing = tracing; onward = onward }
   brought (came.Ended end) arrives h next z e = absurd (let y : _≡_ {A = ℕ} 0 1 = cc in omega arith)
   brought (came.Broken f) arrives h next z e = absurd (let y : _≡_ {A = ℕ} 0 1 = cc in omega arith)
 
-  module _ (m : Monitor) (x : TraceLine) (gone : Gone (tableIn l) m x d (saidLine said)) where
-    refused-read : (es : List ℕ) → 0 < length es → (t : Told) → ReadOver (tableIn l) d es t
+  module _ (m : Monitor) (x : Utterance) (gone : Gone (tableIn l) m x d (saidOf said)) where
+    refused-read : (es : List ℕ) → 0 < length es → (t : Told) → ReadOver (tableIn l) d (saidOf said) es t
         → Followed (tableIn l) m x t
     unfolding ReadOver Followed
     refused-read es some (Ended end y) h = absurd h
     refused-read es some (Refused y) h =
-        gone-refused (tableIn l) m x d (saidLine said) gone es some (saidLine y) h
+        gone-refused (tableIn l) m x d (saidOf said) gone es some (saidOf y) h
     refused-read es some (Unread f) h = tt
     refused-read es some (Unwritten u) h = tt
 
@@ -193,7 +207,7 @@ module _ (l w : List ℕ) (d : Monitor) (said : Said) (piece : List ℕ) (room :
     unfolding AfterArrived ReadOn
     follow-over (came.Bytes n) arrives h t e =
         refused-read (take n piece) (bytes-some n arrives) t
-        (subst (λ (v : Course). ReadOn l w d (saidLine said) (take n piece) v a b) e h)
+        (subst (λ (v : Course). ReadOn l w d (saidOf said) (take n piece) v a b) e h)
     follow-over (came.Ended end) arrives h t e =
         let y : Ended end said ≡ t = cc in subst (Followed (tableIn l) m x) y (ended end)
     follow-over (came.Broken f) arrives h t e =
@@ -201,12 +215,14 @@ module _ (l w : List ℕ) (d : Monitor) (said : Said) (piece : List ℕ) (room :
 
 -- ---- the start
 
-pub begin-said : (t : Table) (m : Monitor) (st : State) (bits : EventBits) (q : Saying) → Spoken (Starts st bits) q
-    → (y : Said) → q ≡ Written y → (r : Told) → Followed t m (saidLine y) r
-    → Followed t m (traceLineSaid (Starts st bits)) r
-begin-said t m st bits q h y e r f =
-    subst (λ (v : TraceLine). Followed t m v r) (ap traceLineSaid (written-line (Starts st bits) q h y e)) f
+pub begin-said : (t : Table) (m : Monitor) (st : State) (bits : EventBits) (c : Count) → c .lines ≡ 0 → (q : Saying)
+    → Spoken (Starts st bits) c q → (y : Said) → q ≡ Written y → (r : Told) → Followed t m (saidOf y) r
+    → Followed t m (firstSaid (traceLineSaid (Starts st bits))) r
+begin-said t m st bits c z q h y e r f =
+    let (line, count) = written (Starts st bits) c q h y e in
+    let one : y .count .lines ≡ 1 = let n = count (omega arith) in omega arith in
+    subst (λ (v : Utterance). Followed t m v r) (λ i. record { line = line i; lines = one i }) f
 
-pub begin-unsaid : (t : Table) (m : Monitor) (x : TraceLine) (u : Unsaid) → Followed t m x (Unwritten u)
+pub begin-unsaid : (t : Table) (m : Monitor) (x : Utterance) (u : Unsaid) → Followed t m x (Unwritten u)
 unfolding Followed
 begin-unsaid t m x u = tt

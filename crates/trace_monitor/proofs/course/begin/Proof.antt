@@ -8,6 +8,9 @@ use borrow.Author.Needs.{needs}
 use Rattle.trace_monitor.proofs.course.begin.Statement.{statement}
 use Rattle.trace_monitor.proofs.course.begin.Tie as tie
 
+none-requires : tie.Need-none-requires
+none-requires c κs = search needs
+
 say-requires : tie.Need-say-requires
 say-requires c κs = search needs
 
@@ -23,10 +26,10 @@ slice-aggregate-follow-2 c = search needs
 follow-requires : tie.Need-follow-requires
 follow-requires c κs =
     let at-say = c .before .before .before .before .before .before .before .before .before .before in
-    let at-pre = at-say .before .before .before .before .before .before .before in (
+    let at-pre = at-say .before .before .before .before .before .before .before .before in (
       at-pre .pre .0,
       (
-        (length-replicate {A = ℕ} 4112 0, omega (arith, at-say .say .kept .1 .0, at-pre .pre .1)),
+        (length-replicate {A = ℕ} 4112 0, omega (arith, at-say .say .kept .1 .1 .0, at-pre .pre .1)),
         subst
             (λ (n : ℕ). 0 < n) (sym (length-replicate {A = ℕ} 4096 0)) (omega arith),
       ),
@@ -49,7 +52,8 @@ returns c =
     let at-follow = c .before .before .before .before .before .before .before .before in
     let at-said = at-follow .before .before .before .before .before .before .before in
     let at-say = at-said .before .before .before .before in
-    begin-said _ _ _ _ _ (at-say .say .ensures .0) _ (at-said .said .given .1) _ (at-follow .follow .ensures)
+    begin-said _ _ _ _ _ (at-say .before .before .none .ensures) _ (at-say .say .ensures .0) _ (at-said .said .given .1)
+    _ (at-follow .follow .ensures)
 
 same-length-4 : tie.Need-same-length-4
 same-length-4 c = search needs
@@ -61,6 +65,7 @@ pub begin-spec : {M : Type 1} → statement M
 begin-spec =
     tie.close
     (tie.spec
+    none-requires
     say-requires
     enum-known-said
     slice-aggregate-follow

@@ -7,7 +7,7 @@ use lib.ListN.{length}
 use Rattle.table_index.specs.Index.{tableIn}
 use Rattle.state.specs.Record.{monitorOf}
 use Rattle.trace.specs.Tracing.{Tracing}
-use Rattle.trace_monitor.specs.Spoken.{saidLine}
+use Rattle.trace_monitor.specs.Spoken.{saidOf}
 use Rattle.trace_monitor.specs.Course.{Rooms, Gone}
 use Rattle.trace_monitor.specs.Course.Steps.{gone-none, gone-then}
 use Rattle.trace_monitor.specs.Course.Laws.{brought, follow-over}
@@ -20,8 +20,8 @@ Inv-loop list work area0₀ area1₀ piece₀ store₀ text₀ last₀ spoken₀
     (length area0 ≡ length area0₀) × (length area1 ≡ length area1₀) × (length piece ≡ length piece₀)
     × (length store ≡ length store₀) × (length text ≡ length text₀) × Rooms store₀ text₀ × (0 < length piece₀)
     × (last .taken ≤ 18446744073709551615)
-    × Gone (tableIn list) (monitorOf last₀ area0₀ area1₀) (saidLine spoken₀) (monitorOf last area0 area1)
-    (saidLine spoken)
+    × Gone (tableIn list) (monitorOf last₀ area0₀ area1₀) (saidOf spoken₀) (monitorOf last area0 area1)
+    (saidOf spoken)
     × Tracing list work (monitorOf last area0 area1)
 
 abbrev μ-loop : tie.MeasureT-loop

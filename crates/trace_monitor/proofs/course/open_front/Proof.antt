@@ -48,6 +48,9 @@ begin-requires c κs =
 enum-known-refusal : tie.Need-enum-known-refusal
 enum-known-refusal c = search needs
 
+none-requires : tie.Need-none-requires
+none-requires c κs = search needs
+
 slice-aggregate-say-refusal : tie.Need-slice-aggregate-say-refusal
 slice-aggregate-say-refusal c = search needs
 
@@ -90,12 +93,14 @@ same-length-8 c = search needs
 returns-2 : tie.Need-returns-2
 returns-2 c =
     let at-say-refusal = c .before in
-    let at-refusal = at-say-refusal .before .before .before in
+    let at-none = at-say-refusal .before .before in
+    let at-refusal = at-none .before .before in
     let at-open-trace = at-refusal .before .before .before .before .before .before .before .before .before .before in
     let at-pre = at-open-trace .before .before .before .before .before .before .before .before .before .before in
     let q = at-refusal .refusal .given .0 .0 in
     says-refused _ (q .number) (q .place) (refused-front _ _ _ _ _ (at-pre .pre .1) _ _ _ _ _
-    (at-open-trace .open-trace .ensures) _ (at-refusal .refusal .given .1)) _ (at-say-refusal .say-refusal .ensures)
+    (at-open-trace .open-trace .ensures) _ (at-refusal .refusal .given .1)) _ (at-none .none .ensures) _
+    (at-say-refusal .say-refusal .ensures)
 
 pub open-front-spec : {M : Type 1} → statement M
 open-front-spec =
@@ -108,6 +113,7 @@ open-front-spec =
     slice-aggregate-begin-2
     begin-requires
     enum-known-refusal
+    none-requires
     slice-aggregate-say-refusal
     say-refusal-requires
     same-length

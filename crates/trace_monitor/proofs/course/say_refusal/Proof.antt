@@ -1,8 +1,6 @@
 -- `course::say_refusal` meets its contract. Assumes nothing.
-use mathlib.Core.Path.{ap}
 use Rattle.trace.specs.declared.answer.TraceLine.the-variants.{Refuses}
-use Rattle.trace.specs.Answers.{traceLineSaid}
-use Rattle.trace_monitor.specs.Course.Laws.{written-line}
+use Rattle.trace_monitor.specs.Course.Laws.{written}
 use borrow.Author.Needs.{needs}
 use Rattle.trace_monitor.proofs.course.say_refusal.Statement.{statement}
 use Rattle.trace_monitor.proofs.course.say_refusal.Tie as tie
@@ -23,7 +21,7 @@ returns : tie.Need-returns
 returns c =
     let at-said = c .before in
     let at-say = at-said .before .before .before .before in
-    ap traceLineSaid (written-line (Refuses _ _) _ (at-say .say .ensures .0) _ (at-said .said .given .1))
+    written (Refuses _ _) _ _ (at-say .say .ensures .0) _ (at-said .said .given .1)
 
 same-length-2 : tie.Need-same-length-2
 same-length-2 c = search needs

@@ -7,10 +7,10 @@ use lib.ListN.{length, take}
 use Rattle.table_index.specs.Index.{tableIn}
 use Rattle.state.specs.Record.{monitorOf}
 use Rattle.trace.specs.Tracing.{Tracing}
-use Rattle.trace_monitor.specs.Spoken.{saidLine}
+use Rattle.trace_monitor.specs.Spoken.{saidOf}
 use Rattle.trace_monitor.specs.Course.{Rooms, Onward}
 use Rattle.trace_monitor.specs.Course.Steps.{onward-none}
-use Rattle.trace_monitor.specs.Course.Laws.{read-tracing, read-next, read-whole, read-over}
+use Rattle.trace_monitor.specs.Course.Laws.{turned-after, read-tracing, read-next, read-whole, read-over}
 use borrow.Author.Needs.{needs}
 use Rattle.trace_monitor.proofs.course.take_read.Statement.{statement}
 use Rattle.trace_monitor.proofs.course.take_read.Tie as tie
@@ -19,8 +19,8 @@ abbrev Inv-loop : tie.InvT-loop
 Inv-loop list work area0₀ area1₀ events store₀ text₀ last₀ spoken₀ i₀ area0 area1 store text last spoken i =
     (i ≤ length events) × (length area0 ≡ length area0₀) × (length area1 ≡ length area1₀)
     × (length store ≡ length store₀) × (length text ≡ length text₀) × Rooms store₀ text₀
-    × Onward (tableIn list) (monitorOf last₀ area0₀ area1₀) (saidLine spoken₀) (take i events)
-    (monitorOf last area0 area1) (saidLine spoken)
+    × Onward (tableIn list) (monitorOf last₀ area0₀ area1₀) (saidOf spoken₀) (take i events)
+    (monitorOf last area0 area1) (saidOf spoken)
     × Tracing list work (monitorOf last area0 area1)
 
 abbrev μ-loop : tie.MeasureT-loop
@@ -32,12 +32,15 @@ loop-holds c =
     let at-pre = c .before .before .before .before .before .before .before in
     (omega arith, refl, refl, refl, refl, at-pre .pre .1, onward-none _ _ _, at-pre .pre .0)
 
+count-requires : tie.Need-count-requires Inv-loop μ-loop
+count-requires c κs = search needs
+
 shared-slice-read-turn : tie.Need-shared-slice-read-turn Inv-loop μ-loop
 shared-slice-read-turn c = search needs
 
 turn-requires : tie.Need-turn-requires Inv-loop μ-loop
 turn-requires c κs =
-    let at-loop = c .before .before .before .before .before .before in (
+    let at-loop = c .before .before .before .before .before .before .before in (
       at-loop .loop .inv .7,
       (
         at-loop .loop .inv .3 ∙ at-loop .loop .inv .5 .0,
@@ -55,7 +58,7 @@ enum-known-next c = search needs
 add-i : tie.Need-add-i Inv-loop μ-loop
 add-i c =
     let on-11 = c .before .before .before .before .before .before .before .before .before .before .before in
-    let at-loop-test = on-11 .before .before .before .before .before .before in
+    let at-loop-test = on-11 .before .before .before .before .before .before .before in
     let at-good = at-loop-test .before .before .before .before .before .before .before .before .before in
     omega (arith, at-loop-test .loop-test .taken, at-good .good .1 .1 .1 .1 .1 .1 .0 .0)
 
@@ -66,20 +69,21 @@ loop-again : tie.Need-loop-again Inv-loop μ-loop
 loop-again c =
     let at-next = c .before in
     let at-turn = at-next .before .before .before .before .before .before .before .before .before .before in
-    let at-loop-test = at-turn .before .before .before .before .before .before in
-    let at-loop = at-loop-test .before in (
+    let at-count = at-turn .before .before .before .before .before .before in
+    let at-loop-test = at-count .before in
+    let at-loop = at-loop-test .before in
+    let turned = turned-after _ _ _ _ _ _ _ _ _ (at-count .count .ensures) (at-turn .turn .ensures) in (
       omega (arith, at-loop-test .loop-test .taken),
-      at-turn .turn .kept .1 .1 .1 .1 .0 ∙ at-loop .loop .inv .1,
-      at-turn .turn .kept .1 .1 .1 .1 .1 .0 ∙ at-loop .loop .inv .2,
-      at-turn .turn .kept .1 .1 .1 .1 .1 .1 .0 ∙
+      at-turn .turn .kept .1 .1 .1 .1 .1 .0 ∙ at-loop .loop .inv .1,
+      at-turn .turn .kept .1 .1 .1 .1 .1 .1 .0 ∙ at-loop .loop .inv .2,
+      at-turn .turn .kept .1 .1 .1 .1 .1 .1 .1 .0 ∙
           at-loop .loop .inv .3,
-      at-turn .turn .kept .1 .1 .1 .1 .1 .1 .1 .0 ∙ at-loop .loop .inv .4,
+      at-turn .turn .kept .1 .1 .1 .1 .1 .1 .1 .1 .0 ∙ at-loop .loop .inv .4,
       at-loop .loop .inv .5,
       read-next _ _ _ _ _ (at-loop .loop .i) _ _ (at-loop .loop .inv .6) (at-loop-test .loop-test .taken) _ _ _
-          (at-turn .turn .ensures) _ _ (at-next .next .given .1),
+          turned _ _ (at-next .next .given .1),
       read-tracing _ _ _ _ _ (at-loop .loop .i) _ _
-          (at-loop .loop .inv .6) (at-loop-test .loop-test .taken) _ _ _ (at-turn .turn .ensures) _ _
-          (at-next .next .given .1),
+          (at-loop .loop .inv .6) (at-loop-test .loop-test .taken) _ _ _ turned _ _ (at-next .next .given .1),
     )
 
 enum-known-told : tie.Need-enum-known-told Inv-loop μ-loop
@@ -101,10 +105,11 @@ returns : tie.Need-returns Inv-loop μ-loop
 returns c =
     let at-told = c .before in
     let at-turn = at-told .before .before .before .before .before .before .before .before .before .before in
-    let at-loop-test = at-turn .before .before .before .before .before .before in
+    let at-count = at-turn .before .before .before .before .before .before in
+    let at-loop-test = at-count .before in
     let at-loop = at-loop-test .before in
     read-over _ _ _ _ _ (at-loop .loop .i) _ _ (at-loop .loop .inv .6) (at-loop-test .loop-test .taken) _ _ _
-    (at-turn .turn .ensures) _ (at-told .told .given .1)
+    (turned-after _ _ _ _ _ _ _ _ _ (at-count .count .ensures) (at-turn .turn .ensures)) _ (at-told .told .given .1)
 
 same-length-5 : tie.Need-same-length-5 Inv-loop μ-loop
 same-length-5 c = search needs
@@ -131,6 +136,7 @@ take-read-spec =
     Inv-loop
     μ-loop
     loop-holds
+    count-requires
     shared-slice-read-turn
     turn-requires
     enum-known-next

@@ -43,7 +43,7 @@ returns c =
     let at-say = at-said .before .before .before .before in
     let at-next = at-say .before .before .before in
     let at-trace-event = at-next .before .before .before .before .before .before .before .before in
-    turn-went _ _ _ _ _ _ _ (at-trace-event .trace-event .ensures) _ _ (at-next .next .given .1) _
+    turn-went _ _ _ _ _ _ _ _ (at-trace-event .trace-event .ensures) _ _ (at-next .next .given .1) _
     (at-say .say .ensures .0) _ (at-said .said .given .1)
 
 same-length-5 : tie.Need-same-length-5
@@ -59,7 +59,7 @@ same-length-8 : tie.Need-same-length-8
 same-length-8 c = search needs
 
 returns-2 : tie.Need-returns-2
-returns-2 c = turn-unsaid _ _ _ _ _ _ _
+returns-2 c = turn-unsaid _ _ _ _ _ _ _ _
 
 same-length-9 : tie.Need-same-length-9
 same-length-9 c = search needs
@@ -78,7 +78,7 @@ returns-3 c =
     let at-say-refusal = c .before .before in
     let at-number = at-say-refusal .before .before .before in
     let at-trace-event = at-number .before .before .before .before .before .before .before .before in
-    turn-stopped _ _ _ _ _ _ _ (at-trace-event .trace-event .ensures) _ _ (at-number .number .given .1) _
+    turn-stopped _ _ _ _ _ _ _ _ (at-trace-event .trace-event .ensures) _ _ (at-number .number .given .1) _
     (at-say-refusal .say-refusal .ensures)
 
 pub turn-spec : {M : Type 1} → statement M
