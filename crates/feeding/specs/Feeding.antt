@@ -1,4 +1,5 @@
 -- What the functions below Feed promise (01, "Operations", "When the monitor declines").
+--     stepWords            the words of a step's store
 --     Holding, Standing    two areas that hold residuals; a monitor that is laid out of residuals
 --     Empty, NextBy        an area of zeros; the residuals after an event there, or a refusal
 --     Stepped              both areas after an event, or as they were
@@ -28,8 +29,13 @@ use Rattle.feeding.specs.declared.event.Taken.the-variants.{Went, Stoppe
 use Rattle.state.specs.declared.answer.Answer.{Answer}
 use Rattle.state.specs.Record.{monitorOf}
 use Rattle.state.specs.Answers.{outcome}
+use Rattle.tree_walk.specs.Layout.{storeWords}
 use Rattle.step_laws.specs.Holds.{AreaHolds, heldIn}
 pub mod Laws
+
+-- the words of the store that a step asks for
+abbrev pub stepWords : ℕ
+stepWords = storeWords
 
 -- area p holds the slots of c proper residuals and then zeros, area o zeros
 pub record Holding (t : Table) (p o : List ℕ) (c : ℕ) : Type 0 where

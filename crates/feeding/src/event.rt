@@ -5,6 +5,8 @@ ghost use lib.ListN.{length};
 ghost use Rattle.table_index.specs.Index.{tableIn, Indexed};
 ghost use Rattle.monitor_spec.specs.State.{slotCount};
 ghost use Rattle.state.specs.Record.{monitorOf};
+ghost use Rattle.tree_walk.specs.Layout.{storeWords};
+ghost use Rattle.set_step.specs.Memo.{StoreOf};
 ghost use Rattle.step_laws.specs.Holds.{AreaHolds, heldIn};
 ghost use Rattle.feeding.specs.Feeding.{Empty, NextBy, Holding, Standing, Advanced};
 ghost use Rattle.feeding.specs.Feeding.{Moved, TakenBy};
@@ -40,11 +42,12 @@ pub fn next_set(
 ) -> Next
     requires { ⌜ Indexed (now list) (now work) ⌝ }
     requires { ⌜ AreaHolds (tableIn (now list)) (now source) count ⌝ }
-    requires { ⌜ Empty (now destination) × (length (now store) ≡ 4112) ⌝ }
+    requires { ⌜ Empty (now destination) × StoreOf (tableIn (now list)) (now store) ⌝ }
     ensures { λ r.
         ⌜ NextBy (tableIn (now (list .entry))) (slotCount (now (destination .entry))) taken
         (heldIn (tableIn (now (list .entry))) (now (source .entry)) count) e
-        r (now (destination .exit)) ⌝ }
+        r (now (destination .exit))
+        × StoreOf (tableIn (now (list .entry))) (now (store .exit)) ⌝ }
 {
     let event = e as u64;
     if index::alphabet(list, work) <= event {
@@ -76,11 +79,12 @@ pub fn advance(
 ) -> Next
     requires { ⌜ Indexed (now list) (now work) ⌝ }
     requires { ⌜ Holding (tableIn (now list)) (now present) (now other) count ⌝ }
-    requires { ⌜ length (now store) ≡ 4112 ⌝ }
+    requires { ⌜ StoreOf (tableIn (now list)) (now store) ⌝ }
     ensures { λ r.
         ⌜ Advanced (tableIn (now (list .entry))) e taken count
         (now (present .entry)) (now (other .entry))
-        r (now (present .exit)) (now (other .exit)) ⌝ }
+        r (now (present .exit)) (now (other .exit))
+        × StoreOf (tableIn (now (list .entry))) (now (store .exit)) ⌝ }
 {
     match next_set(list, work, e, taken, present, count, other, store) {
         Next::Count(c) => {
@@ -103,11 +107,12 @@ pub fn advance_present(
 ) -> Next
     requires { ⌜ Indexed (now list) (now work) ⌝ }
     requires { ⌜ Standing (tableIn (now list)) (monitorOf state (now area0) (now area1)) ⌝ }
-    requires { ⌜ length (now store) ≡ 4112 ⌝ }
+    requires { ⌜ StoreOf (tableIn (now list)) (now store) ⌝ }
     ensures { λ r.
         ⌜ Moved (tableIn (now (list .entry)))
         (monitorOf state (now (area0 .entry)) (now (area1 .entry))) e
-        r (now (area0 .exit)) (now (area1 .exit)) ⌝ }
+        r (now (area0 .exit)) (now (area1 .exit))
+        × StoreOf (tableIn (now (list .entry))) (now (store .exit)) ⌝ }
 {
     let taken = state.taken;
     let count = state.count as usize;
@@ -129,14 +134,37 @@ pub fn take_event(
 ) -> Taken
     requires { ⌜ Indexed (now list) (now work) ⌝ }
     requires { ⌜ Standing (tableIn (now list)) (monitorOf state (now area0) (now area1)) ⌝ }
-    requires { ⌜ length (now store) ≡ 4112 ⌝ }
+    requires { ⌜ StoreOf (tableIn (now list)) (now store) ⌝ }
     ensures { λ r.
         ⌜ TakenBy (tableIn (now (list .entry)))
         (monitorOf state (now (area0 .entry)) (now (area1 .entry))) e
-        r (now (area0 .exit)) (now (area1 .exit)) ⌝ }
+        r (now (area0 .exit)) (now (area1 .exit))
+        × StoreOf (tableIn (now (list .entry))) (now (store .exit)) ⌝ }
 {
     match advance_present(list, work, e, state, area0, area1, store) {
         Next::Count(c) => Taken::Went(state.after(c as u64)),
         Next::Refused(number) => Taken::Stopped(number),
     }
+}
+
+// The same, where the store may keep leaves of another table: they are forgotten first.
+pub fn take_anew(
+    list: &[u16],
+    work: &[u64],
+    e: u8,
+    state: State,
+    area0: &mut [u64],
+    area1: &mut [u64],
+    store: &mut [u64],
+) -> Taken
+    requires { ⌜ Indexed (now list) (now work) ⌝ }
+    requires { ⌜ Standing (tableIn (now list)) (monitorOf state (now area0) (now area1)) ⌝ }
+    requires { ⌜ length (now store) ≡ storeWords ⌝ }
+    ensures { λ r.
+        ⌜ TakenBy (tableIn (now (list .entry)))
+        (monitorOf state (now (area0 .entry)) (now (area1 .entry))) e
+        r (now (area0 .exit)) (now (area1 .exit)) ⌝ }
+{
+    set_step::forget(store);
+    take_event(list, work, e, state, area0, area1, store)
 }

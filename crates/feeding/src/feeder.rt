@@ -5,6 +5,7 @@ ghost use Prim.Native.Nat.{_≤_, _<_};
 ghost use lib.ListN.{length};
 ghost use Rattle.table_index.specs.Index.{tableIn, Indexed};
 ghost use Rattle.monitor_spec.specs.Feed.{feedOf};
+ghost use Rattle.tree_walk.specs.Layout.{storeWords};
 ghost use Rattle.state.specs.Record.{monitorOf};
 ghost use Rattle.state.specs.Answers.{outcome};
 ghost use Rattle.feeding.specs.Feeding.{Standing, EndedBy};
@@ -13,6 +14,7 @@ use crate::met::take_kept;
 use crate::run::Run;
 use crate::run::take_part;
 use entering::enter_on;
+use set_step::STORE_WORDS;
 use state::Answer;
 use state::State;
 use state::clear_all;
@@ -61,7 +63,7 @@ fn take_stretch(
     requires { ⌜ (length (now sets) ≡ 1664) × (length (now starts) ≡ 64)
         × (length (now next) ≡ 2560) ⌝ }
     requires { ⌜ (from ≤ length (now events)) × (to ≤ length (now events)) ⌝ }
-    requires { ⌜ length (now store) ≡ 4112 ⌝ }
+    requires { ⌜ length (now store) ≡ storeWords ⌝ }
     ensures { λ r.
         ⌜ RunBy (tableIn (now (list .entry)))
         (monitorOf state (now (area0 .entry)) (now (area1 .entry))) (now (events .entry)) from to
@@ -101,7 +103,7 @@ fn take_long(
     requires { ⌜ Indexed (now list) (now work) ⌝ }
     requires { ⌜ Standing (tableIn (now list)) (monitorOf state (now area0) (now area1)) ⌝ }
     requires { ⌜ from ≤ length (now events) ⌝ }
-    requires { ⌜ length (now store) ≡ 4112 ⌝ }
+    requires { ⌜ length (now store) ≡ storeWords ⌝ }
     ensures { λ r.
         ⌜ EndedFrom (tableIn (now (list .entry)))
         (monitorOf state (now (area0 .entry)) (now (area1 .entry))) (now (events .entry)) from
@@ -158,7 +160,7 @@ pub fn take_all(
         (monitorOf state (now (area0 .entry)) (now (area1 .entry))) (now (events .entry))
         r (now (area0 .exit)) (now (area1 .exit)) ⌝ }
 {
-    let mut store = [0u64; 4112];
+    let mut store = [0u64; STORE_WORDS];
     let to = least(events.len(), 80);
     match take_part(list, work, state, area0, area1, events, 0, to, &mut store) {
         Run::Ended(answer) => answer,

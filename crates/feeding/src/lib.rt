@@ -10,6 +10,8 @@ pub use event::Taken;
 pub use event::advance;
 pub use event::advance_present;
 pub use event::next_set;
+pub use event::take_anew;
 pub use event::take_event;
 pub use feeder::feed;
 pub use feeder::take_all;
+pub use set_step::STORE_WORDS;

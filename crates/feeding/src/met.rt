@@ -4,13 +4,14 @@ ghost use mathlib.Core.Path.{_≡_};
 ghost use Prim.Native.Nat.{_*_, _≤_, _<_, _^_};
 ghost use lib.ListN.{length};
 ghost use Rattle.table_index.specs.Index.{tableIn, Indexed};
+ghost use Rattle.tree_walk.specs.Layout.{storeWords};
 ghost use Rattle.state.specs.Record.{monitorOf};
 ghost use Rattle.feeding.specs.Feeding.{Standing};
 ghost use Rattle.feeding.specs.Runs.{RunBy};
 ghost use Rattle.feeding.specs.OverSets.{Goes, Stays, TurnBy, BegunBy, LearnBy, GoesBy};
 ghost use Rattle.feeding.specs.Learning.{mayLearn, hasPaid};
 use crate::event::Taken;
-use crate::event::take_event;
+use crate::event::take_anew;
 use crate::run::Run;
 use met_sets::Pick;
 use met_sets::follow;
@@ -97,7 +98,7 @@ fn learn(
 ) -> Turn
     requires { ⌜ Indexed (now list) (now work) ⌝ }
     requires { ⌜ (alphabet ≡ tableIn (now list) .alphabet)
-        × (length (now store) ≡ 4112) ⌝ }
+        × (length (now store) ≡ storeWords) ⌝ }
     requires { ⌜ (i < length (now events)) × (length (now events) < 2 ^ 64) ⌝ }
     requires { ⌜ Stays (tableIn (now list)) (now events) k (now sets) (now starts) (now next)
         state n i (now area0) (now area1) ⌝ }
@@ -108,7 +109,7 @@ fn learn(
         (now (area0 .exit)) (now (area1 .exit)) ⌝ }
 {
     let e = events[i];
-    match take_event(list, work, e, state, area0, area1, store) {
+    match take_anew(list, work, e, state, area0, area1, store) {
         Taken::Stopped(number) => Turn::Ended(Answer::Stopped(Refusal { number, place: i }, state)),
         Taken::Went(reached) => {
             match pick_up(alphabet, k, sets, starts, next, reached, area0, area1) {
@@ -156,7 +157,7 @@ fn take_turn(
 ) -> Turn
     requires { ⌜ Indexed (now list) (now work) ⌝ }
     requires { ⌜ (alphabet ≡ tableIn (now list) .alphabet)
-        × (length (now store) ≡ 4112) ⌝ }
+        × (length (now store) ≡ storeWords) ⌝ }
     requires { ⌜ (from ≤ i) × (i ≤ length (now events)) × (length (now events) < 2 ^ 64) ⌝ }
     requires { ⌜ Goes (tableIn (now list)) (now events) k (now sets) (now starts) (now next)
         state n i (now area0) (now area1) ⌝ }
@@ -217,7 +218,7 @@ fn take_turns(
 ) -> Run
     requires { ⌜ Indexed (now list) (now work) ⌝ }
     requires { ⌜ (alphabet ≡ tableIn (now list) .alphabet)
-        × (length (now store) ≡ 4112) ⌝ }
+        × (length (now store) ≡ storeWords) ⌝ }
     requires { ⌜ from ≤ length (now events) ⌝ }
     requires { ⌜ Goes (tableIn (now list)) (now events) k (now sets) (now starts) (now next)
         state n from (now area0) (now area1) ⌝ }
@@ -286,7 +287,7 @@ pub fn take_kept(
     requires { ⌜ Standing (tableIn (now list)) (monitorOf state (now area0) (now area1)) ⌝ }
     requires { ⌜ (length (now sets) ≡ 1664) × (length (now starts) ≡ 64)
         × (length (now next) ≡ 2560) ⌝ }
-    requires { ⌜ (from ≤ length (now events)) × (length (now store) ≡ 4112) ⌝ }
+    requires { ⌜ (from ≤ length (now events)) × (length (now store) ≡ storeWords) ⌝ }
     ensures { λ r.
         ⌜ RunBy (tableIn (now (list .entry)))
         (monitorOf state (now (area0 .entry)) (now (area1 .entry))) (now (events .entry)) from from

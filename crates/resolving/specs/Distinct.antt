@@ -83,8 +83,9 @@ pub record Known (f : ℕ → List ℕ) (bound : ℕ) (indices : List ℕ) (at k
 unfoldable pub heldSlots : List ℕ → ℕ → List ℕ → List ℕ
 heldSlots l k s = cond (ltb k 8) (stored l (k * 16) s 16) l
 
--- kept indices stored from `at` on; nothing before them is touched
+-- kept indices stored from `at` on; nothing else is touched
 pub record Stored (old new : List ℕ) (at r : ℕ) (ks : List ℕ) : Type 0 where
   pub before : take at new ≡ take at old
   pub number : r ≡ length ks
   pub here : window at r new ≡ ks
+  pub behind : drop (at + r) new ≡ drop (at + r) old

@@ -1,7 +1,7 @@
 -- A store filled for one residual; a tree that cannot take the event is passed over whole.
 --     Sound                      the residual in a store: a known tree whose results fit a slot
 --     Held, NodeFilled           a prefix's set holds the event; one node is filled
---     FilledBefore, TakenOver    a prefix filled before; its part taken over by a node with the same word
+--     FilledBefore               a prefix filled before
 --     PreparedAll                trees one after the other are prepared
 --     Left, First                the trees that are left from a node on, of one residual; the first of them
 --     UpTo                       what holds there
@@ -18,10 +18,11 @@ use Rattle.table.specs.Table.{Table}
 use Rattle.residuals.specs.Slots.{nodes, nodesAll}
 use Rattle.residuals.specs.Residual.{Residual}
 use Rattle.resolving.specs.Words.{kindAt, holdsAt}
-use Rattle.resolving.specs.Distinct.{window}
+use Rattle.tree_walk.specs.Layout.{storeWords}
 use Rattle.tree_walk.specs.Walk.{leafKept, room}
 use Rattle.tree_walk.specs.Forest.{Valid, AllValid}
 use Rattle.tree_walk.specs.Course.{nodeCount, nodesFrom, Node, Prepared, Ready}
+use Rattle.set_step.specs.Memo.{Memo}
 pub mod Below
 pub mod Nodes
 pub mod Repeats
@@ -29,7 +30,8 @@ pub mod Asked
 pub mod Turns
 
 pub record Sound (t : Table) (bound e : ℕ) (store : List ℕ) : Type 0 where
-  pub size : length store ≡ 4112
+  pub size : length store ≡ storeWords
+  pub memo : Memo t store
   pub few : nodeCount store ≤ 15
   pub event : e < t .alphabet
   pub whole : bound ≡ length (t .definitions)
@@ -53,11 +55,6 @@ pub record FilledBefore (t : Table) (e : ℕ) (store : List ℕ) (k last : ℕ) 
   pub before : last < k
   pub few : 0 < last → length (leafKept t e (getD store last 0)) ≤ 256
   pub node : 0 < last → Node t e store last (getD store last 0)
-
--- node k's part is that of node `from`; nothing before it is touched
-pub record TakenOver (old new : List ℕ) (from k : ℕ) : Type 0 where
-  pub before : take (k * 257) new ≡ take (k * 257) old
-  pub part : window (k * 257) (getD old (from * 257) 0 + 1) new ≡ window (from * 257) (getD old (from * 257) 0 + 1) old
 
 abbrev pub PreparedAll : Table → ℕ → List ℕ → ℕ → List Residual → Type 0
 PreparedAll t e store k [] = Unit

@@ -19,6 +19,7 @@ use Rattle.resolving.specs.Lawful.{Lawful}
 use Rattle.resolving.specs.Distinct.{window, empty}
 use Rattle.tree_walk.specs.Walk.{room, results, onto}
 use Rattle.tree_walk.specs.Forest.{Valid}
+use Rattle.set_step.specs.Memo.{StoreOf}
 pub mod One
 pub mod Laws
 
@@ -48,7 +49,7 @@ pub record StepsOne (t : Table) (bound e : ℕ) (src : List ℕ) (i : ℕ) (stor
   pub whole : bound ≡ length (t .definitions)
   pub inside : i * 16 + 16 ≤ length src
   pub slot : SoundSlot t e src i
-  pub size : length store ≡ 4112
+  pub leaves : StoreOf t store
   pub held : c * 16 ≤ length dst
 
 -- the results of the i-th residual, held

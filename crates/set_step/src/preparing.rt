@@ -1,6 +1,10 @@
 // The results of one residual's leaves, prepared in a store. A tree that cannot take the event is
 // known before the results of any of its leaves are looked for, and is passed over. The definitions
 // are in `specs/Prepared.antt`.
+use crate::memo::copy_part;
+use crate::memo::entry_at;
+use crate::memo::is_entry;
+use crate::memo::keep;
 use node_word::memory_of;
 use node_word::remember;
 use node_word::term_of;
@@ -15,9 +19,10 @@ ghost use lib.ListN.{length, getD};
 ghost use Rattle.table.specs.Table.{termCount};
 ghost use Rattle.table_index.specs.Index.{tableIn, Indexed};
 ghost use Rattle.node_word.specs.Word.{termOfWord};
-ghost use Rattle.resolving.specs.Words.{kindAt};
+ghost use Rattle.resolving.specs.Words.{kindAt, holdsAt};
 ghost use Rattle.tree_walk.specs.Course.{nodeCount};
-ghost use Rattle.set_step.specs.Prepared.{Sound, Held, NodeFilled, FilledBefore, TakenOver, Fills};
+ghost use Rattle.set_step.specs.Memo.{StoreOf};
+ghost use Rattle.set_step.specs.Prepared.{Sound, Held, NodeFilled, FilledBefore, Fills};
 
 // Whether a node is a prefix, by the kind of its term. A residual's other nodes are STOP and pairs.
 fn is_prefix(list: &[u16], work: &[u64], w: u64) -> bool
@@ -45,20 +50,29 @@ fn has_word(store: &[u64], last: usize, w: u64) -> bool
     store[last] == w
 }
 
-// The part of node `from` again as that of node k: the number of its results and their indices.
-fn take_over(store: &mut [u64], from: usize, k: usize)
-    requires { ⌜ (length (now store) ≡ 4112) × (from < k) × (k ≤ 15) ⌝ }
-    requires { ⌜ getD (now store) (from * 257) 0 ≤ 256 ⌝ }
-    ensures { λ _. ⌜ TakenOver (now (store .entry)) (now (store .exit)) from k ⌝ }
+// Fills the part of node k, a prefix whose set holds the event: with the results that are kept of
+// its word and the event, or else with those of its follower, which are kept then.
+fn prepare_prefix(list: &[u16], work: &[u64], bound: usize, e: u64, store: &mut [u64], k: usize)
+    requires { ⌜ Indexed (now list) (now work) ⌝ }
+    requires { ⌜ Sound (tableIn (now list)) bound e (now store) ⌝ }
+    requires { ⌜ (1 ≤ k) × (k ≤ nodeCount (now store)) ⌝ }
+    requires { ⌜ (kindAt (tableIn (now list)) (getD (now store) k 0) ≡ 2)
+        × (holdsAt (tableIn (now list)) e (getD (now store) k 0) ≡ true) ⌝ }
+    ensures { λ _.
+        ⌜ NodeFilled (tableIn (now (list .entry))) e (now (store .entry)) (now (store .exit)) k
+        × StoreOf (tableIn (now (list .entry))) (now (store .exit)) ⌝ }
 {
-    let p = from * 257;
-    let q = k * 257;
-    let n = store[p] as usize;
-    let mut j = 0;
-    while j <= n {
-        store[q + j] = store[p + j];
-        j += 1;
+    let w = store[k];
+    let at = k * 257;
+    let p = entry_at(w, e);
+    if is_entry(store, p, w, e) {
+        copy_part(store, p + 2, at);
+        return;
     }
+    let m = remember(e, memory_of(w));
+    let c = distinct(list, work, bound, term_of(w) + 1, m, store, at + 1);
+    store[at] = c as u64;
+    keep(store, p, w, e, at);
 }
 
 // Fills the part of node k, whose tree takes the event: of a prefix the number of its results and
@@ -80,19 +94,17 @@ fn prepare_node(
     ensures { λ r.
         ⌜ NodeFilled (tableIn (now (list .entry))) e (now (store .entry))
         (now (store .exit)) k
-        × FilledBefore (tableIn (now (list .entry))) e (now (store .exit)) (k + 1) r ⌝ }
+        × FilledBefore (tableIn (now (list .entry))) e (now (store .exit)) (k + 1) r
+        × StoreOf (tableIn (now (list .entry))) (now (store .exit)) ⌝ }
 {
     let w = store[k];
     let at = k * 257;
     if is_prefix(list, work, w) {
         if has_word(store, last, w) {
-            take_over(store, last, k);
+            copy_part(store, last * 257, at);
             return k;
         }
-        let t = term_of(w);
-        let m = remember(e, memory_of(w));
-        let c = distinct(list, work, bound, t + 1, m, store, at + 1);
-        store[at] = c as u64;
+        prepare_prefix(list, work, bound, e, store, k);
         return k;
     }
     store[at] = 1;
@@ -104,7 +116,8 @@ pub(crate) fn prepare(list: &[u16], work: &[u64], bound: usize, e: u64, store: &
     requires { ⌜ Indexed (now list) (now work) ⌝ }
     requires { ⌜ Sound (tableIn (now list)) bound e (now store) ⌝ }
     ensures { λ _.
-        ⌜ Fills (tableIn (now (list .entry))) bound e (now (store .entry)) (now (store .exit)) ⌝ }
+        ⌜ Fills (tableIn (now (list .entry))) bound e (now (store .entry)) (now (store .exit))
+        × StoreOf (tableIn (now (list .entry))) (now (store .exit)) ⌝ }
 {
     let n = store[0] as usize;
     let mut last = 0;

@@ -10,16 +10,19 @@ use tree_moves::way_of;
 use tree_walk::walk;
 ghost use mathlib.Core.Path.{_≡_};
 ghost use Prim.Native.Nat.{_+_, _*_, _<_, _≤_};
-ghost use lib.ListN.{length, take};
+ghost use lib.ListN.{length, take, drop};
 ghost use Rattle.table_index.specs.Index.{tableIn, Indexed};
 ghost use Rattle.resolving.specs.Distinct.{window};
 ghost use Rattle.slots.specs.Holding.{Gave};
+ghost use Rattle.set_step.specs.Memo.{StoreOf};
 ghost use Rattle.set_step.specs.Stepped.{Source, StepsOne, steppedOne, SteppedOne, SteppedSet};
 
 // Copies the sixteen words from p on to the front of the store.
 fn load(src: &[u64], p: usize, store: &mut [u64])
     requires { ⌜ (p + 16 ≤ length (now src)) × (16 ≤ length (now store)) ⌝ }
-    ensures { λ _. ⌜ take 16 (now (store .exit)) ≡ window p 16 (now (src .entry)) ⌝ }
+    ensures { λ _.
+        ⌜ (take 16 (now (store .exit)) ≡ window p 16 (now (src .entry)))
+        × (drop 16 (now (store .exit)) ≡ drop 16 (now (store .entry))) ⌝ }
 {
     let mut j = 0;
     while j < 16 {
@@ -45,7 +48,8 @@ fn step_many(
     requires { ⌜ StepsOne (tableIn (now list)) bound e (now src) i (now store) (now dst) c ⌝ }
     ensures { λ r.
         ⌜ Gave (steppedOne (tableIn (now (list .entry))) e (now (src .entry)) i (now (dst .entry))
-        c) r (now (dst .exit)) ⌝ }
+        c) r (now (dst .exit))
+        × StoreOf (tableIn (now (list .entry))) (now (store .exit)) ⌝ }
 {
     load(src, i * 16, store);
     prepare(list, work, bound, e, store);
@@ -69,7 +73,8 @@ fn step_one(
     requires { ⌜ StepsOne (tableIn (now list)) bound e (now src) i (now store) (now dst) c ⌝ }
     ensures { λ r.
         ⌜ SteppedOne (tableIn (now (list .entry))) e (now (src .entry)) i (now (dst .entry)) c
-        r (now (dst .exit)) ⌝ }
+        r (now (dst .exit))
+        × StoreOf (tableIn (now (list .entry))) (now (store .exit)) ⌝ }
 {
     let at = i * 16;
     let n = src[at] as usize;
@@ -103,7 +108,7 @@ fn step_one(
 }
 
 // Holds all results of the n residuals of an area in another, after event e. The store is for this
-// function's own use; any words may be in it.
+// function's own use: a call hands it on from event to event, for what it keeps of leaves.
 pub fn step_set(
     list: &[u16],
     work: &[u64],
@@ -115,10 +120,11 @@ pub fn step_set(
 ) -> Held
     requires { ⌜ Indexed (now list) (now work) ⌝ }
     requires { ⌜ Source (tableIn (now list)) e (now src) n ⌝ }
-    requires { ⌜ length (now store) ≡ 4112 ⌝ }
+    requires { ⌜ StoreOf (tableIn (now list)) (now store) ⌝ }
     ensures { λ r.
         ⌜ SteppedSet (tableIn (now (list .entry))) e (now (src .entry)) n (now (dst .entry))
-        r (now (dst .exit)) ⌝ }
+        r (now (dst .exit))
+        × StoreOf (tableIn (now (list .entry))) (now (store .exit)) ⌝ }
 {
     let bound = index::definition_count(list, work);
     let mut c = 0;

@@ -2,10 +2,11 @@
 ghost use mathlib.Core.Path.{_≡_};
 ghost use lib.ListN.{length};
 ghost use Rattle.state.specs.Record.{monitorOf};
+ghost use Rattle.feeding.specs.Feeding.{stepWords};
 ghost use Rattle.trace.specs.Tracing.{Tracing, TracedBy};
 use crate::answer::Traced;
 use feeding::Taken;
-use feeding::take_event;
+use feeding::take_anew;
 use offering::offered;
 use state::State;
 
@@ -21,13 +22,13 @@ pub fn trace_event(
     store: &mut [u64],
 ) -> Traced
     requires { ⌜ Tracing (now list) (now work) (monitorOf state (now area0) (now area1)) ⌝ }
-    requires { ⌜ length (now store) ≡ 4112 ⌝ }
+    requires { ⌜ length (now store) ≡ stepWords ⌝ }
     ensures { λ r.
         ⌜ TracedBy (now (list .entry)) (now (work .entry))
         (monitorOf state (now (area0 .entry)) (now (area1 .entry))) e
         r (now (area0 .exit)) (now (area1 .exit)) ⌝ }
 {
-    match take_event(list, work, e, state, area0, area1, store) {
+    match take_anew(list, work, e, state, area0, area1, store) {
         Taken::Went(next) => Traced::Went(next, offered(list, work, next, area0, area1)),
         Taken::Stopped(number) => Traced::Stopped(number, state.taken),
     }

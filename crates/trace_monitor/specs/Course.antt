@@ -30,6 +30,7 @@ use Rattle.input.specs.declared.reading.Arrived.the-variants as came
 use Rattle.trace_spec.specs.TraceLine.{TraceLine, takes, refuses}
 use Rattle.trace_spec.specs.Trace.{Beginning, begins, declines, beginningOf, startLine, traceOf}
 use Rattle.trace_spec.specs.Reads.{at, reachedBy}
+use Rattle.feeding.specs.Feeding.{stepWords}
 use Rattle.trace.specs.Tracing.{Tracing, TracedOn, StoppedAt}
 use Rattle.trace_front.specs.declared.reader.Front.{Front}
 use Rattle.trace_front.specs.declared.reader.Front.the-variants as read
@@ -49,7 +50,7 @@ pub record LastLine (s : List ℕ) (x : TraceLine) : Type 0 where
 
 -- a step's store, as crate `trace` asks; room for the longest line
 abbrev pub Rooms : List ℕ → List ℕ → Type 0
-Rooms store text = (length store ≡ 4112) × (2816 ≤ length text)
+Rooms store text = (length store ≡ stepWords) × (2816 ≤ length text)
 
 -- ---- one event
 

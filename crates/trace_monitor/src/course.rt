@@ -23,6 +23,7 @@ use crate::print::Saying;
 use crate::print::Unsaid;
 use crate::print::none;
 use crate::print::say;
+use feeding::STORE_WORDS;
 use input::Arrived;
 use input::End;
 use input::Failure;
@@ -234,7 +235,7 @@ fn begin(
 {
     match say(TraceLine::Starts(state, permitted), none(), text) {
         Saying::Written(said) => {
-            let mut store = [0u64; 4112];
+            let mut store = [0u64; STORE_WORDS];
             let mut piece = [0u8; 4096];
             follow(
                 list,

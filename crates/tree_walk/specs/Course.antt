@@ -5,8 +5,9 @@
 --     Place, walked           a place in the walk, and what the walk gives from there
 --     leafRest                what is left of a leaf's results
 -- A store has the residual's slot from 0 on, and for a leaf at k the number of its results at k * 257 and their indices
--- after it; for a pair 1 there where it can take the event, 0 where it cannot. The laws are in `Course/`: `Nodes` (node
--- words), `Turns` (the first tree at a place), `Places`, `Pairs` and `Leaves` (the walk). Assumes nothing.
+-- after it; for a pair 1 there where it can take the event, 0 where it cannot. What stands behind the nodes' parts the
+-- walk does not read. The laws are in `Course/`: `Nodes` (node words), `Turns` (the first tree at a place), `Places`,
+-- `Pairs` and `Leaves` (the walk). Assumes nothing.
 use Prim.Native.Nat.{ℕ, _+_, _-_, _*_, _/_, _%_, _<_, _≤_, _^_}
 use mathlib.Core.Path.{_≡_}
 use mathlib.Core.Bool.{true}
@@ -22,6 +23,7 @@ use Rattle.slots.specs.Holding.{Outcome, putAll}
 use Rattle.resolving.specs.Distinct.{window, Resolvable}
 use Rattle.resolving.specs.Words.{kindAt, holdsAt}
 use Rattle.resolving.specs.Lawful.{Lawful}
+use Rattle.tree_walk.specs.Layout.{storeWords}
 use Rattle.tree_walk.specs.Walk.{leafKept, options, joins, results, room, onto}
 use Rattle.tree_walk.specs.Forest.{Forest, afterKept}
 pub mod Nodes
@@ -59,7 +61,7 @@ Served t e store k modes (r ∷ rs) =
     ((modes % 2 ≡ 0 → ⊥) → Prepared t e store k r) × Served t e store (k + length (nodes r)) (modes / 2) rs
 
 pub record Ready (t : Table) (bound e : ℕ) (store : List ℕ) : Type 0 where
-  pub size : length store ≡ 4112
+  pub size : length store ≡ storeWords
   pub few : nodeCount store ≤ 15
   pub law : Lawful t
   pub event : e < t .alphabet

@@ -3,13 +3,14 @@
 ghost use mathlib.Core.Path.{_≡_};
 ghost use mathlib.Core.Bool.{true};
 ghost use lib.ListN.{length};
+ghost use Rattle.tree_walk.specs.Layout.{storeWords};
 ghost use Rattle.monitor_spec.specs.State.{areasMeasured};
 ghost use Rattle.wash_spec.specs.Taking.{clockBack, startDue};
 ghost use Rattle.wash_state.specs.Answers.{timedStateOf};
 ghost use Rattle.washing.specs.Washing.{IsTable, OnReady, OnBy, Ready, TimedBy};
 use crate::fresh::take_fresh;
 use feeding::Taken;
-use feeding::take_event;
+use feeding::take_anew;
 use timetable::MINUTE_BOUND;
 use timetable::changes;
 use timetable::in_force;
@@ -54,7 +55,7 @@ fn take_on(
     requires { ⌜ IsTable (now list) × (length (now work) ≡ 8192) ⌝ }
     requires { ⌜ areasMeasured (now area0) (now area1) ≡ true ⌝ }
     requires { ⌜ OnReady (now list) (now work) due state (now area0) (now area1) ⌝ }
-    requires { ⌜ length (now store) ≡ 4112 ⌝ }
+    requires { ⌜ length (now store) ≡ storeWords ⌝ }
     ensures { λ r.
         ⌜ OnBy (now (list .entry)) due state e (now (area0 .entry)) (now (area1 .entry))
         r (now (area0 .exit)) (now (area1 .exit)) (now (work .exit)) ⌝ }
@@ -65,7 +66,7 @@ fn take_on(
             if due {
                 return take_fresh(list, work, e, record.taken % 2 == 0, area0, area1, store);
             }
-            take_event(list, work, e, record, area0, area1, store)
+            take_anew(list, work, e, record, area0, area1, store)
         }
     }
 }
@@ -85,7 +86,7 @@ pub(crate) fn take_timed(
 ) -> Taken
     requires { ⌜ Ready (now everyday) (now wash) (now windows) state
         (now area0) (now area1) (now work) ⌝ }
-    requires { ⌜ length (now store) ≡ 4112 ⌝ }
+    requires { ⌜ length (now store) ≡ storeWords ⌝ }
     ensures { λ r.
         ⌜ TimedBy (now (everyday .entry)) (now (wash .entry)) (now (windows .entry))
         state e minute (now (area0 .entry)) (now (area1 .entry))

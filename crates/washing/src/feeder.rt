@@ -6,6 +6,7 @@ ghost use Rattle.wash_state.specs.Answers.{timedMonitorOf, timedOutcome};
 ghost use Rattle.washing.specs.Washing.{Ready, TimedEndedBy};
 use crate::entry::enter_timed;
 use crate::event::take_timed;
+use feeding::STORE_WORDS;
 use feeding::Taken;
 use state::clear_all;
 use table::Judged;
@@ -33,7 +34,7 @@ fn take_all_timed(
         (timedMonitorOf state (now (area0 .entry)) (now (area1 .entry)))
         (now (events .entry)) (now (minutes .entry)) r (now (area0 .exit)) (now (area1 .exit)) ⌝ }
 {
-    let mut store = [0u64; 4112];
+    let mut store = [0u64; STORE_WORDS];
     let mut reached = state;
     let mut i = 0;
     while i < events.len() {

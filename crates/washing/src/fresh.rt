@@ -5,13 +5,14 @@
 ghost use mathlib.Core.Path.{_≡_};
 ghost use mathlib.Core.Bool.{true};
 ghost use lib.ListN.{length};
+ghost use Rattle.tree_walk.specs.Layout.{storeWords};
 ghost use Rattle.table_index.specs.Index.{tableIn, Indexed};
 ghost use Rattle.monitor_spec.specs.State.{areasMeasured, slotCount};
 ghost use Rattle.feeding.specs.Feeding.{Empty};
 ghost use Rattle.washing.specs.Washing.{IsTable, FirstBy, AfreshBy, Free, FreshBy};
 use entering::enter;
 use feeding::Taken;
-use feeding::take_event;
+use feeding::take_anew;
 use opening::resolve_last;
 use set_step::Held;
 use state::State;
@@ -39,7 +40,7 @@ fn take_settled(
 ) -> Taken
     requires { ⌜ Indexed (now list) (now work) ⌝ }
     requires { ⌜ areasMeasured (now room) (now other) ≡ true ⌝ }
-    requires { ⌜ length (now store) ≡ 4112 ⌝ }
+    requires { ⌜ length (now store) ≡ storeWords ⌝ }
     ensures { λ r.
         ⌜ FirstBy (tableIn (now (list .entry))) (slotCount (now (other .entry))) e
         r (now (other .exit)) ⌝ }
@@ -47,7 +48,7 @@ fn take_settled(
     match resolve_last(list, work, room, other) {
         Held::Count(count) => {
             let fresh = State::fresh(count as u64);
-            take_event(list, work, e, fresh, room, other, store)
+            take_anew(list, work, e, fresh, room, other, store)
         }
         Held::Exceeded => Taken::Stopped(13),
     }
@@ -57,7 +58,7 @@ fn take_settled(
 fn take_first(list: &[u16], work: &[u64], e: u8, other: &mut [u64], store: &mut [u64]) -> Taken
     requires { ⌜ Indexed (now list) (now work) ⌝ }
     requires { ⌜ areasMeasured (now other) (now other) ≡ true ⌝ }
-    requires { ⌜ length (now store) ≡ 4112 ⌝ }
+    requires { ⌜ length (now store) ≡ storeWords ⌝ }
     ensures { λ r.
         ⌜ FirstBy (tableIn (now (list .entry))) (slotCount (now (other .entry))) e
         r (now (other .exit)) ⌝ }
@@ -78,7 +79,7 @@ fn start_in_other(
 ) -> Taken
     requires { ⌜ Indexed (now list) (now work) ⌝ }
     requires { ⌜ (areasMeasured (now area0) (now area1) ≡ true) × Empty (now area1) ⌝ }
-    requires { ⌜ length (now store) ≡ 4112 ⌝ }
+    requires { ⌜ length (now store) ≡ storeWords ⌝ }
     ensures { λ r.
         ⌜ AfreshBy (tableIn (now (list .entry))) e (now (area0 .entry)) (now (area1 .entry))
         r (now (area0 .exit)) (now (area1 .exit)) ⌝ }
@@ -103,7 +104,7 @@ fn start_in_first(
 ) -> Taken
     requires { ⌜ Indexed (now list) (now work) ⌝ }
     requires { ⌜ (areasMeasured (now area0) (now area1) ≡ true) × Empty (now area0) ⌝ }
-    requires { ⌜ length (now store) ≡ 4112 ⌝ }
+    requires { ⌜ length (now store) ≡ storeWords ⌝ }
     ensures { λ r.
         ⌜ AfreshBy (tableIn (now (list .entry))) e (now (area0 .entry)) (now (area1 .entry))
         r (now (area0 .exit)) (now (area1 .exit)) ⌝ }
@@ -132,7 +133,7 @@ pub(crate) fn take_fresh(
     requires { ⌜ IsTable (now list) × (length (now work) ≡ 8192) ⌝ }
     requires { ⌜ areasMeasured (now area0) (now area1) ≡ true ⌝ }
     requires { ⌜ Free even (now area0) (now area1) ⌝ }
-    requires { ⌜ length (now store) ≡ 4112 ⌝ }
+    requires { ⌜ length (now store) ≡ storeWords ⌝ }
     ensures { λ r.
         ⌜ FreshBy (now (list .entry)) e (now (area0 .entry)) (now (area1 .entry))
         r (now (area0 .exit)) (now (area1 .exit)) (now (work .exit)) ⌝ }

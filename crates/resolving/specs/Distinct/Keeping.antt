@@ -11,9 +11,9 @@ use mathlib.Core.Path.{_≡_, refl, ap, sym, _∙_}
 use mathlib.Core.Bool.{Bool, true, false}
 use mathlib.Core.List.{List, [], _∷_, _++_}
 use lib.ListN.{length, getD, set, length-append, length-set}
-use lib.Seq.{take-set-le, getD-set-same, getD-set-other}
+use lib.Seq.{take-set-le, drop-set-lt, getD-set-same, getD-set-other}
 use Rattle.resolving.specs.Distinct.{sameWords, window, keyFrom, isKept, keepNew, kept, Known, heldSlots, Stored}
-use Rattle.resolving.specs.Distinct.Laws.{window-none, window-cons, kept-held, kept-new, snoc-window}
+use Rattle.resolving.specs.Distinct.Laws.{window-none, window-cons, kept-held, kept-new, snoc-window, drop-further}
 use Rattle.resolving.specs.Distinct.Words.{differ-by, window-all, hold-here, hold-kept}
 
 -- ---- found
@@ -64,7 +64,7 @@ pub head-first : (f : ℕ → List ℕ) (bound : ℕ) (old : List ℕ) (at : ℕ
 unfolding kept
 head-first f bound old at keys slots =
     record {
-      indices = record { before = refl; number = refl; here = window-none at old };
+      indices = record { before = refl; number = refl; here = window-none at old; behind = refl };
       known = record {
         index = λ j h. absurd (omega arith);
         key = λ j h. absurd (omega arith);
@@ -92,6 +92,9 @@ module _ (f : ℕ → List ℕ) (bound : ℕ) (old new : List ℕ) (at k i : ℕ
           before = take-set-le at new (at + k) i (omega arith) ∙ h .indices .before;
           number = omega (arith, h .indices .number, length-append (kept f i) (i ∷ []));
           here = rw add-one (snoc-window new at k i w ∙ ap (λ (y : List ℕ). y ++ (i ∷ [])) (h .indices .here));
+          behind =
+              drop-set-lt (at + (k + 1)) new (at + k) i (omega arith)
+              ∙ drop-further (at + k) (at + (k + 1)) new old (h .indices .behind) (omega arith);
         })
 
     -- the index, the key and the slot of the j-th
@@ -148,6 +151,7 @@ kept-one f old at c e h =
       before = take-set-le at old at 0 (omega arith);
       number = refl;
       here = rw (z, window-none) at (snoc-window old at 0 0 (omega arith));
+      behind = drop-set-lt (at + 1) old at 0 (omega arith);
     })
 
 module _ (f : ℕ → List ℕ) (old : List ℕ) (at c : ℕ) (e : c ≡ 2) (h : at + 2 ≤ length old)
@@ -179,4 +183,7 @@ module _ (f : ℕ → List ℕ) (old : List ℕ) (at c : ℕ) (e : c ≡ 2) (h :
         here =
             snoc-window (set old at 0) at 1 1 (simp length-set (omega arith))
             ∙ ap (λ (y : List ℕ). y ++ (1 ∷ [])) (one .here);
+        behind =
+            drop-set-lt (at + 2) (set old at 0) (at + 1) 1 (omega arith)
+            ∙ drop-further (at + 1) (at + 2) (set old at 0) old (one .behind) (omega arith);
       })

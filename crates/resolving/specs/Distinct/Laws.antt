@@ -2,17 +2,17 @@
 --     same-true, same-cons, differ-cons                      equal lists of words
 --     length-window, at-window, window-none, window-cons     some words of a list
 --     kept-held, kept-new, kept-below, kept-few              the indices kept
---     snoc-window                                            one index more in a list
+--     snoc-window, drop-further                              one index more in a list; what is behind a later place
 --     resolves-empty, branches-exact                         what resolving asks; how many residuals there are
 -- Not here: the loops of `leaves.rt`, in `Words.antt` and `Keeping.antt`. Assumes nothing.
-use Prim.Native.Nat.{ℕ, zero, suc, _+_, _<_, _≤_}
+use Prim.Native.Nat.{ℕ, zero, suc, _+_, _-_, _<_, _≤_}
 use native.Mathlib.Omega.{arith}
 use native.Mathlib.Numerals.{add-one}
-use mathlib.Core.Path.{_≡_, refl, sym, _∙_}
+use mathlib.Core.Path.{_≡_, refl, ap, sym, _∙_}
 use mathlib.Core.Bool.{Bool, true, false}
 use mathlib.Core.List.{List, [], _∷_, _++_}
 use lib.ListN.{length, getD, set, drop, length-append, length-take, length-drop, List·getD-append}
-use lib.Seq.{drop-cons, getD-take, getD-drop, getD-append-seam, take-suc-set, drop-set-add}
+use lib.Seq.{drop-cons, getD-take, getD-drop, getD-append-seam, take-suc-set, drop-set-add, drop-drop}
 use borrow.Author.Tests.{eq-eqb, ne-eqb}
 use Rattle.table.specs.Table.{Table}
 use Rattle.table.specs.Memory.{Memory}
@@ -122,6 +122,11 @@ pub snoc-window : (l : List ℕ) (p n v : ℕ) → p + n < length l → window p
     ≡ window p n l ++ (v ∷ [])
 unfolding window
 snoc-window l p n v h = rw (drop-set-add p l n v) (take-suc-set (drop p l) n v (simp length-drop (omega arith)))
+
+pub drop-further : (p q : ℕ) (a b : List ℕ) → drop p a ≡ drop p b → p ≤ q → drop q a ≡ drop q b
+drop-further p q a b e h =
+    let z : p + (q - p) ≡ q = omega arith in
+    rw z at (sym (drop-drop (q - p) p a) ∙ ap (drop (q - p)) e ∙ drop-drop (q - p) p b)
 
 -- ---- what resolving asks
 

@@ -1,14 +1,14 @@
 -- One node of a residual in a store: one law per way out of `prepare_node`.
 --     node-known, node-resolves, node-few           the node is a known term; its results can be resolved, and are few
---     event-fits                                    the event has room in a node word
---     fill-other, fill-resolves, fill-yes           `prepare_node`
+--     event-fits, sound-store                       the event has room in a node word; the store is one of the table
+--     fill-other, fill-resolves, -yes, -store       `prepare_node`, `prepare_prefix`
 -- Assumes nothing.
 use Prim.Native.Nat.{ℕ, zero, suc, _+_, _-_, _*_, _<_, _≤_}
 use native.Mathlib.Omega.{arith}
 use mathlib.Core.Path.{_≡_, _∙_}
 use mathlib.Core.Bool.{true}
 use mathlib.Core.List.{List, [], _∷_, _++_, map}
-use lib.ListN.{length, getD, set}
+use lib.ListN.{length, getD, set, length-set}
 use lib.Seq.{getD-set-same, take-set-le, drop-set-lt}
 use borrow.Author.Tests.{eq-eqb}
 use Rattle.table.specs.Table.{Table, termCount}
@@ -29,6 +29,8 @@ use Rattle.tree_walk.specs.Walk.Leaves.{results-yes, kept-yes, nodes-short, lea
 use Rattle.tree_walk.specs.Forest.{Valid}
 use Rattle.tree_walk.specs.Forest.Words.{known-node}
 use Rattle.tree_walk.specs.Course.{nodeCount, nodesFrom}
+use Rattle.set_step.specs.Memo.{StoreOf}
+use Rattle.set_step.specs.Memo.Laws.{store-behind}
 use Rattle.set_step.specs.Prepared.{Sound, NodeFilled}
 use Rattle.set_step.specs.Prepared.Below.{take-below}
 
@@ -67,6 +69,9 @@ after-set x p v c = rw (drop-set-lt (p + 1) x p v (omega arith))
 -- the event has room in a node word
 pub event-fits : {t : Table} {bound e : ℕ} {store : List ℕ} → Lawful t → Sound t bound e store → e < digitBound
 event-fits law s = omega (arith, s .event, law .events-most, events-fit)
+
+pub sound-store : (t : Table) (bound e : ℕ) (store : List ℕ) → Sound t bound e store → StoreOf t store
+sound-store t bound e store s = record { size = s .size; memo = s .memo }
 
 module _ (t : Table) (bound e : ℕ) (store : List ℕ) (s : Sound t bound e store) (k : ℕ) (a : 1 ≤ k)
     (b : k ≤ nodeCount store) where
@@ -133,20 +138,28 @@ module _ (t : Table) (bound e : ℕ) (store : List ℕ) (s : Sound t bound e sto
     pub fill-resolves : Resolvable t bound (n + 1) (memoryOf m)
     fill-resolves = rw (em, en, emm) (node-resolves law q h)
 
-    pub fill-yes : (x : List ℕ) (r : ℕ) → length x ≡ length store
-        → Stored store x (k * 257 + 1) r (kept (slotAt t (n + 1) (memoryOf m))
-        (length (resolve t (n + 1) (memoryOf m))))
-        → NodeFilled t e store (set x (k * 257) r) k
-    fill-yes x r lx st =
-        let l : leafKept t e (getD store k 0) ≡ kept (slotAt t (n + 1) (memoryOf m))
-        (length (resolve t (n + 1) (memoryOf m))) = rw (em, en, emm) (kept-yes t e (getD store k 0) (eq-eqb _ _ q) h) in
-        record {
-          before =
-              take-set-le (k * 257) x (k * 257) r (omega arith)
-              ∙ take-below (k * 257 + 1) (k * 257) x store (st .before) (omega arith);
-          prefix = λ z. record {
-            number = rw l (getD-set-same x (k * 257) r 0 (omega (arith, s .size, s .few)) ∙ st .number);
-            indices = rw (l, ← (st .number)) (after-set x (k * 257) r r ∙ st .here);
-          };
-          other = λ z. absurd (z q);
-        }
+    follower-kept : leafKept t e (getD store k 0)
+        ≡ kept (slotAt t (n + 1) (memoryOf m)) (length (resolve t (n + 1) (memoryOf m)))
+    follower-kept = rw (em, en, emm) (kept-yes t e (getD store k 0) (eq-eqb _ _ q) h)
+
+    module _ (x : List ℕ) (r : ℕ) (lx : length x ≡ length store)
+        (st : Stored store x (k * 257 + 1) r (kept (slotAt t (n + 1) (memoryOf m))
+        (length (resolve t (n + 1) (memoryOf m))))) where
+      pub fill-yes : NodeFilled t e store (set x (k * 257) r) k
+      fill-yes = record {
+        before =
+            take-set-le (k * 257) x (k * 257) r (omega arith)
+            ∙ take-below (k * 257 + 1) (k * 257) x store (st .before) (omega arith);
+        prefix = λ z. record {
+          number = rw follower-kept (getD-set-same x (k * 257) r 0 (omega (arith, s .size, s .few)) ∙ st .number);
+          indices = rw (follower-kept, ← (st .number)) (after-set x (k * 257) r r ∙ st .here);
+        };
+        other = λ z. absurd (z q);
+      }
+
+      pub fill-store : StoreOf t (set x (k * 257) r)
+      fill-store =
+          let few : r ≤ 256 = omega (arith, st .number, rw follower-kept at (node-few law q h)) in
+          store-behind t (k * 257 + 1 + r) store (set x (k * 257) r)
+          (drop-set-lt (k * 257 + 1 + r) x (k * 257) r (omega arith) ∙ st .behind) (omega (arith, s .few))
+          (simp length-set lx) (sound-store t bound e store s)

@@ -1,81 +1,94 @@
--- A leaf whose word is that of the leaf filled last: its results are the same.
---     over-first, over-next, over-done     the loop of `take_over`
---     over-room, over-fills                what it asks for; the node is filled by it
---     last-none, last-kept, last-filled    the prefix filled last: none yet; the one that it was; this one
+-- A leaf whose word was there before: its results are the same.
+--     over-room, over-fills, over-store       they are copied from the leaf filled last
+--     entry-few, entry-fills, entry-store     they are copied from where they are kept
+--     kept-fills, kept-store                  they were not kept yet, and are now
+--     last-none, last-kept, last-filled       the prefix filled last: none yet; the one that it was; this one
 -- Assumes nothing.
-use Prim.Native.Nat.{ℕ, suc, _+_, _*_, _<_, _≤_}
+use Prim.Native.Nat.{ℕ, _+_, _*_, _<_, _≤_}
 use native.Mathlib.Omega.{arith}
-use native.Mathlib.Numerals.{add-one}
-use mathlib.Core.Path.{_≡_, refl, sym, subst, _∙_}
+use mathlib.Core.Path.{_≡_, _∙_}
 use mathlib.Core.Bool.{true}
-use mathlib.Core.List.{List, [], _∷_, _++_}
-use lib.ListN.{length, getD, set, take, drop, length-drop}
-use lib.Seq.{take-set-le, take-suc, getD-drop}
+use mathlib.Core.List.{List}
+use lib.ListN.{length, getD, take}
 use Rattle.table.specs.Table.{Table}
-use Rattle.resolving.specs.Distinct.{window}
-use Rattle.resolving.specs.Distinct.Laws.{window-none, window-cons, snoc-window}
 use Rattle.resolving.specs.Words.{kindAt, holdsAt}
 use Rattle.resolving.specs.Lawful.{Lawful}
 use Rattle.tree_walk.specs.Walk.{leafKept}
 use Rattle.tree_walk.specs.Course.{nodeCount, Node}
-use Rattle.tree_walk.specs.Course.Turns.{head-is, tail-is}
-use Rattle.set_step.specs.Prepared.{Sound, NodeFilled, FilledBefore, TakenOver}
-use Rattle.set_step.specs.Prepared.Below.{getD-below, node-kept}
+use Rattle.set_step.specs.Memo.{Part, Copied, EntryAt, StoreOf, KeptBy}
+use Rattle.set_step.specs.Memo.Copies.{part-moved}
+use Rattle.set_step.specs.Memo.Laws.{store-copies, kept-before, store-kept}
+use Rattle.set_step.specs.Prepared.{Sound, NodeFilled, FilledBefore}
+use Rattle.set_step.specs.Prepared.Below.{getD-below, take-below, node-kept}
 use Rattle.set_step.specs.Prepared.Nodes.{node-few}
 
--- ---- the loop of `take_over`
-
--- j words from p on are copied to q on
-pub record Over (old now : List ℕ) (p q j : ℕ) : Type 0 where
-  pub before : take q now ≡ take q old
-  pub part : window q j now ≡ window p j old
-
-window-suc : (l : List ℕ) (p j : ℕ) → p + j < length l → window p (suc j) l ≡ window p j l ++ (getD l (p + j) 0 ∷ [])
-unfolding window
-window-suc l p j h = take-suc (drop p l) j 0 (rw length-drop (omega arith)) ∙ rw (getD-drop p l j 0)
-
-module _ (old : List ℕ) (p q : ℕ) where
-  pub over-first : Over old old p q 0
-  over-first = record { before = refl; part = window-none _ _ ∙ sym (window-none _ _) }
-
-  module _ (now : List ℕ) (j : ℕ) (o : Over old now p q j) where
-    pub over-next : p + 257 ≤ q → j ≤ 256 → q + j < length now → length now ≡ length old
-        → Over old (set now (q + j) (getD now (p + j) 0)) p q (j + 1)
-    over-next h f l same =
-        let v : getD now (p + j) 0 ≡ getD old (p + j) 0 = getD-below q now old (p + j) (o .before) (omega arith) in
-        record {
-          before = take-set-le q now (q + j) _ (omega arith) ∙ o .before;
-          part =
-              rw add-one (snoc-window now q j (getD now (p + j) 0) l
-              ∙ rw (o .part, v) (sym (window-suc old p j (omega arith))));
-        }
-
-    pub over-done : (from k n : ℕ) → p ≡ from * 257 → q ≡ k * 257 → n ≡ getD old p 0 → j ≡ n + 1
-        → TakenOver old now from k
-    over-done from k n ep eq en ej = record { before = rw eq at (o .before); part = rw (ej, en, ep, eq) at (o .part) }
-
 -- ---- the node is filled
+
+part-fills : (t : Table) (e : ℕ) (old new : List ℕ) (p k : ℕ) → Copied old new p (k * 257)
+    → Part t e old p (getD old k 0) → kindAt t (getD old k 0) ≡ 2 → p < length old → k * 257 < length new
+    → NodeFilled t e old new k
+part-fills t e old new p k c d q lo ln = record {
+  before = c .before;
+  prefix = λ z.
+      let m = part-moved t e old new p (k * 257) (getD old k 0) (c .part) lo ln d in
+      record { number = m .number; indices = m .indices };
+  other = λ z. absurd (z q);
+}
 
 module _ (t : Table) (e : ℕ) (old : List ℕ) (k last : ℕ) (f : FilledBefore t e old k last) (h : 0 < last) where
   pub over-room : getD old (last * 257) 0 ≤ 256
   over-room = omega (arith, f .node h .number, f .few h)
 
-  pub over-fills : (new : List ℕ) (w : ℕ) → TakenOver old new last k → w ≡ getD old k 0 → getD old last 0 ≡ w
-      → kindAt t w ≡ 2 → length old ≡ 4112 → length new ≡ 4112 → k ≤ 15 → NodeFilled t e old new k
-  over-fills new w o ew same q lo ln b =
-      let d : Node t e old last (getD old k 0) = rw (same, ew) at (f .node h) in
-      let p = sym (window-cons (k * 257) _ new (omega arith))
-      ∙ (rw add-one at (o .part)) ∙ window-cons (last * 257) _ old (omega (arith, f .before)) in
-      record {
-        before = o .before;
-        prefix = λ z. record {
-          number = head-is p ∙ d .number;
-          indices =
-              subst (λ n. window (k * 257 + 1) n new ≡ window (last * 257 + 1) n old) (d .number) (tail-is p)
-              ∙ d .indices;
-        };
-        other = λ z. absurd (z (rw ew at q));
-      }
+  module _ (new : List ℕ) (w : ℕ) (o : Copied old new (last * 257) (k * 257)) (ew : w ≡ getD old k 0)
+      (same : getD old last 0 ≡ w) (q : kindAt t w ≡ 2) (s : StoreOf t old) (ln : length new ≡ length old)
+      (b : k ≤ 15) where
+    pub over-fills : NodeFilled t e old new k
+    over-fills =
+        let d : Node t e old last (getD old k 0) = rw (same, ew) at (f .node h) in
+        part-fills t e old new (last * 257) k o (record { number = d .number; indices = d .indices }) (rw ew at q)
+        (omega (arith, f .before, s .size)) (omega (arith, s .size))
+
+    pub over-store : StoreOf t new
+    over-store = store-copies t old new (last * 257) (k * 257) o (omega (arith, over-room)) ln s
+
+-- ---- the results are kept
+
+module _ (t : Table) (e : ℕ) (old : List ℕ) (s : StoreOf t old) (k w p : ℕ) (ew : w ≡ getD old k 0) (z : EntryAt p)
+    (word : getD old p 0 ≡ w) (event : getD old (p + 1) 0 ≡ e + 1) where
+  pub entry-few : getD old (p + 2) 0 ≤ 13
+  entry-few =
+      let d = s .memo .entry p z in omega (arith, d .few e event, d .part e event .number)
+
+  module _ (new : List ℕ) (o : Copied old new (p + 2) (k * 257)) (q : kindAt t w ≡ 2) (ln : length new ≡ length old)
+      (b : k ≤ 15) where
+    pub entry-fills : NodeFilled t e old new k
+    entry-fills =
+        part-fills t e old new (p + 2) k o (rw (word, ew) at (s .memo .entry p z .part e event)) (rw ew at q)
+        (omega (arith, z .place, z .within, s .size)) (omega (arith, s .size))
+
+    pub entry-store : StoreOf t new
+    entry-store = store-copies t old new (p + 2) (k * 257) o (omega (arith, entry-few)) ln s
+
+-- ---- they are kept now
+
+module _ (t : Table) (e : ℕ) (old y new : List ℕ) (k w p : ℕ) (f : NodeFilled t e old y k) (ew : w ≡ getD old k 0)
+    (few : length (leafKept t e w) ≤ 256) (b : k ≤ 15) (z : EntryAt p) (d : KeptBy y new p w e (k * 257)) where
+  same : take p new ≡ take p y
+  same = kept-before y new p w e (k * 257) d
+
+  pub kept-fills : NodeFilled t e old new k
+  kept-fills = record {
+    before = take-below p (k * 257) new y same (omega (arith, z .place)) ∙ f .before;
+    prefix = λ q.
+        node-kept t e p y new k (getD old k 0) same (rw ew at few) (omega (arith, z .place)) (f .prefix q);
+    other = λ q. getD-below p new y (k * 257) same (omega (arith, z .place)) ∙ f .other q;
+  }
+
+  pub kept-store : kindAt t w ≡ 2 → StoreOf t y → length new ≡ length y → StoreOf t new
+  kept-store q s ln =
+      let n : Node t e y k w = rw ew (f .prefix (rw ew at q)) in
+      store-kept t y new p w e (k * 257) z (s .size) ln (omega arith)
+      (record { number = n .number; indices = n .indices }) (s .memo) d
 
 -- ---- the prefix filled last
 

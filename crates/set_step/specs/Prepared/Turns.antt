@@ -27,6 +27,7 @@ use Rattle.tree_walk.specs.Course.Turns.{head-is, tail-is, no-cons}
 use Rattle.tree_moves.specs.declared.takes.Tree.{Tree}
 use Rattle.tree_moves.specs.Takes.{TreeAt, Takes}
 use Rattle.tree_moves.specs.Takes.Counts.{none-of}
+use Rattle.set_step.specs.Memo.{StoreOf}
 use Rattle.set_step.specs.Prepared.{Sound, Held, NodeFilled, PreparedAll, Left, First, UpTo, Fills}
 use Rattle.set_step.specs.Prepared.Below.{getD-below, take-below, nodes-same, node-kept, nodes-drop, nodes-length}
 use Rattle.set_step.specs.Prepared.Asked.{still-prepared, prefix-word, pair-word}
@@ -49,11 +50,12 @@ module _ (t : Table) (bound e : ℕ) (old : List ℕ) (s : Sound t bound e old) 
     pub up-count : nodeCount now ≡ nodeCount old
     up-count = getD-below 257 now old 0 (u .slot) (omega arith)
 
-    pub up-sound : length now ≡ 4112 → Sound t bound e now
+    pub up-sound : StoreOf t now → Sound t bound e now
     up-sound h =
         let n = nodes-same old now 1 (u .slot) (s .few) (omega arith) in
         record {
-          size = h;
+          size = h .size;
+          memo = h .memo;
           few = rw up-count (s .few);
           event = s .event;
           whole = s .whole;
@@ -63,9 +65,9 @@ module _ (t : Table) (bound e : ℕ) (old : List ℕ) (s : Sound t bound e old) 
           room = rw n (s .room);
         }
 
-    module _ (size : length now ≡ 4112) (a : 1 ≤ k) (b : k ≤ nodeCount old) where
+    module _ (size : StoreOf t now) (a : 1 ≤ k) (b : k ≤ nodeCount old) where
       here : nodesFrom now k ≡ getD now k 0 ∷ nodesFrom now (k + 1)
-      here = nodes-cons now k (omega (arith, up-count)) (omega (arith, up-count, s .few))
+      here = nodes-cons now k (omega (arith, up-count)) (omega (arith, up-count, s .few, size .size))
 
       -- what is the same where nothing before node k's part is touched
       module _ (new : List ℕ) (q : take (k * 257) new ≡ take (k * 257) now) where
@@ -125,7 +127,7 @@ module _ (t : Table) (bound e : ℕ) (old : List ℕ) (s : Sound t bound e old) 
           pass-before = take-set-le (k * 257) now (k * 257) 0 (omega arith)
 
           pass-number : getD passed (k * 257) 0 ≡ 0
-          pass-number = getD-set-same now (k * 257) 0 0 (omega (arith, size, s .few))
+          pass-number = getD-set-same now (k * 257) 0 0 (omega (arith, size .size, s .few))
 
           pass-left : (tree : Residual) → First t e now k tree → Left t e passed (c .next) tree
           pass-left tree d =
@@ -219,7 +221,7 @@ module _ (t : Table) (bound e : ℕ) (old : List ℕ) (s : Sound t bound e old) 
 
     -- ---- all nodes are done
 
-    module _ (size : length now ≡ 4112) (done : nodeCount old < k) (law : Lawful t) where
+    module _ (size : StoreOf t now) (done : nodeCount old < k) (law : Lawful t) where
       none-left : nodesFrom now k ≡ []
       none-left = nodes-none now k (omega (arith, up-count))
 
@@ -235,7 +237,7 @@ module _ (t : Table) (bound e : ℕ) (old : List ℕ) (s : Sound t bound e old) 
       pub up-fills : Fills t bound e old now
       up-fills = record {
         ready = record {
-          size = size;
+          size = size .size;
           few = rw up-count (s .few);
           law = law;
           event = s .event;

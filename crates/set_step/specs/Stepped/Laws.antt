@@ -19,6 +19,7 @@ use Rattle.slots.specs.Canon.Members.{same-refl, same-trans, same-append}
 use Rattle.resolving.specs.Lawful.{Lawful}
 use Rattle.resolving.specs.Distinct.{window, empty}
 use Rattle.tree_walk.specs.Walk.{results, onto}
+use Rattle.set_step.specs.Memo.{StoreOf}
 use Rattle.set_step.specs.Stepped.{slotNodes, gathered, Source, StepsOne, SteppedOne, SteppedSet}
 
 -- ---- load
@@ -33,7 +34,7 @@ load-next store src p j h k e =
 -- ---- step_set
 
 module _ (t : Table) (law : Lawful t) (bound e : ℕ) (src : List ℕ) (n i : ℕ) (s : Source t e src n)
-    (eb : bound ≡ length (t .definitions)) (h : i < n) (store : List ℕ) (size : length store ≡ 4112) (dst : List ℕ)
+    (eb : bound ≡ length (t .definitions)) (h : i < n) (store : List ℕ) (kept : StoreOf t store) (dst : List ℕ)
     (c : ℕ) (f : c * 16 ≤ length dst) where
   pub step-asks : StepsOne t bound e src i store dst c
   step-asks = record {
@@ -42,7 +43,7 @@ module _ (t : Table) (law : Lawful t) (bound e : ℕ) (src : List ℕ) (n i : �
     whole = eb;
     inside = omega (arith, s .room);
     slot = s .slots i h;
-    size = size;
+    leaves = kept;
     held = f;
   }
 

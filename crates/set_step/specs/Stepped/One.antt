@@ -37,6 +37,7 @@ use Rattle.tree_moves.specs.Only.Laws.{MovedBy}
 use Rattle.tree_moves.specs.Only.Pair.{became}
 use Rattle.tree_moves.specs.Moving.{StepsMoves, steppedMoves}
 use Rattle.tree_moves.specs.Members.{short-of, same-after}
+use Rattle.set_step.specs.Memo.Laws.{memo-behind}
 use Rattle.set_step.specs.Prepared.{Sound, Fills}
 use Rattle.set_step.specs.Prepared.Below.{nodes-same, window-of-prefix}
 use Rattle.set_step.specs.Stepped.{slotNodes, StepsOne, steppedOne, SteppedOne}
@@ -162,11 +163,12 @@ module _ {t : Table} {bound e : ℕ} {src : List ℕ} {i : ℕ} {store dst : Lis
 
   -- ---- the general way
 
-  module _ (store₁ : List ℕ) (size : length store₁ ≡ length store) (l : take 16 store₁ ≡ window (i * 16) 16 src) where
+  module _ (store₁ : List ℕ) (size : length store₁ ≡ length store)
+      (loaded : (take 16 store₁ ≡ window (i * 16) 16 src) × (drop 16 store₁ ≡ drop 16 store)) where
     count-is : nodeCount store₁ ≡ getD src (i * 16) 0
     count-is =
         let z : i * 16 + 0 ≡ i * 16 = omega arith in
-        sym (getD-take 16 store₁ 0 0 (omega arith)) ∙ ap (λ (x : List ℕ). getD x 0 0) l
+        sym (getD-take 16 store₁ 0 0 (omega arith)) ∙ ap (λ (x : List ℕ). getD x 0 0) (loaded .0)
         ∙ at-window (i * 16) 16 src 0 (omega arith) ∙ rw z
 
     nodes-are : nodesFrom store₁ 1 ≡ slotNodes src i
@@ -174,11 +176,12 @@ module _ {t : Table} {bound e : ℕ} {src : List ℕ} {i : ℕ} {store dst : Lis
     nodes-are =
         let few = s .slot .few in
         let k : nodeCount store₁ + 1 - 1 ≡ getD src (i * 16) 0 = omega (arith, count-is) in
-        rw k (window-of-prefix 16 store₁ src (i * 16) 1 (getD src (i * 16) 0) l (omega arith))
+        rw k (window-of-prefix 16 store₁ src (i * 16) 1 (getD src (i * 16) 0) (loaded .0) (omega arith))
 
     pub loaded-sound : Sound t bound e store₁
     loaded-sound = record {
-      size = size ∙ s .size;
+      size = size ∙ s .leaves .size;
+      memo = memo-behind t 16 store store₁ (loaded .1) (omega arith) (s .leaves .memo);
       few = rw count-is (s .slot .few);
       event = s .event;
       whole = s .whole;

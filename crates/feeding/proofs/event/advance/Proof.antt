@@ -48,9 +48,11 @@ returns c =
     let at-clear-first = c .before .before in
     let at-c = at-clear-first .before .before .before in
     let at-next-set = at-c .before .before .before .before .before .before in
-    let pre = at-next-set .before .before .before .before .before .before .before .before .before .pre in
-    advanced-count _ (indexed-rules (pre .0)) _ _ _ (pre .1 .0) _ _ _ _ (at-next-set .next-set .ensures) _
-    (at-c .c .given .1) _ (at-clear-first .clear-first .ensures)
+    let pre = at-next-set .before .before .before .before .before .before .before .before .before .pre in (
+      advanced-count _ (indexed-rules (pre .0)) _ _ _ (pre .1 .0) _ _ _ _ (at-next-set .next-set .ensures .0) _
+          (at-c .c .given .1) _ (at-clear-first .clear-first .ensures),
+      at-next-set .next-set .ensures .1,
+    )
 
 same-length-4 : tie.Need-same-length-4
 same-length-4 c = search needs
@@ -66,9 +68,11 @@ returns-2 : tie.Need-returns-2
 returns-2 c =
     let at-number = c .before in
     let at-next-set = at-number .before .before .before .before .before .before in
-    let pre = at-next-set .before .before .before .before .before .before .before .before .before .pre in
-    advanced-refused _ (indexed-rules (pre .0)) _ _ _ (pre .1 .0) _ _ _ _ (at-next-set .next-set .ensures) _
-    (at-number .number .given .1)
+    let pre = at-next-set .before .before .before .before .before .before .before .before .before .pre in (
+      advanced-refused _ (indexed-rules (pre .0)) _ _ _ (pre .1 .0) _ _ _ _ (at-next-set .next-set .ensures .0) _
+          (at-number .number .given .1),
+      at-next-set .next-set .ensures .1,
+    )
 
 pub advance-spec : {M : Type 1} → statement M
 advance-spec =

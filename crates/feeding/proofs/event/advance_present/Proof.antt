@@ -32,9 +32,11 @@ returns c =
     let at-advance = c .before .before .before .before .before .before in
     let at-if1 = at-advance .before .before .before .before in
     let at-start = at-if1 .before .before .before .before .before .before in
-    let args = at-start .args in
-    moved-even _ (regular _ (indexed-rules (at-start .pre .0))) (args .state) (args .area0 .now) (args .area1 .now)
-    (at-start .pre .1 .0) (at-if1 .if1 .taken) _ _ _ _ (at-advance .advance .ensures)
+    let args = at-start .args in (
+      moved-even _ (regular _ (indexed-rules (at-start .pre .0))) (args .state) (args .area0 .now) (args .area1 .now)
+          (at-start .pre .1 .0) (at-if1 .if1 .taken) _ _ _ _ (at-advance .advance .ensures .0),
+      at-advance .advance .ensures .1,
+    )
 
 advance-requires-2 : tie.Need-advance-requires-2
 advance-requires-2 c κs =
@@ -61,9 +63,11 @@ returns-2 c =
     let at-advance = c .before .before .before .before .before .before in
     let at-if1 = at-advance .before .before .before .before in
     let at-start = at-if1 .before .before .before .before .before .before in
-    let args = at-start .args in
-    moved-odd _ (regular _ (indexed-rules (at-start .pre .0))) (args .state) (args .area0 .now) (args .area1 .now)
-    (at-start .pre .1 .0) (at-if1 .if1 .left) _ _ _ _ (at-advance .advance2 .ensures)
+    let args = at-start .args in (
+      moved-odd _ (regular _ (indexed-rules (at-start .pre .0))) (args .state) (args .area0 .now) (args .area1 .now)
+          (at-start .pre .1 .0) (at-if1 .if1 .left) _ _ _ _ (at-advance .advance2 .ensures .0),
+      at-advance .advance2 .ensures .1,
+    )
 
 pub advance-present-spec : {M : Type 1} → statement M
 advance-present-spec =

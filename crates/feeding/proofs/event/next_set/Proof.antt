@@ -17,10 +17,12 @@ returns : tie.Need-returns
 returns c =
     let at-alphabet = c .before in
     let at-start = at-alphabet .before .before .before .before .before .before in
-    let args = at-start .args in
-    next-unknown (tableIn (args .list .now)) (args .e) (args .taken) (args .source .now) (args .count)
-    (args .destination .now)
-    (at-start .pre .1 .1 .0) (omega (arith, at-alphabet .alphabet .ensures .0))
+    let args = at-start .args in (
+      next-unknown (tableIn (args .list .now)) (args .e) (args .taken) (args .source .now) (args .count)
+          (args .destination .now)
+          (at-start .pre .1 .1 .0) (omega (arith, at-alphabet .alphabet .ensures .0)),
+      at-start .pre .1 .1 .1,
+    )
 
 -- the counter is full
 returns-2 : tie.Need-returns-2
@@ -30,10 +32,12 @@ returns-2 c =
     let at-start = at-alphabet .before .before .before .before .before .before in
     let args = at-start .args in
     let known : args .e < tableIn (args .list .now) .alphabet =
-    omega (arith, at-alphabet .alphabet .ensures .0, at-if1 .if1 .left) in
-    next-full (tableIn (args .list .now)) (args .e) (args .taken) (args .source .now) (args .count)
-    (args .destination .now)
-    (at-start .pre .1 .1 .0) known (c .if2 .taken)
+    omega (arith, at-alphabet .alphabet .ensures .0, at-if1 .if1 .left) in (
+      next-full (tableIn (args .list .now)) (args .e) (args .taken) (args .source .now) (args .count)
+          (args .destination .now)
+          (at-start .pre .1 .1 .0) known (c .if2 .taken),
+      at-start .pre .1 .1 .1,
+    )
 
 step-set-requires : tie.Need-step-set-requires
 step-set-requires c κs =
@@ -76,11 +80,13 @@ returns-3 c =
     let at-start = at-alphabet .before .before .before .before .before .before in
     let args = at-start .args in
     let known : args .e < tableIn (args .list .now) .alphabet =
-    omega (arith, at-alphabet .alphabet .ensures .0, at-if1 .if1 .left) in
-    next-count (tableIn (args .list .now)) (args .e) (args .taken) (args .source .now) (args .count)
-    (args .destination .now)
-    (at-start .pre .1 .1 .0) (indexed-rules (at-start .pre .0)) (at-start .pre .1 .0) known (at-if2 .if2 .left) _ _
-    (at-step-set .step-set .ensures) _ (at-c .c .given .1)
+    omega (arith, at-alphabet .alphabet .ensures .0, at-if1 .if1 .left) in (
+      next-count (tableIn (args .list .now)) (args .e) (args .taken) (args .source .now) (args .count)
+          (args .destination .now) (at-start .pre .1 .1 .0) (indexed-rules (at-start .pre .0)) (at-start .pre .1 .0) known
+          (at-if2 .if2 .left) _ _
+          (at-step-set .step-set .ensures .0) _ (at-c .c .given .1),
+      at-step-set .step-set .ensures .1,
+    )
 
 same-length-3 : tie.Need-same-length-3
 same-length-3 c = search needs
@@ -100,12 +106,14 @@ returns-4 c =
     let at-start = at-alphabet .before .before .before .before .before .before in
     let args = at-start .args in
     let known : args .e < tableIn (args .list .now) .alphabet =
-    omega (arith, at-alphabet .alphabet .ensures .0, at-if1 .if1 .left) in
-    next-exceeded (tableIn (args .list .now)) (args .e) (args .taken) (args .source .now) (args .count)
-    (args .destination .now)
-    (at-start .pre .1 .1 .0) (indexed-rules (at-start .pre .0)) (at-start .pre .1 .0) known (at-if2 .if2 .left) _ _
-    (at-step-set .step-set .ensures) (at-told .enum-told .given .1) _ (at-clear-all .clear-all .ensures)
-    (at-step-set .step-set .kept .1 .1 .1 .1 .1 .1 .0)
+    omega (arith, at-alphabet .alphabet .ensures .0, at-if1 .if1 .left) in (
+      next-exceeded (tableIn (args .list .now)) (args .e) (args .taken) (args .source .now) (args .count)
+          (args .destination .now) (at-start .pre .1 .1 .0) (indexed-rules (at-start .pre .0)) (at-start .pre .1 .0) known
+          (at-if2 .if2 .left) _ _
+          (at-step-set .step-set .ensures .0) (at-told .enum-told .given .1) _ (at-clear-all .clear-all .ensures)
+          (at-step-set .step-set .kept .1 .1 .1 .1 .1 .1 .0),
+      at-step-set .step-set .ensures .1,
+    )
 
 pub next-set-spec : {M : Type 1} → statement M
 next-set-spec =

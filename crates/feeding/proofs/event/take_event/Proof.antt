@@ -30,9 +30,12 @@ returns : tie.Need-returns
 returns c =
     let at-c = c .before .before in
     let at-advance = at-c .before .before .before .before .before .before .before .before in
-    let args = at-advance .before .before .before .before .before .before .before .before .before .args in
-    taken-went _ _ (args .state) (args .area0 .now) (args .area1 .now) _ _ _ (at-advance .advance-present .ensures) _
-    (at-c .c .given .1) (c .after .result) (c .after .ensures)
+    let args = at-advance .before .before .before .before .before .before .before .before .before .args in (
+      taken-went _ _ (args .state) (args .area0 .now) (args .area1 .now) _ _ _
+          (at-advance .advance-present .ensures .0) _
+          (at-c .c .given .1) (c .after .result) (c .after .ensures),
+      at-advance .advance-present .ensures .1,
+    )
 
 same-length-4 : tie.Need-same-length-4
 same-length-4 c = search needs
@@ -48,9 +51,12 @@ returns-2 : tie.Need-returns-2
 returns-2 c =
     let at-number = c .before in
     let at-advance = at-number .before .before .before .before .before .before .before .before in
-    let args = at-advance .before .before .before .before .before .before .before .before .before .args in
-    taken-refused _ _ (args .state) (args .area0 .now) (args .area1 .now) _ _ _ (at-advance .advance-present .ensures) _
-    (at-number .number .given .1)
+    let args = at-advance .before .before .before .before .before .before .before .before .before .args in (
+      taken-refused _ _ (args .state) (args .area0 .now) (args .area1 .now) _ _ _
+          (at-advance .advance-present .ensures .0) _
+          (at-number .number .given .1),
+      at-advance .advance-present .ensures .1,
+    )
 
 pub take-event-spec : {M : Type 1} → statement M
 take-event-spec =

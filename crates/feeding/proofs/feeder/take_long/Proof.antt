@@ -9,6 +9,7 @@ use Rattle.state.specs.Record.{monitorOf}
 use Rattle.feeding.specs.Runs.{ReachedAt}
 use Rattle.feeding.proofs.run.Turn.{reached-start, reached-then, ended-then, ended-done, run-ended, run-left}
 use borrow.Author.Needs.{needs}
+use Rattle.tree_walk.specs.Layout.{storeWords}
 use Rattle.feeding.proofs.feeder.take_long.Statement.{statement}
 use Rattle.feeding.proofs.feeder.take_long.Tie as tie
 
@@ -16,7 +17,7 @@ abbrev Inv-loop : tie.InvT-loop
 Inv-loop list work area0₀ area1₀ events from store₀ sets₀ starts₀ next₀ reached₀ i₀ area0 area1 store sets starts next
     reached i =
     (from ≤ i) × (i ≤ length events) × (length events < 2 ^ 64) × (length area0 ≡ length area0₀)
-    × (length area1 ≡ length area1₀) × (length store ≡ 4112) × (length sets ≡ 1664) × (length starts ≡ 64)
+    × (length area1 ≡ length area1₀) × (length store ≡ storeWords) × (length sets ≡ 1664) × (length starts ≡ 64)
     × (length next ≡ 2560)
     × ReachedAt (tableIn list) (monitorOf reached₀ area0₀ area1₀) events from (monitorOf reached area0 area1) i
 

@@ -12,8 +12,8 @@ use Rattle.feeding.proofs.met.learn.Tie as tie
 shared-slice-read-e : tie.Need-shared-slice-read-e
 shared-slice-read-e c = search needs
 
-take-event-requires : tie.Need-take-event-requires
-take-event-requires c κs =
+take-anew-requires : tie.Need-take-anew-requires
+take-anew-requires c κs =
     let at-slice-known3 = c .before .before .before .before .before .before .before .before in
     let at-start = at-slice-known3 .before .before .before .before .before in (
       at-start .pre .0,
@@ -33,14 +33,14 @@ enum-known-reached c = search needs
 pick-up-requires : tie.Need-pick-up-requires
 pick-up-requires c κs =
     let at-reached = c .before .before .before .before .before .before in
-    let at-take-event = at-reached .before .before .before .before .before .before .before .before in
-    let at-slice-known4 = at-take-event .before .before .before .before .before .before .before .before in
+    let at-take-anew = at-reached .before .before .before .before .before .before .before .before in
+    let at-slice-known4 = at-take-anew .before .before .before .before .before .before .before .before in
     let at-start = at-slice-known4 .before .before .before .before .before .before in (
       out-shape (regular _ (indexed-rules (at-start .pre .0))) (at-start .pre .1 .1 .1 .out)
-          (at-start .pre .1 .1 .0 .0) _ _ _ (at-take-event .take-event .ensures) _ (at-reached .reached .given .1)
+          (at-start .pre .1 .1 .0 .0) _ _ _ (at-take-anew .take-anew .ensures) _ (at-reached .reached .given .1)
           (at-start .pre .1 .0 .0),
       out-room (regular _ (indexed-rules (at-start .pre .0))) (at-start .pre .1 .1 .1 .out)
-          (at-start .pre .1 .1 .0 .0) _ _ _ (at-take-event .take-event .ensures) _ (at-reached .reached .given .1),
+          (at-start .pre .1 .1 .0 .0) _ _ _ (at-take-anew .take-anew .ensures) _ (at-reached .reached .given .1),
     )
 
 enum-told : tie.Need-enum-told
@@ -51,8 +51,8 @@ add-begin-again c =
     let at-area12 = c .before .before .before .before .before .before .before .before in
     let at-sets = at-area12 .before .before .before .before .before .before .before .before in
     let at-reached = at-sets .before .before .before .before .before .before .before .before in
-    let at-take-event = at-reached .before .before .before .before .before .before .before .before in
-    let at-slice-known4 = at-take-event .before .before .before .before .before .before .before .before in
+    let at-take-anew = at-reached .before .before .before .before .before .before .before .before in
+    let at-slice-known4 = at-take-anew .before .before .before .before .before .before .before .before in
     let at-start = at-slice-known4 .before .before .before .before .before .before in
     omega (arith, at-start .pre .1 .1 .0)
 
@@ -62,14 +62,14 @@ begin-again-requires c κs =
     let at-sets = at-area12 .before .before .before .before .before .before .before .before in
     let at-pick-up = at-sets .before in
     let at-reached = at-pick-up .before .before .before .before .before .before .before in
-    let at-take-event = at-reached .before .before .before .before .before .before .before .before in
-    let at-slice-known4 = at-take-event .before .before .before .before .before .before .before .before in
+    let at-take-anew = at-reached .before .before .before .before .before .before .before .before in
+    let at-slice-known4 = at-take-anew .before .before .before .before .before .before .before .before in
     let at-start = at-slice-known4 .before .before .before .before .before .before in
     let s = out-shape (regular _ (indexed-rules (at-start .pre .0))) (at-start .pre .1 .1 .1 .out)
-    (at-start .pre .1 .1 .0 .0) _ _ _ (at-take-event .take-event .ensures) _ (at-reached .reached .given .1)
+    (at-start .pre .1 .1 .0 .0) _ _ _ (at-take-anew .take-anew .ensures) _ (at-reached .reached .given .1)
     (at-start .pre .1 .0 .0) in
     let u = out-room (regular _ (indexed-rules (at-start .pre .0)))
-    (at-start .pre .1 .1 .1 .out) (at-start .pre .1 .1 .0 .0) _ _ _ (at-take-event .take-event .ensures) _
+    (at-start .pre .1 .1 .1 .out) (at-start .pre .1 .1 .0 .0) _ _ _ (at-take-anew .take-anew .ensures) _
     (at-reached .reached .given .1) in (
       (
         s .small,
@@ -97,11 +97,11 @@ link-requires c κs =
     let at-slice-known11 = at-j .before .before .before .before .before .before .before .before in
     let at-pick-up = at-slice-known11 .before .before .before .before in
     let at-reached = at-pick-up .before .before .before .before .before .before .before in
-    let at-take-event = at-reached .before .before .before .before .before .before .before .before in
-    let at-slice-known4 = at-take-event .before .before .before .before .before .before .before .before in
+    let at-take-anew = at-reached .before .before .before .before .before .before .before .before in
+    let at-slice-known4 = at-take-anew .before .before .before .before .before .before .before .before in
     let at-start = at-slice-known4 .before .before .before .before .before .before in
     learn-link (regular _ (indexed-rules (at-start .pre .0))) (at-start .pre .1 .1 .1 .out)
-    (at-start .pre .1 .1 .0 .0) _ _ _ (at-take-event .take-event .ensures) _ (at-reached .reached .given .1)
+    (at-start .pre .1 .1 .0 .0) _ _ _ (at-take-anew .take-anew .ensures) _ (at-reached .reached .given .1)
     (at-start .pre .1 .0 .0) _ _ _ _ _ _ (at-pick-up .pick-up .ensures) _ _ (at-j .j .given .1)
 
 add-t59 : tie.Need-add-t59
@@ -109,8 +109,8 @@ add-t59 c =
     let at-area12 = c .before .before .before .before .before .before .before .before in
     let at-sets = at-area12 .before .before .before .before .before .before .before .before in
     let at-reached = at-sets .before .before .before .before .before .before .before .before in
-    let at-take-event = at-reached .before .before .before .before .before .before .before .before in
-    let at-slice-known4 = at-take-event .before .before .before .before .before .before .before .before in
+    let at-take-anew = at-reached .before .before .before .before .before .before .before .before in
+    let at-slice-known4 = at-take-anew .before .before .before .before .before .before .before .before in
     let at-start = at-slice-known4 .before .before .before .before .before .before in
     omega (arith, at-start .pre .1 .1 .0)
 
@@ -126,12 +126,12 @@ same-length-3 c = search needs
 returns : tie.Need-returns
 returns c =
     let at-number = c .before in
-    let at-take-event = at-number .before .before .before .before .before .before .before .before in
-    let at-slice-known4 = at-take-event .before .before .before .before .before .before .before .before in
+    let at-take-anew = at-number .before .before .before .before .before .before .before .before in
+    let at-slice-known4 = at-take-anew .before .before .before .before .before .before .before .before in
     let at-start = at-slice-known4 .before .before .before .before .before .before in
     record {
       from = λ m i h. ended-refused _ _ _ _ _ _ _ _ (out-reached (regular _ (indexed-rules (at-start .pre .0)))
-          h) (at-start .pre .1 .1 .0 .0) _ _ _ (at-take-event .take-event .ensures) _ (at-number .number .given .1);
+          h) (at-start .pre .1 .1 .0 .0) _ _ _ (at-take-anew .take-anew .ensures) _ (at-number .number .given .1);
     }
 
 same-length-4 : tie.Need-same-length-4
@@ -151,9 +151,9 @@ same-length-7 c =
     let at-slice-known10 = at-slice-known14 .before .before .before .before .before .before .before .before in
     let at-pick-up = at-slice-known10 .before .before in
     let at-match = at-pick-up .before .before .before .before .before .before .before .before in
-    let at-take-event = at-match .before .before .before .before .before .before .before in
+    let at-take-anew = at-match .before .before .before .before .before .before .before in
     at-begin-again .begin-again .kept .1 .1 .1 .1 .1 .0 ∙ at-pick-up .pick-up .kept .1 .1 .1 .1 .1 .1 .0 ∙
-    at-take-event .take-event .kept .1 .1 .1 .1 .0
+    at-take-anew .take-anew .kept .1 .1 .1 .1 .0
 
 same-length-8 : tie.Need-same-length-8
 same-length-8 c =
@@ -163,9 +163,9 @@ same-length-8 c =
     let at-slice-known10 = at-slice-known14 .before .before .before .before .before .before .before .before in
     let at-pick-up = at-slice-known10 .before .before in
     let at-match = at-pick-up .before .before .before .before .before .before .before .before in
-    let at-take-event = at-match .before .before .before .before .before .before .before in
+    let at-take-anew = at-match .before .before .before .before .before .before .before in
     at-begin-again .begin-again .kept .1 .1 .1 .1 .1 .1 .0 ∙ at-pick-up .pick-up .kept .1 .1 .1 .1 .1 .1 .1 .0 ∙
-    at-take-event .take-event .kept .1 .1 .1 .1 .1 .0
+    at-take-anew .take-anew .kept .1 .1 .1 .1 .1 .0
 
 same-length-9 : tie.Need-same-length-9
 same-length-9 c =
@@ -174,8 +174,8 @@ same-length-9 c =
     let at-slice-known11 = at-enum-told .before .before .before .before .before .before .before .before in
     let at-pick-up-arg2 = at-slice-known11 .before .before .before .before .before .before .before .before in
     let at-area1 = at-pick-up-arg2 .before .before .before .before .before .before .before .before in
-    let at-take-event = at-area1 .before .before .before in
-    at-take-event .take-event .kept .1 .1 .1 .1 .1 .1 .0
+    let at-take-anew = at-area1 .before .before .before in
+    at-take-anew .take-anew .kept .1 .1 .1 .1 .1 .1 .0
 
 returns-2 : tie.Need-returns-2
 returns-2 c =
@@ -185,15 +185,15 @@ returns-2 c =
     let at-slice-known11 = at-enum-told .before .before .before .before .before .before .before .before in
     let at-pick-up = at-slice-known11 .before .before .before .before in
     let at-reached = at-pick-up .before .before .before .before .before .before .before in
-    let at-take-event = at-reached .before .before .before .before .before .before .before .before in
-    let at-slice-known4 = at-take-event .before .before .before .before .before .before .before .before in
+    let at-take-anew = at-reached .before .before .before .before .before .before .before .before in
+    let at-slice-known4 = at-take-anew .before .before .before .before .before .before .before .before in
     let at-start = at-slice-known4 .before .before .before .before .before .before in
     record {
       from = λ m i h. let l = at-start .pre .1 .1 .0 .0 in at-begin-again .begin-again .ensures .from _
           (regular _ (indexed-rules (at-start .pre .0))) (at-start .pre .1 .0 .0) m _ i _ (omega arith)
           (omega (arith, l))
           (learn-full (regular _ (indexed-rules (at-start .pre .0))) h (at-start .pre .1 .1 .0 .0) _ _ _
-          (at-take-event .take-event .ensures) _ (at-reached .reached .given .1) (at-start .pre .1 .0 .0) _ _ _ _ _ _
+          (at-take-anew .take-anew .ensures) _ (at-reached .reached .given .1) (at-start .pre .1 .0 .0) _ _ _ _ _ _
           (at-pick-up .pick-up .ensures) (at-enum-told .enum-told .given .1));
     }
 
@@ -222,13 +222,13 @@ returns-3 c =
     let at-slice-known11 = at-j .before .before .before .before .before .before .before .before in
     let at-pick-up = at-slice-known11 .before .before .before .before in
     let at-reached = at-pick-up .before .before .before .before .before .before .before in
-    let at-take-event = at-reached .before .before .before .before .before .before .before .before in
-    let at-slice-known4 = at-take-event .before .before .before .before .before .before .before .before in
+    let at-take-anew = at-reached .before .before .before .before .before .before .before .before in
+    let at-slice-known4 = at-take-anew .before .before .before .before .before .before .before .before in
     let at-start = at-slice-known4 .before .before .before .before .before .before in
     record {
       from = λ m i h. let l = (at-start .pre .1 .1 .0 .0) in (
         learn-kept (regular _ (indexed-rules
-            (at-start .pre .0))) h (at-start .pre .1 .1 .0 .0) _ _ _ (at-take-event .take-event .ensures) _
+            (at-start .pre .0))) h (at-start .pre .1 .1 .0 .0) _ _ _ (at-take-anew .take-anew .ensures) _
             (at-reached .reached .given .1) (at-start .pre .1 .0 .0) _ _ _ _ _ _ (at-pick-up .pick-up .ensures) _ _
             (at-j .j .given .1) _ (at-link .link .ensures),
         omega arith,
@@ -241,7 +241,7 @@ learn-spec =
     tie.close
     (tie.spec
     shared-slice-read-e
-    take-event-requires
+    take-anew-requires
     enum-known-number
     enum-known-reached
     pick-up-requires

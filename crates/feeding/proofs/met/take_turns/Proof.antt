@@ -9,6 +9,7 @@ use Rattle.table_index.specs.Index.{tableIn}
 use Rattle.feeding.specs.OverSets.{Since}
 use Rattle.feeding.proofs.met.Laws.{turn-kept, since-first, since-goes, since-kept, since-ended, since-left}
 use borrow.Author.Needs.{needs}
+use Rattle.tree_walk.specs.Layout.{storeWords}
 use Rattle.feeding.proofs.met.take_turns.Statement.{statement}
 use Rattle.feeding.proofs.met.take_turns.Tie as tie
 
@@ -17,7 +18,7 @@ Inv-loop list work alphabet k sets₀ starts₀ next₀ n area0₀ area1₀ even
     starts next area0 area1 store reached at kept i learnt =
     (from ≤ i) × (i ≤ length events) × (length events < 2 ^ 64) × (length sets ≡ length sets₀)
     × (length starts ≡ length starts₀) × (length next ≡ length next₀) × (length area0 ≡ length area0₀)
-    × (length area1 ≡ length area1₀) × (length store ≡ 4112)
+    × (length area1 ≡ length area1₀) × (length store ≡ storeWords)
     × Since (tableIn list) events k sets₀ starts₀ next₀ reached₀ n from area0₀ area1₀ kept sets starts next reached at i
     area0 area1 × (learnt ≤ i)
 

@@ -3,11 +3,14 @@
 use Prim.Native.Nat.{_+_, _-_, _*_, _≤_}
 use native.Mathlib.Omega.{arith}
 use mathlib.Core.Path.{_≡_, refl, sym, _∙_}
-use lib.ListN.{length, getD, length-set}
+use lib.ListN.{getD}
 use lib.Seq.{take-set-le}
 use Rattle.table_index.specs.Index.{tableIn}
 use Rattle.resolving.specs.Lawful.{lawful}
+use Rattle.set_step.specs.Memo.{StoreOf}
+use Rattle.set_step.specs.Memo.Laws.{store-marks}
 use Rattle.set_step.specs.Prepared.{UpTo, FilledBefore}
+use Rattle.set_step.specs.Prepared.Nodes.{sound-store}
 use Rattle.set_step.specs.Prepared.Repeats.{last-none, last-kept}
 use Rattle.set_step.specs.Prepared.Turns.{up-first, up-count, up-sound, up-tree, up-held, up-bounds, up-passes}
 use Rattle.set_step.specs.Prepared.Turns.{up-moves, up-fills}
@@ -16,7 +19,7 @@ use Rattle.set_step.proofs.preparing.prepare.Tie as tie
 
 abbrev Inv-loop : tie.InvT-loop
 Inv-loop list work bound e store₀ n last₀ k₀ store last k =
-    (1 ≤ k) × (k ≤ n + 1) × (length store ≡ 4112) × (n ≡ getD store₀ 0 0) × UpTo (tableIn list) e store₀ store k
+    (1 ≤ k) × (k ≤ n + 1) × StoreOf (tableIn list) store × (n ≡ getD store₀ 0 0) × UpTo (tableIn list) e store₀ store k
     × FilledBefore (tableIn list) e store k last
 
 abbrev μ-loop : tie.MeasureT-loop
@@ -28,7 +31,8 @@ slice-read-n c = omega (arith, c .before .before .before .before .pre .1 .size)
 loop-holds : tie.Need-loop-holds Inv-loop μ-loop
 loop-holds c =
     let at-start = c .before .before .before .before in
-    (omega arith, omega arith, at-start .pre .1 .size, refl, up-first _ _ _ _ (at-start .pre .1), last-none _ _ _)
+    let sound = at-start .pre .1 in
+    (omega arith, omega arith, sound-store _ _ _ _ sound, refl, up-first _ _ _ _ sound, last-none _ _ _)
 
 takes-at-requires : tie.Need-takes-at-requires Inv-loop μ-loop
 takes-at-requires c κs =
@@ -88,8 +92,7 @@ loop-again c =
     let tested = c .before .before .before .before .before .before .before .loop-test .taken in (
       omega arith,
       omega (arith, tested),
-      c .before .before .prepare-node .kept .1 .1 .1 .1 .0
-          ∙ at-loop .loop .inv .2,
+      c .before .before .prepare-node .ensures .2,
       at-loop .loop .inv .3,
       up-moves _ _ _ _ (at-start .pre .1) _ _ (at-loop .loop .inv .4) (at-loop .loop .inv .2) (at-loop .loop .inv .0)
           (omega (arith, at-loop .loop .inv .3, tested)) _
@@ -107,7 +110,7 @@ mul-store c =
       arith,
       at-loop .before .before .before .before .before .pre .1 .few,
       at-loop .loop .inv .3,
-      at-loop .loop .inv .2,
+      at-loop .loop .inv .2 .size,
       c .before .before .before .loop-test .taken,
     )
 
@@ -118,7 +121,7 @@ mul-store-2 c =
       arith,
       at-loop .before .before .before .before .before .pre .1 .few,
       at-loop .loop .inv .3,
-      at-loop .loop .inv .2,
+      at-loop .loop .inv .2 .size,
       c .before .before .before .loop-test .taken,
     )
 
@@ -129,7 +132,7 @@ slice-write-store c =
       arith,
       at-loop .before .before .before .before .before .pre .1 .few,
       at-loop .loop .inv .3,
-      at-loop .loop .inv .2,
+      at-loop .loop .inv .2 .size,
       c .before .before .before .loop-test .taken,
     )
 
@@ -149,7 +152,8 @@ loop-again-2 c =
     (at-loop .loop .inv .0) (omega (arith, at-loop .loop .inv .3, tested)) _ (c .before .takes-at .ensures) in (
       omega (arith, further .0),
       omega (arith, further .1, at-loop .loop .inv .3),
-      simp length-set (at-loop .loop .inv .2),
+      store-marks _ _ (at-loop .loop .k) _ (omega (arith, at-start .pre .1 .few, at-loop .loop .inv .3, tested))
+          (at-loop .loop .inv .2),
       at-loop .loop .inv .3,
       up-passes _ _ _ _ (at-start .pre .1) _ _ (at-loop .loop .inv .4) (at-loop .loop .inv .2) (at-loop .loop .inv .0)
           (omega (arith, at-loop .loop .inv .3, tested)) _ (c .before .takes-at .ensures) (c .if1 .left),
@@ -159,13 +163,15 @@ loop-again-2 c =
     )
 
 same-length : tie.Need-same-length Inv-loop μ-loop
-same-length c = c .before .loop .inv .2 ∙ sym (c .before .before .before .before .before .before .pre .1 .size)
+same-length c = c .before .loop .inv .2 .size ∙ sym (c .before .before .before .before .before .before .pre .1 .size)
 
 returns : tie.Need-returns Inv-loop μ-loop
 returns c =
-    let at-start = c .before .before .before .before .before .before in
-    up-fills _ _ _ _ (at-start .pre .1) _ _ (c .before .loop .inv .4) (c .before .loop .inv .2)
-    (omega (arith, c .before .loop .inv .3, c .loop-test .left)) (lawful (at-start .pre .0))
+    let at-start = c .before .before .before .before .before .before in (
+      up-fills _ _ _ _ (at-start .pre .1) _ _ (c .before .loop .inv .4) (c .before .loop .inv .2)
+          (omega (arith, c .before .loop .inv .3, c .loop-test .left)) (lawful (at-start .pre .0)),
+      c .before .loop .inv .2,
+    )
 
 pub prepare-spec : {M : Type 1} → statement M
 prepare-spec =

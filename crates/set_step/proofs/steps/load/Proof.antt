@@ -1,8 +1,9 @@
 -- `set_step::steps::load` meets its contract: the first j words are copied. Assumes nothing.
 use Prim.Native.Nat.{_-_, _≤_}
 use native.Mathlib.Omega.{arith}
-use mathlib.Core.Path.{_≡_, refl, sym}
-use lib.ListN.{length, take, length-set}
+use mathlib.Core.Path.{_≡_, refl, sym, _∙_}
+use lib.ListN.{length, take, drop, length-set}
+use lib.Seq.{drop-set-lt}
 use borrow.Author.Needs.{needs}
 use Rattle.resolving.specs.Distinct.{window}
 use Rattle.resolving.specs.Distinct.Laws.{window-none}
@@ -13,13 +14,14 @@ use Rattle.set_step.proofs.steps.load.Reads as reads
 use Rattle.set_step.proofs.steps.load.Lts as lts
 
 abbrev Inv-loop : tie.InvT-loop
-Inv-loop src p store₀ j₀ store j = (j ≤ 16) × (length store ≡ length store₀) × (take j store ≡ window p j src)
+Inv-loop src p store₀ j₀ store j =
+    (j ≤ 16) × (length store ≡ length store₀) × (take j store ≡ window p j src) × (drop 16 store ≡ drop 16 store₀)
 
 abbrev μ-loop : tie.MeasureT-loop
 μ-loop src p store₀ j₀ store j = 16 - j
 
 loop-holds : tie.Need-loop-holds Inv-loop μ-loop
-loop-holds c = (omega arith, refl, sym (window-none _ _))
+loop-holds c = (omega arith, refl, sym (window-none _ _), refl)
 
 add-store : tie.Need-add-store Inv-loop μ-loop
 add-store c = search needs
@@ -48,13 +50,17 @@ loop-again c = (
   simp length-set (c .before .before .loop .inv .1),
   load-next _ _ _ _ (omega arith) (omega arith)
       (c .before .before .loop .inv .2),
+  drop-set-lt 16 (c .before .before .loop .store) (c .before .before .loop .j) _ (omega arith)
+      ∙ c .before .before .loop .inv .3,
 )
 
 same-length : tie.Need-same-length Inv-loop μ-loop
 same-length c = search needs
 
 returns : tie.Need-returns Inv-loop μ-loop
-returns c = let e : c .before .loop .j ≡ 16 = omega arith in rw e at (c .before .loop .inv .2)
+returns c =
+    let e : c .before .loop .j ≡ 16 = omega arith in
+    (rw e at (c .before .loop .inv .2), c .before .loop .inv .3)
 
 pub load-spec : {M : Type 1} → statement M
 load-spec =

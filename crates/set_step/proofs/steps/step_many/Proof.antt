@@ -23,12 +23,12 @@ walk-requires c κs = (
   c .before .before .before .before .before .before .before .before .before .before .before .before .before .before
       .before .pre .0,
   (
-    c .before .before .before .before .prepare .ensures .ready,
+    c .before .before .before .before .prepare .ensures .0 .ready,
     start-place (c .before .before .before .before .before .before .before .before .before .before .before .before
         .before .before .before .pre .1) (c .before .before .before .before .before .before .before .before .load .last .1
         .1 .0) (c .before .before .before .before .before .before .before .before .load .kept .1 .1 .0)
         (c .before .before .before .before .before .before .before .before .load .ensures) _
-        (c .before .before .before .before .prepare .ensures),
+        (c .before .before .before .before .prepare .ensures .0),
   ),
 )
 
@@ -39,14 +39,16 @@ same-length-2 : tie.Need-same-length-2
 same-length-2 c = search needs
 
 returns : tie.Need-returns
-returns c =
-    many-done (c .before .before .before .before .before .before .before .before .before .before .before .before
-    .before .before .before .before .before .before .pre .1)
-    (c .before .before .before .before .before .before .before .before .before .before .before .load .last .1 .1 .0)
-    (c .before .before .before .before .before .before .before .before .before .before .before .load .kept .1 .1 .0)
-    (c .before .before .before .before .before .before .before .before .before .before .before .load .ensures) _
-    (c .before .before .before .before .before .before .before .prepare .ensures) _ _
-    (c .before .before .walk .ensures)
+returns c = (
+  many-done (c .before .before .before .before .before .before .before .before .before .before .before .before
+      .before .before .before .before .before .before .pre .1)
+      (c .before .before .before .before .before .before .before .before .before .before .before .load .last .1 .1 .0)
+      (c .before .before .before .before .before .before .before .before .before .before .before .load .kept .1 .1 .0)
+      (c .before .before .before .before .before .before .before .before .before .before .before .load .ensures) _
+      (c .before .before .before .before .before .before .before .prepare .ensures .0) _ _
+      (c .before .before .walk .ensures),
+  c .before .before .before .before .before .before .before .prepare .ensures .1,
+)
 
 pub step-many-spec : {M : Type 1} → statement M
 step-many-spec =

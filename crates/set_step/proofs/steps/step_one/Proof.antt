@@ -64,13 +64,16 @@ same-length : tie.Need-same-length
 same-length c = search needs
 
 returns : tie.Need-returns
-returns c =
-    lone-done (c .before .before .before .before .before .before .before .before .before .before .before .before
-    .before .before .before .before .before .pre .1) _ refl _
-    (c .before .before .before .before .before .before .before .before .before .before .way-of .ensures) _
-    (c .before .before .before .before .before .before .before .before .moves .given .1)
-    (c .before .before .before .before .before .before .if1 .taken) _ (c .before .before .before .before .rebuild .ensures) _
-    _ (c .before .before .put .ensures)
+returns c = (
+  lone-done (c .before .before .before .before .before .before .before .before .before .before .before .before
+      .before .before .before .before .before .pre .1) _ refl _
+      (c .before .before .before .before .before .before .before .before .before .before .way-of .ensures) _
+      (c .before .before .before .before .before .before .before .before .moves .given .1)
+      (c .before .before .before .before .before .before .if1 .taken) _ (c .before .before .before .before .rebuild .ensures) _
+      _ (c .before .before .put .ensures),
+  c .before .before .before .before .before .before .before .before .before .before .before .before
+      .before .before .before .before .before .pre .1 .leaves,
+)
 
 add-step-moves : tie.Need-add-step-moves
 add-step-moves c =
@@ -98,19 +101,24 @@ step-many-requires c κs = (
 )
 
 returns-2 : tie.Need-returns-2
-returns-2 c =
-    still-one (c .before .before .before .before .before .before .before .before .before .pre .1) _ refl _
-    (c .before .before .way-of .ensures) (c .enum-told .given .1)
+returns-2 c = (
+  still-one (c .before .before .before .before .before .before .before .before .before .pre .1) _ refl _
+      (c .before .before .way-of .ensures) (c .enum-told .given .1),
+  c .before .before .before .before .before .before .before .before .before .pre .1 .leaves,
+)
 
 same-length-2 : tie.Need-same-length-2
 same-length-2 c = search needs
 
 returns-3 : tie.Need-returns-3
-returns-3 c =
-    several-done (c .before .before .before .before .before .before .before .before .before .before .before .before
-    .before .before .before .pre .1) _ refl _
-    (c .before .before .before .before .before .before .before .before .way-of .ensures) _
-    (c .before .before .before .before .before .before .moves .given .1) _ _ (c .before .before .step-moves .ensures)
+returns-3 c = (
+  several-done (c .before .before .before .before .before .before .before .before .before .before .before .before
+      .before .before .before .pre .1) _ refl _
+      (c .before .before .before .before .before .before .before .before .way-of .ensures) _
+      (c .before .before .before .before .before .before .moves .given .1) _ _ (c .before .before .step-moves .ensures),
+  c .before .before .before .before .before .before .before .before .before .before .before .before
+      .before .before .before .pre .1 .leaves,
+)
 
 same-length-3 : tie.Need-same-length-3
 same-length-3 c = search needs
@@ -119,9 +127,11 @@ same-length-4 : tie.Need-same-length-4
 same-length-4 c = search needs
 
 returns-4 : tie.Need-returns-4
-returns-4 c =
-    many-one (c .before .before .before .before .before .before .before .before .before .before .before .before
-    .before .before .before .before .pre .1) _ _ (c .before .before .before .before .step-many .ensures)
+returns-4 c = (
+  many-one (c .before .before .before .before .before .before .before .before .before .before .before .before
+      .before .before .before .before .pre .1) _ _ (c .before .before .before .before .step-many .ensures .0),
+  c .before .before .before .before .step-many .ensures .1,
+)
 
 pub step-one-spec : {M : Type 1} → statement M
 step-one-spec =

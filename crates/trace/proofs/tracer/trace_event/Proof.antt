@@ -6,8 +6,8 @@ use borrow.Author.Needs.{needs}
 use Rattle.trace.proofs.tracer.trace_event.Statement.{statement}
 use Rattle.trace.proofs.tracer.trace_event.Tie as tie
 
-take-event-requires : tie.Need-take-event-requires
-take-event-requires c κs = search needs
+take-anew-requires : tie.Need-take-anew-requires
+take-anew-requires c κs = search needs
 
 enum-known-next : tie.Need-enum-known-next
 enum-known-next c = search needs
@@ -15,9 +15,9 @@ enum-known-next c = search needs
 offered-requires : tie.Need-offered-requires
 offered-requires c κs =
     let at-next = c .before .before .before in
-    let at-take-event = at-next .before .before .before .before .before .before .before .before in
-    let at-start = at-take-event .before .before .before .before .before .before .before .before .before in
-    let x = went-tracing _ _ _ (at-start .pre .0) _ _ _ _ (at-take-event .take-event .ensures) _
+    let at-take-anew = at-next .before .before .before .before .before .before .before .before in
+    let at-start = at-take-anew .before .before .before .before .before .before .before .before .before in
+    let x = went-tracing _ _ _ (at-start .pre .0) _ _ _ _ (at-take-anew .take-anew .ensures) _
     (at-next .next .given .1) in
     (at-start .pre .0 .indexed, (tracing-measured _ _ _ x, tracing-consistent _ _ _ x))
 
@@ -37,9 +37,9 @@ same-length-3 c = search needs
 returns : tie.Need-returns
 returns c =
     let at-next = c .before .before .before .before in
-    let at-take-event = at-next .before .before .before .before .before .before .before .before in
-    let at-start = at-take-event .before .before .before .before .before .before .before .before .before in
-    traced-went _ _ _ (at-start .pre .0) _ _ _ _ (at-take-event .take-event .ensures) _ (at-next .next .given .1) _
+    let at-take-anew = at-next .before .before .before .before .before .before .before .before in
+    let at-start = at-take-anew .before .before .before .before .before .before .before .before .before in
+    traced-went _ _ _ (at-start .pre .0) _ _ _ _ (at-take-anew .take-anew .ensures) _ (at-next .next .given .1) _
     (c .offered .ensures)
 
 same-length-4 : tie.Need-same-length-4
@@ -55,16 +55,16 @@ same-length-6 c = search needs
 returns-2 : tie.Need-returns-2
 returns-2 c =
     let at-number = c .before in
-    let at-take-event = at-number .before .before .before .before .before .before .before .before in
-    let at-start = at-take-event .before .before .before .before .before .before .before .before .before in
-    traced-stopped _ _ _ (at-start .pre .0) _ _ _ _ (at-take-event .take-event .ensures) _
+    let at-take-anew = at-number .before .before .before .before .before .before .before .before in
+    let at-start = at-take-anew .before .before .before .before .before .before .before .before .before in
+    traced-stopped _ _ _ (at-start .pre .0) _ _ _ _ (at-take-anew .take-anew .ensures) _
     (at-number .number .given .1)
 
 pub trace-event-spec : {M : Type 1} → statement M
 trace-event-spec =
     tie.close
     (tie.spec
-    take-event-requires
+    take-anew-requires
     enum-known-next
     offered-requires
     enum-known-number

@@ -3,6 +3,7 @@ use Prim.Native.Nat.{ℕ, _<_}
 use native.Mathlib.Omega.{arith}
 use mathlib.Core.Path.{sym, subst}
 use lib.ListN.{length-replicate}
+use Rattle.feeding.specs.Feeding.{stepWords}
 use Rattle.trace_monitor.specs.Course.Laws.{begin-said, begin-unsaid}
 use borrow.Author.Needs.{needs}
 use Rattle.trace_monitor.proofs.course.begin.Statement.{statement}
@@ -29,7 +30,7 @@ follow-requires c κs =
     let at-pre = at-say .before .before .before .before .before .before .before .before in (
       at-pre .pre .0,
       (
-        (length-replicate {A = ℕ} 4112 0, omega (arith, at-say .say .kept .1 .1 .0, at-pre .pre .1)),
+        (length-replicate {A = ℕ} stepWords 0, omega (arith, at-say .say .kept .1 .1 .0, at-pre .pre .1)),
         subst
             (λ (n : ℕ). 0 < n) (sym (length-replicate {A = ℕ} 4096 0)) (omega arith),
       ),

@@ -65,8 +65,8 @@ returns c =
     on-due _ _ _ _ _ _ _ _ _ _ _ _ (at-state .state .given .1) (at-if1 .if1 .taken)
     (at-take-fresh2 .take-fresh2 .ensures)
 
-take-event-requires : tie.Need-take-event-requires
-take-event-requires c κs =
+take-anew-requires : tie.Need-take-anew-requires
+take-anew-requires c κs =
     let at-if1 = c .before .before .before .before in
     let at-state = at-if1 .before .before in
     let at-start = at-state .before .before .before .before .before .before .before in
@@ -107,15 +107,15 @@ same-length-12 c = search needs
 
 returns-3 : tie.Need-returns-3
 returns-3 c =
-    let at-take-event = c .before .before .before .before .before .before in
-    let at-if1 = at-take-event .before .before .before .before .before in
+    let at-take-anew = c .before .before .before .before .before .before in
+    let at-if1 = at-take-anew .before .before .before .before .before in
     let at-state = at-if1 .before .before in
     let at-start = at-state .before .before .before .before .before .before .before in
     let args = at-start .args in
     let stands = ready-stands (args .list .now) (args .work .now) (args .due) (args .state) (args .area0 .now)
     (args .area1 .now) (at-start .pre .1 .1 .0) _ _ (at-state .state .given .1) (at-if1 .if1 .left) in
     on-taken _ _ _ _ _ _ _ _ _ _ _ _ (at-state .state .given .1) (at-if1 .if1 .left) (stands .0)
-    (at-take-event .take-event .ensures)
+    (at-take-anew .take-anew .ensures)
 
 pub take-on-spec : {M : Type 1} → statement M
 take-on-spec =
@@ -130,7 +130,7 @@ take-on-spec =
     same-length-3
     same-length-4
     returns
-    take-event-requires
+    take-anew-requires
     same-length-5
     same-length-6
     same-length-7

@@ -6,6 +6,7 @@ use native.Mathlib.Omega.{arith}
 use mathlib.Core.Path.{_≡_, refl, sym, _∙_}
 use lib.ListN.{length}
 use borrow.Author.Needs.{needs}
+use Rattle.tree_walk.specs.Layout.{storeWords}
 use Rattle.wash_state.specs.Answers.{timedMonitorOf}
 use Rattle.washing.proofs.feeder.Turn.{measured-kept, Head, head-first, head-next, head-stopped, head-done}
 use Rattle.washing.proofs.feeder.take_all_timed.Statement.{statement}
@@ -14,7 +15,7 @@ use Rattle.washing.proofs.feeder.take_all_timed.Tie as tie
 abbrev Inv-loop : tie.InvT-loop
 Inv-loop everyday wash windows area0₀ area1₀ events minutes work₀ store₀ reached₀ i₀ area0 area1 work store reached i =
     (i ≤ length events) × (length events < 2 ^ 64) × (length area0 ≡ length area0₀) × (length area1 ≡ length area1₀)
-    × (length work ≡ length work₀) × (length store ≡ 4112)
+    × (length work ≡ length work₀) × (length store ≡ storeWords)
     × Head everyday wash windows (timedMonitorOf reached₀ area0₀ area1₀) events minutes reached area0 area1 work i
 
 abbrev μ-loop : tie.MeasureT-loop

@@ -15,8 +15,8 @@ enum-known-count c = search needs
 fresh-requires : tie.Need-fresh-requires
 fresh-requires c κs = search needs
 
-take-event-requires : tie.Need-take-event-requires
-take-event-requires c κs =
+take-anew-requires : tie.Need-take-anew-requires
+take-anew-requires c κs =
     let at-fresh = c .before .before .before in
     let at-count = at-fresh .before .before in
     let at-resolved = at-count .before .before .before .before .before .before in
@@ -44,15 +44,15 @@ same-length-3 c = search needs
 
 returns : tie.Need-returns
 returns c =
-    let at-take-event = c .before .before .before .before .before .before in
-    let at-fresh = at-take-event .before .before .before .before in
+    let at-take-anew = c .before .before .before .before .before .before in
+    let at-fresh = at-take-anew .before .before .before .before in
     let at-count = at-fresh .before .before in
     let at-resolved = at-count .before .before .before .before .before .before in
     let at-start = at-resolved .before .before .before .before .before .before .before .before in
     settled-first (at-start .pre .0) _ _ (at-start .pre .1 .0) _ _ _
     (rw (at-count .count .given .1) at (at-resolved .resolve-last .ensures)) (at-fresh .fresh .result)
-    (at-fresh .fresh .ensures) _ _ (at-take-event .take-event .last .1 .1 .1 .1 .0) _
-    (at-take-event .take-event .ensures)
+    (at-fresh .fresh .ensures) _ _ (at-take-anew .take-anew .last .1 .1 .1 .1 .0) _
+    (at-take-anew .take-anew .ensures)
 
 same-length-4 : tie.Need-same-length-4
 same-length-4 c = search needs
@@ -74,7 +74,7 @@ take-settled-spec =
     resolve-last-requires
     enum-known-count
     fresh-requires
-    take-event-requires
+    take-anew-requires
     enum-told
     same-length
     same-length-2

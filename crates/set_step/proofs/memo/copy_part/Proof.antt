@@ -1,25 +1,19 @@
--- `set_step::preparing::take_over` meets its contract: j words of the part are copied. The measure is what is left of
--- them. Assumes nothing.
+-- `set_step::memo::copy_part` meets its contract: j words of the part are copied. The measure is what is left of them.
+-- Assumes nothing.
 use Prim.Native.Nat.{_+_, _-_, _≤_}
 use native.Mathlib.Omega.{arith}
 use mathlib.Core.Path.{_≡_, refl}
 use lib.ListN.{length, length-set}
 use borrow.Author.Needs.{needs}
-use Rattle.set_step.specs.Prepared.Repeats.{Over, over-first, over-next, over-done}
-use Rattle.set_step.proofs.preparing.take_over.Statement.{statement}
-use Rattle.set_step.proofs.preparing.take_over.Tie as tie
+use Rattle.set_step.specs.Memo.Copies.{Over, over-first, over-next, over-done}
+use Rattle.set_step.proofs.memo.copy_part.Statement.{statement}
+use Rattle.set_step.proofs.memo.copy_part.Tie as tie
 
 abbrev Inv-loop : tie.InvT-loop
-Inv-loop store₀ from k p q n j₀ store j = (j ≤ n + 1) × (length store ≡ 4112) × Over store₀ store p q j
+Inv-loop store₀ p q n j₀ store j = (j ≤ n + 1) × (length store ≡ length store₀) × Over store₀ store p q j
 
 abbrev μ-loop : tie.MeasureT-loop
-μ-loop store₀ from k p q n j₀ store j = n + 1 - j
-
-mul-p : tie.Need-mul-p Inv-loop μ-loop
-mul-p c = search needs
-
-mul-q : tie.Need-mul-q Inv-loop μ-loop
-mul-q c = search needs
+μ-loop store₀ p q n j₀ store j = n + 1 - j
 
 mul-n : tie.Need-mul-n Inv-loop μ-loop
 mul-n c = search needs
@@ -28,7 +22,7 @@ slice-read-n : tie.Need-slice-read-n Inv-loop μ-loop
 slice-read-n c = search needs
 
 loop-holds : tie.Need-loop-holds Inv-loop μ-loop
-loop-holds c = (omega arith, c .before .pre .0 .0, over-first _ _ _)
+loop-holds c = (omega arith, refl, over-first _ _ _)
 
 add-store : tie.Need-add-store Inv-loop μ-loop
 add-store c = search needs
@@ -60,24 +54,21 @@ loop-again c =
     let at-start = at-loop .before .before in (
       omega arith,
       simp length-set (at-loop .loop .inv .1),
-      over-next _ _ _ _ _ (at-loop .loop .inv .2) (omega (arith, at-start .pre .0 .1)) (omega arith) (omega arith)
-          (omega arith),
+      over-next _ _ _ _ _ (at-loop .loop .inv .2) _ (at-start .pre .1) (omega arith) (omega arith) (omega arith),
     )
 
 same-length : tie.Need-same-length Inv-loop μ-loop
 same-length c = search needs
 
 returns : tie.Need-returns Inv-loop μ-loop
-returns c = over-done _ _ _ _ _ (c .before .loop .inv .2) _ _ _ refl refl refl (omega arith)
+returns c = over-done _ _ _ _ _ (c .before .loop .inv .2) _ refl (omega arith)
 
-pub take-over-spec : {M : Type 1} → statement M
-take-over-spec =
+pub copy-part-spec : {M : Type 1} → statement M
+copy-part-spec =
     tie.close
     (tie.spec
     Inv-loop
     μ-loop
-    mul-p
-    mul-q
     mul-n
     slice-read-n
     loop-holds

@@ -1,0 +1,88 @@
+// What a store keeps of leaves, behind its nodes' parts: thirty-two entries, each with the word of
+// a leaf, an event and one more, and the leaf's results after that event, at most thirteen. The
+// definitions are in `specs/Memo.antt`.
+use tree_walk::layout;
+ghost use mathlib.Core.Path.{_≡_};
+ghost use mathlib.Core.Bool.{true};
+ghost use Prim.Native.Nat.{_+_, _<_, _≤_};
+ghost use lib.ListN.{length, getD};
+ghost use Rattle.table.specs.Table.{Table};
+ghost use Rattle.tree_walk.specs.Layout.{memoAt, storeWords};
+ghost use Rattle.set_step.specs.Memo.{Apart, Copied, EntryAt, StoreOf, KeptBy};
+
+// The words of an entry.
+const ENTRY_WORDS: usize = 16;
+
+// The results that an entry has room for.
+const MOST: u64 = 13;
+
+// The lower five bits of a number: which of the entries.
+fn lower(h: u64) -> u64
+    ensures { λ r. ⌜ r < 32 ⌝ }
+{
+    h & 31
+}
+
+// Where the entry of a leaf and an event stands: it is told by the term, by events of the memory
+// and by the event. That of another leaf may stand there too.
+pub(crate) fn entry_at(w: u64, e: u64) -> usize
+    requires { ⌜ e < 128 ⌝ }
+    ensures { λ r. ⌜ EntryAt r ⌝ }
+{
+    let h = (w >> 28) + (w >> 19) + (w >> 12) + lower(w) + e * 5;
+    layout::MEMO_AT + lower(h) as usize * ENTRY_WORDS
+}
+
+// True only where the entry at p is that of a leaf and an event.
+pub(crate) fn is_entry(store: &[u64], p: usize, w: u64, e: u64) -> bool
+    requires { ⌜ (p + 16 ≤ length (now store)) × (e < 128) ⌝ }
+    ensures { λ r.
+        ⌜ (r ≡ true → (getD (now (store .entry)) p 0 ≡ w)
+        × (getD (now (store .entry)) (p + 1) 0 ≡ e + 1)) ⌝ }
+{
+    if store[p] != w {
+        return false;
+    }
+    store[p + 1] == e + 1
+}
+
+// The part at p again at q: a number, and as many words after it.
+pub(crate) fn copy_part(store: &mut [u64], p: usize, q: usize)
+    requires { ⌜ (p < length (now store)) × (p + getD (now store) p 0 < length (now store))
+        × (q + getD (now store) p 0 < length (now store)) ⌝ }
+    requires { ⌜ Apart p q (getD (now store) p 0) ⌝ }
+    ensures { λ _. ⌜ Copied (now (store .entry)) (now (store .exit)) p q ⌝ }
+{
+    let n = store[p] as usize;
+    let mut j = 0;
+    while j <= n {
+        store[q + j] = store[p + j];
+        j += 1;
+    }
+}
+
+// Keeps the results of a leaf and an event, which stand from `at` on, in the entry at p, where they
+// have room there.
+pub(crate) fn keep(store: &mut [u64], p: usize, w: u64, e: u64, at: usize)
+    requires { ⌜ (memoAt ≤ p) × (p + 16 ≤ length (now store)) × (at + 257 ≤ memoAt) × (e < 128) ⌝ }
+    ensures { λ _. ⌜ KeptBy (now (store .entry)) (now (store .exit)) p w e at ⌝ }
+{
+    if MOST < store[at] {
+        return;
+    }
+    copy_part(store, at, p + 2);
+    store[p] = w;
+    store[p + 1] = e + 1;
+}
+
+// Forgets what is kept of leaves: the store is then one of every table.
+pub fn forget(store: &mut [u64])
+    requires { ⌜ length (now store) ≡ storeWords ⌝ }
+    ensures { λ _. ⌜ ((t : Table) → StoreOf t (now (store .exit))) ⌝ }
+{
+    let mut i = 0;
+    while i < 32 {
+        store[layout::MEMO_AT + i * ENTRY_WORDS + 1] = 0;
+        i += 1;
+    }
+}
