@@ -3,14 +3,13 @@
 --     entry-below, entry-behind                        an entry that is not touched
 --     memo-behind, store-behind, -marks, -copies       no entry is touched
 --     entry-writes, kept-before, store-kept            an entry is written
---     store-zeros                                      a store of zeros is one of every table
 --     Forgotten, forget-first, -next, -done            the loop of `forget`
 -- Assumes nothing.
 use Prim.Native.Nat.{ℕ, _+_, _*_, _<_, _≤_}
 use native.Mathlib.Omega.{arith}
 use mathlib.Core.Path.{_≡_, refl, sym, _∙_}
 use mathlib.Core.List.{List}
-use lib.ListN.{length, getD, set, take, drop, replicate, length-set, length-replicate, getD-replicate}
+use lib.ListN.{length, getD, set, take, drop, length-set}
 use lib.Seq.{getD-set-same, getD-set-other, take-set-le, drop-set-lt}
 use Rattle.table.specs.Table.{Table}
 use Rattle.resolving.specs.Distinct.{window}
@@ -133,22 +132,10 @@ before-by old new p w e at k (no a) = k .fits (omega arith) .before
 pub kept-before : (old new : List ℕ) (p w e at : ℕ) → KeptBy old new p w e at → take p new ≡ take p old
 kept-before old new p w e at k = before-by old new p w e at k (native.Mathlib.Decide.decLt 13 (getD old at 0))
 
--- ---- zeros
-
-module _ (t : Table) where
-  nothing-kept : (store : List ℕ) (p : ℕ) → getD store (p + 1) 0 ≡ 0 → Entry t store p
-  nothing-kept store p z = record { few = λ e h. absurd (omega arith); part = λ e h. absurd (omega arith) }
-
-  pub store-zeros : (n : ℕ) → n ≡ storeWords → StoreOf t (replicate n 0)
-  store-zeros n en = record {
-    size = length-replicate n 0 ∙ en;
-    memo = record {
-      entry = λ p z.
-          nothing-kept _ p (getD-replicate n (p + 1) 0 0 (omega (arith, z .place, z .within)));
-    };
-  }
-
 -- ---- the loop of `forget`
+
+nothing-kept : (t : Table) (store : List ℕ) (p : ℕ) → getD store (p + 1) 0 ≡ 0 → Entry t store p
+nothing-kept t store p z = record { few = λ e h. absurd (omega arith); part = λ e h. absurd (omega arith) }
 
 -- nothing is kept in the first i entries
 pub record Forgotten (store : List ℕ) (i : ℕ) : Type 0 where
