@@ -8,9 +8,9 @@ use Prim.Native.Nat.{ℕ, _+_, _/_}
 use mathlib.Core.Bool.{Bool}
 use lib.Dec.{leb, ltb}
 
--- three, one for each 64 events before, and one for each 8 since
+-- four, one for each 64 events before, and one for each 8 since
 abbrev pub mayLearn : ℕ → ℕ → ℕ → Bool
-mayLearn before since learnt = ltb learnt (3 + before / 64 + since / 8)
+mayLearn before since learnt = ltb learnt (4 + before / 64 + since / 8)
 
 -- at most one for each 8 events
 abbrev pub hasPaid : ℕ → ℕ → Bool

@@ -30,6 +30,17 @@ fn least(a: usize, b: usize) -> usize
     b
 }
 
+// How many of so many events are taken one after the other before a set is kept, where a call begins
+// with so many residuals: a step of many takes long, so that learning pays sooner.
+fn alone(length: usize, count: u64) -> usize
+    ensures { λ r. ⌜ r ≤ length ⌝ }
+{
+    if count < 8 {
+        return least(length, 112);
+    }
+    least(length, 16)
+}
+
 // The place up to which events are taken one after the other where the sets that were begun at
 // place i are given up: four times as far, of so many events.
 fn further(i: usize, length: usize) -> usize
@@ -143,7 +154,7 @@ fn take_long(
 }
 
 // Takes the events from the first, until one is refused, where the table's index stands in the work
-// area: the run of an operation that is entered, without a judging. The first 80 are taken one after
+// area: the run of an operation that is entered, without a judging. The first are taken one after
 // the other, so that a short call keeps no sets.
 pub fn take_all(
     list: &[u16],
@@ -161,7 +172,7 @@ pub fn take_all(
         r (now (area0 .exit)) (now (area1 .exit)) ⌝ }
 {
     let mut store = [0u64; STORE_WORDS];
-    let to = least(events.len(), 80);
+    let to = alone(events.len(), state.count);
     match take_part(list, work, state, area0, area1, events, 0, to, &mut store) {
         Run::Ended(answer) => answer,
         Run::Left(reached, i) => {

@@ -28,7 +28,7 @@ use table::Refusal;
 fn may_learn(before: usize, since: usize, learnt: usize) -> bool
     ensures { λ r. ⌜ r ≡ mayLearn before since learnt ⌝ }
 {
-    learnt < 3 + before / 64 + since / 8
+    learnt < 4 + before / 64 + since / 8
 }
 
 // Whether what was learnt has paid.

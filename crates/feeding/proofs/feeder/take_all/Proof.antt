@@ -7,17 +7,17 @@ use borrow.Author.Needs.{needs}
 use Rattle.feeding.proofs.feeder.take_all.Statement.{statement}
 use Rattle.feeding.proofs.feeder.take_all.Tie as tie
 
-least-requires : tie.Need-least-requires
-least-requires c κs = search needs
+alone-requires : tie.Need-alone-requires
+alone-requires c κs = search needs
 
 slice-aggregate-take-part : tie.Need-slice-aggregate-take-part
 slice-aggregate-take-part c = search needs
 
 take-part-requires : tie.Need-take-part-requires
 take-part-requires c κs =
-    let at-least = c .before .before .before in
-    let at-start = at-least .before .before .before .before .before .before in
-    (at-start .pre .0, (at-start .pre .1, ((omega arith, at-least .least .ensures), search needs)))
+    let at-alone = c .before .before .before in
+    let at-start = at-alone .before .before .before .before .before .before in
+    (at-start .pre .0, (at-start .pre .1, ((omega arith, at-alone .alone .ensures), search needs)))
 
 enum-known-answer : tie.Need-enum-known-answer
 enum-known-answer c = search needs
@@ -90,7 +90,7 @@ pub take-all-spec : {M : Type 1} → statement M
 take-all-spec =
     tie.close
     (tie.spec
-    least-requires
+    alone-requires
     slice-aggregate-take-part
     take-part-requires
     enum-known-answer
