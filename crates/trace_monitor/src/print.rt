@@ -2,8 +2,9 @@
 //     Count            how many lines were said, one after the other
 //     Said, Unsaid     a line that was written, with the count; that one could not be
 //     say              writes a line
-// Only `say` makes one of them, and a count but that of no line: no other code can tell that a line
-// was said, or was not, or how many were.
+//     write_line       writes the bytes of one
+// Only `write_line` makes one of them, and a count but that of no line: no other code can tell that
+// a line was said, or was not, or how many were.
 ghost use Prim.Native.Nat.{_≤_};
 ghost use mathlib.Core.Path.{_≡_};
 ghost use lib.ListN.{length, take};
@@ -77,6 +78,18 @@ fn text_of(line: TraceLine, out: &mut [u8]) -> usize
     }
 }
 
+// Writes the bytes of a line, which are its text and nothing else, after the lines that were said.
+fn write_line(line: TraceLine, before: Count, bytes: &[u8]) -> Saying
+    requires { ⌜ now bytes ≡ traceTextOf (traceLineSaid line) ⌝ }
+    ensures { λ r. ⌜ Spoken line before r ⌝ }
+{
+    if io::write_all(STDOUT_FILENO, bytes) {
+        let count = one_more(before);
+        return Saying::Written(Said { line, count });
+    }
+    Saying::Failed(Unsaid { failed: true })
+}
+
 // Writes a line after those that were said, or answers that it could not be written. The buffer is
 // for its text, which is there afterwards.
 pub fn say(line: TraceLine, before: Count, text: &mut [u8]) -> Saying
@@ -85,9 +98,5 @@ pub fn say(line: TraceLine, before: Count, text: &mut [u8]) -> Saying
     ensures { λ r. ⌜ TextStands (traceLineSaid line) (now (text .exit)) ⌝ }
 {
     let n = text_of(line, text);
-    if io::write_all(STDOUT_FILENO, &text[..n]) {
-        let count = one_more(before);
-        return Saying::Written(Said { line, count });
-    }
-    Saying::Failed(Unsaid { failed: true })
+    write_line(line, before, &text[..n])
 }
