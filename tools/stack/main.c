@@ -14,7 +14,7 @@
 #define STACK_BYTES (4u << 20)
 #define PATTERN 0xA5
 /* so many events of a call are taken before it keeps residual sets */
-#define LATE 16
+#define LATE 112
 
 static uint16_t list[CSPE_NUMBERS];
 static size_t length;
@@ -22,7 +22,7 @@ static uint64_t record[CSPE_RECORD_WORDS];
 static uint64_t area0[CSPE_AREA_WORDS_MOST], area1[CSPE_AREA_WORDS_MOST], work[CSPE_WORK_WORDS];
 static uint64_t further_record[CSPE_RECORD_WORDS], further0[CSPE_AREA_WORDS_MOST], further1[CSPE_AREA_WORDS_MOST];
 static uint64_t timed_record[CSPE_TIMED_RECORD_WORDS];
-static uint8_t events[LATE + 1];
+static uint8_t events[1], late_events[LATE + 1];
 static uint64_t minutes[1] = {0};
 static uint16_t windows[1];
 static uint32_t said;
@@ -43,10 +43,10 @@ static void chain(int deep, int called) {
         put(1);
 }
 
-/* A = 1, the sets {0} and {}; definitions of level 0, each a chain of `deep` choices to the one before. */
+/* A = 2, the sets {0}, {} and {1}; definitions of level 0, each a chain of `deep` choices to the one before. */
 static void head(int definitions, int chains, int deep) {
     length = 0;
-    put(1), put(2), put(0), put(1), put(0), put(0), put(0), put((uint16_t)definitions);
+    put(2), put(3), put(0), put(1), put(0), put(0), put(0), put(0), put(1), put(1), put((uint16_t)definitions);
     for (int d = 0; d < chains; d++) {
         put(0);
         chain(d == 0 ? deep - 1 : deep, d - 1);
@@ -56,13 +56,13 @@ static void head(int definitions, int chains, int deep) {
 /*
  * The last definition, of level 1: `leaves` prefixes in parallel over {0}, each before two of the longest chains, in
  * parallel over {}, with STOP as another choice where `several`. Eight leaves are all that a residual may have, so of
- * eight each is before one chain. Before them there are `late` prefixes.
+ * eight each is before one chain. Where `late`, event 1 leads back to the same definition.
  */
 static void deep_feed(int leaves, int several, int late) {
     head(32, 31, 15);
     put(1);
-    for (int i = 0; i < late; i++)
-        put(2), put(0);
+    if (late)
+        put(3), put(2), put(2), put(5), put(31);
     for (int i = 0; i < leaves; i++) {
         if (i + 1 < leaves)
             put(4), put(0);
@@ -102,7 +102,7 @@ static void *feed(void *unused) {
 static void *feed_late(void *unused) {
     (void)unused;
     said = cspe_feed(list, length, record, CSPE_RECORD_WORDS, area0, CSPE_AREA_WORDS_MOST, area1, CSPE_AREA_WORDS_MOST,
-                     events, LATE + 1, work, CSPE_WORK_WORDS, &word);
+                     late_events, LATE + 1, work, CSPE_WORK_WORDS, &word);
     return NULL;
 }
 
@@ -166,6 +166,7 @@ static void show_timed(const char *what, size_t base) {
 }
 
 int main(void) {
+    memset(late_events, 1, LATE);
     size_t base = touched(nothing);
     head(16, 16, 31);
     show("open, 16 definitions", settle, base);
@@ -183,7 +184,7 @@ int main(void) {
             show(what, feed, base);
             snprintf(what, sizeof what, "timed feed, %d leaves, %s", leaves, several ? "several" : "one result");
             show_timed(what, base);
-            deep_feed(leaves, several, LATE);
+            deep_feed(leaves, several, 1);
             settle(NULL);
             snprintf(what, sizeof what, "long feed, %d leaves, %s", leaves, several ? "several" : "one result");
             show(what, feed_late, base);
