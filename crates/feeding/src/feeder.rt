@@ -35,10 +35,10 @@ fn least(a: usize, b: usize) -> usize
 fn alone(length: usize, count: u64) -> usize
     ensures { λ r. ⌜ r ≤ length ⌝ }
 {
-    if count < 8 {
+    if count < 32 {
         return least(length, 112);
     }
-    least(length, 16)
+    least(length, 32)
 }
 
 // The place up to which events are taken one after the other where the sets that were begun at

@@ -199,7 +199,8 @@ fn take_turn(
     )
 }
 
-// Takes events from set n on, turn by turn, until one may not be learnt or none is left.
+// Takes events from set n on, turn by turn, until one may not be learnt, a set has no room and what
+// was learnt has not paid, or none is left.
 fn take_turns(
     list: &[u16],
     work: &[u64],
@@ -268,8 +269,8 @@ fn take_turns(
     }
 }
 
-// Takes events from a place on over sets, none of which is known yet, until a transition may not be
-// learnt or no event is left.
+// Takes events from a place on over sets, none of which is known yet; where that ends, `take_turns`
+// says.
 pub fn take_kept(
     list: &[u16],
     work: &[u64],

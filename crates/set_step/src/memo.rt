@@ -1,6 +1,8 @@
 // What a store keeps of leaves, behind its nodes' parts: thirty-two entries, each with the word of
 // a leaf, an event and one more, and the leaf's results after that event, at most thirteen. The
 // definitions are in `specs/Memo.antt`.
+use node_word::digit;
+use node_word::term_of;
 use tree_walk::layout;
 ghost use mathlib.Core.Path.{_≡_};
 ghost use mathlib.Core.Bool.{true};
@@ -23,13 +25,13 @@ fn lower(h: u64) -> u64
     h & 31
 }
 
-// Where the entry of a leaf and an event stands: it is told by the term, by events of the memory
-// and by the event. That of another leaf may stand there too.
+// Where the entry of a leaf and an event stands: it is told by the term, by the memory's nearest two
+// events and by the event. That of another leaf may stand there too.
 pub(crate) fn entry_at(w: u64, e: u64) -> usize
     requires { ⌜ e < 128 ⌝ }
     ensures { λ r. ⌜ EntryAt r ⌝ }
 {
-    let h = (w >> 28) + (w >> 19) + (w >> 12) + lower(w) + e * 5;
+    let h = lower(term_of(w) as u64) + lower(digit(w, 0)) + lower(digit(w, 1)) * 3 + e * 5;
     layout::MEMO_AT + lower(h) as usize * ENTRY_WORDS
 }
 

@@ -3,7 +3,7 @@
 --     LastLine                 a line is the last of the trace of some bytes
 --     Rooms                    the lengths of the store and of the text's buffer
 --     WentOn, StopSaid, Turned     the promise of `turn`: of one event
---     OneEach                  the trace has a line for each event
+--     LineEach                  the trace has a line for each event
 --     Onward, RefusedIn        through some events; an event among them was refused
 --     ReadOn                   the promise of `take_read`: of the events of a read
 --     AfterArrived             the promise of `after_arrived`: by what arrived
@@ -80,8 +80,8 @@ Turned l w m c e (Over (Unread f)) a b = ⊥
 -- ---- the events of a read
 
 -- the trace of some bytes, with which the monitor m on the table t stands, has a line more for each event of es
-abbrev pub OneEach : Table → Monitor → List ℕ → Type 0
-OneEach t m es =
+abbrev pub LineEach : Table → Monitor → List ℕ → Type 0
+LineEach t m es =
     (s : List ℕ) → reachedBy s ≡ at t m → length (traceOf (s ++ es)) ≡ length (traceOf s) + length es
 
 -- from the monitor m on the table t, with x as the last line, through just the events es to d, with y as the last; a
@@ -90,7 +90,7 @@ pub record Onward (t : Table) (m : Monitor) (x : Utterance) (es : List ℕ) (d :
   pub took : Took (m .state) (length es) (d .state)
   pub here : (s : List ℕ) → reachedBy s ≡ at t m → reachedBy (s ++ es) ≡ at t d
   pub last : (s : List ℕ) → reachedBy s ≡ at t m → LastLine s (x .line) → LastLine (s ++ es) (y .line)
-  pub each : OneEach t m es
+  pub each : LineEach t m es
   pub count : Counted (x .lines) (length es) (y .lines)
 
 -- from m, an event of es is refused: with it and whatever follows, the trace has the line y more, and that is its last;
@@ -105,7 +105,7 @@ pub record RefusedIn (t : Table) (m : Monitor) (x : Utterance) (es : List ℕ) (
   pub line : y .line ≡ refuses number place
   pub last : (s rest : List ℕ) → reachedBy s ≡ at t m
       → traceOf (s ++ (before ++ event ∷ rest)) ≡ traceOf (s ++ before) ++ y .line ∷ []
-  pub each : OneEach t m before
+  pub each : LineEach t m before
   pub count : Counted (x .lines) (length before + 1) (y .lines)
 
 unfoldable pub ReadOver : Table → Monitor → Utterance → List ℕ → Told → Type 0

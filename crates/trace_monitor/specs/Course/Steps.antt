@@ -24,7 +24,7 @@ use Rattle.trace_spec.specs.Reads.{at, reachedBy}
 use Rattle.trace.specs.Tracing.Laws.{reached-next, trace-next, trace-stop}
 use Rattle.trace_monitor.specs.Spoken.{Utterance}
 use Rattle.trace_monitor.specs.Course.{LastLine, WentOn, StopSaid, Onward, RefusedIn, EachSome, Gone}
-use Rattle.trace_monitor.specs.Course.{OneEach, RefusedAfter}
+use Rattle.trace_monitor.specs.Course.{LineEach, RefusedAfter}
 
 -- ---- some events
 
@@ -41,7 +41,7 @@ module _ (t : Table) (m : Monitor) (x : Utterance) where
 
   module _ (es : List ℕ) (d : Monitor) (y : Utterance) (far : Onward t m x es d y) (fs : List ℕ) where
     -- a line for each of some, and of some more
-    each-then : (gs : List ℕ) → OneEach t d gs → OneEach t m (es ++ gs)
+    each-then : (gs : List ℕ) → LineEach t d gs → LineEach t m (es ++ gs)
     each-then gs more s h =
         let e = ap (λ (v : List ℕ). length (traceOf v)) (sym (append-assoc s es gs)) in
         let n = length-append es gs in
