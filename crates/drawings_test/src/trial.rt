@@ -13,7 +13,6 @@ use line::Opened;
 use monitor::State;
 use table::Refusal;
 ghost use Prim.Native.Nat.{_≤_, _<_};
-ghost use lib.ListN.{length};
 
 // A stored line: 0 for running, 1 for failed, 2 for refused, and its two numbers.
 pub struct StoredLine {

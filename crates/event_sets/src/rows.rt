@@ -8,10 +8,10 @@ use table::bounds;
 use table_index::layout;
 ghost use mathlib.Core.Path.{_≡_};
 ghost use mathlib.Core.Bool.{not};
-ghost use Prim.Native.Nat.{ℕ, _+_, _*_, _<_, _≤_, _^_};
+ghost use Prim.Native.Nat.{_+_, _*_, _<_, _≤_, _^_};
 ghost use lib.ListN.{length};
 ghost use Rattle.table.specs.Rows.{alphabetMost, largeAbove, rowCount, RowsFit, rowsFit};
-ghost use Rattle.table_index.specs.Layout.{rowsMost, secondAt};
+ghost use Rattle.table_index.specs.Layout.{rowsMost};
 ghost use Rattle.table_index.specs.Index.{firstWord, secondWord};
 ghost use Rattle.table_index.specs.Parse.{rowStored, RowRead, RowsRead, SetRead, SetsRead};
 

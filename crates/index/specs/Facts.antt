@@ -35,14 +35,14 @@ use Rattle.table.specs.Member.{setOf, rowOf}
 use Rattle.table_index.specs.Layout.{termsAt, bodiesAt, alphabetAt, definitionCountAt, termCountAt, kindDigit}
 use Rattle.table_index.specs.Layout.{parameterDigit, prefixesDigit, rightDigit, targetDigit, reachDigit, branchesDigit}
 use Rattle.table_index.specs.Index.{targetOf, firstRow, Indexed, tableIn}
-use Rattle.table_index.specs.Index.Laws.{Digits, digits, left-inside}
+use Rattle.table_index.specs.Index.Laws.{WordDigits, digits, left-inside}
 use Rattle.index.specs.Rows.{RowAt, fixed-row, family-row}
 
 pub indexed-rules : {l w : List ℕ} → Indexed l w → Rules (tableIn l)
 indexed-rules x = list-out _ _ _ (x .taken) .rules
 
 indexed-digits : {l w : List ℕ} → Indexed l w → (n : ℕ) → n < termCount (tableIn l)
-    → Digits (tableIn l) n (getD w (termsAt + n) 0)
+    → WordDigits (tableIn l) n (getD w (termsAt + n) 0)
 indexed-digits {l} {w} x n h = digits (tableIn l) w (indexed-rules x .fields) (x .structure) n h
 
 pub terms-few : {l w : List ℕ} → Indexed l w → termCount (tableIn l) ≤ 1024

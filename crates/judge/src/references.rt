@@ -6,7 +6,7 @@ ghost use Prim.Native.Nat.{_<_};
 ghost use lib.ListN.{length};
 ghost use Rattle.table.specs.Table.{termCount};
 ghost use Rattle.table.specs.References.{firstWrong};
-ghost use Rattle.table_index.specs.References.Words.{wordFits, badReference};
+ghost use Rattle.table_index.specs.References.Words.{callWordFits, badReference};
 ghost use Rattle.table_index.specs.Layout.{ownDigit};
 ghost use Rattle.table.specs.Node.{termOf};
 ghost use Rattle.table_index.specs.Index.{tableIn};
@@ -17,7 +17,7 @@ ghost use Rattle.table_index.specs.Judging.{Judging, firstOf};
 fn call_fits(list: &[u16], work: &[u64], w: u64) -> bool
     requires { ⌜ Judging (now list) (now work) ⌝ }
     requires { ⌜ ownDigit w < length (tableIn (now list) .definitions) ⌝ }
-    ensures { λ r. ⌜ r ≡ wordFits (tableIn (now (list .entry)) .definitions) w ⌝ }
+    ensures { λ r. ⌜ r ≡ callWordFits (tableIn (now (list .entry)) .definitions) w ⌝ }
 {
     let d = w / layout::TARGET_UNIT % layout::TARGETS;
     if work[layout::DEFINITION_COUNT_AT] <= d {

@@ -32,9 +32,9 @@ pub record NumbersRead (s l a b w : List ℕ) (count next : ℕ) (l' w' : List �
 
 -- by number and place: a lent length is wrong; the head is; "Read's output is zeroed on 2 to 9"
 pub data TableRefused (s l a b w : List ℕ) : ℕ → ℕ → List ℕ → List ℕ → Type 0 where
-  lengthsWrong : lent l a b w ≡ false → TableRefused s l a b w 1 0 l w
-  headWrong : (n p : ℕ) → lent l a b w ≡ true → headOf s ≡ wrong n p → TableRefused s l a b w n p l w
-  tableDeclined : (bs es : List ℕ) (n p : ℕ) (l' w' : List ℕ) → lent l a b w ≡ true → headOf s ≡ parts bs es
+  refusedLengths : lent l a b w ≡ false → TableRefused s l a b w 1 0 l w
+  refusedHead : (n p : ℕ) → lent l a b w ≡ true → headOf s ≡ wrong n p → TableRefused s l a b w n p l w
+  refusedTable : (bs es : List ℕ) (n p : ℕ) (l' w' : List ℕ) → lent l a b w ≡ true → headOf s ≡ parts bs es
       → judgeBytes bs ≡ declined n p → l' ≡ zeros 16384 → w' ≡ zeros 8192 → TableRefused s l a b w n p l' w'
 
 abbrev pub TableSaid : List ℕ → List ℕ → List ℕ → List ℕ → List ℕ → TableRead → List ℕ → List ℕ → Type 0

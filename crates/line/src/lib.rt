@@ -7,7 +7,6 @@
 //     take_piece              `resume` on a piece, and then `after_piece`
 //     head                    where the table and the events of an input are
 //     read_table              its head and its table, read into a lent list
-//     lent_fit                whether lent lengths are the program's
 mod answer;
 mod feeder;
 mod opener;
@@ -25,6 +24,5 @@ pub use format::Line;
 pub use format::conclude;
 pub use format::head;
 pub use opener::open;
-pub use reader::lent_fit;
 pub use reader::read_table;
 pub use whole::line;

@@ -10,7 +10,7 @@ use format::head;
 use table::Refusal;
 
 // Whether lent lengths are the program's: of the list, the areas ("256 slots") and the work area.
-pub fn lent_fit(list: usize, area0: usize, area1: usize, work: usize) -> bool
+fn lent_fit(list: usize, area0: usize, area1: usize, work: usize) -> bool
     ensures { λ r. ⌜ r ≡ lentFit list area0 area1 work ⌝ }
 {
     if list != 16384 {

@@ -12,7 +12,7 @@ use Rattle.line_spec.specs.Line.Opened.{whole-opened}
 use Rattle.line_spec.specs.Claims.{HeadsAre, LentExactly, LineIsOpened, ResumeLeaves, PieceEnds, LineLeaves}
 use Rattle.line_spec.specs.Line.{monitorLeft, verdictLine, stateLine}
 use Rattle.line_spec.specs.Pieces.{over, fed, fedBy, concludeOf, afterPiece}
-use Rattle.line_spec.specs.Opening.{openOf}
+use Rattle.line_spec.specs.Opening.{openInputOf}
 use Rattle.line_spec.specs.Whole.{resumedBy, resumeOf, finished, wholeBy, wholeAfter, wholeOf}
 use mathlib.Core.Path.{refl, ap}
 use Rattle.line_spec.specs.Judged.Taken.{course-took}
@@ -74,8 +74,8 @@ pub line-leaves : LineLeaves
 unfolding wholeOf wholeAfter wholeBy finished resumeOf resumedBy
 line-leaves =
     record {
-      refusing = λ s l a b w n p e. ap (wholeBy s (openOf s l a b w)) e;
-      taking = λ s l a b w st count next e. ap (wholeBy s (openOf s l a b w)) e;
+      refusing = λ s l a b w n p e. ap (wholeBy s (openInputOf s l a b w)) e;
+      taking = λ s l a b w st count next e. ap (wholeBy s (openInputOf s l a b w)) e;
     }
 
 pub open-is-front : OpenIsFront

@@ -34,9 +34,10 @@ use Rattle.table.specs.Table.{Table, fixed, Term, stop, prefix, choice, par, on
 use Rattle.table.specs.Judge.{accepted, judgeBytes}
 use Rattle.table.specs.Operations.{zeros}
 use Rattle.table.specs.Writing.{numbersOf}
+use Rattle.table.specs.Examples.{tableB}
 use Rattle.line_spec.specs.Line.{parts, headOf, HeadWay, Line, runs, fails, refused, answerLine, lineOf}
 use Rattle.line_spec.specs.Pieces.{Course, going, over, afterPiece, fed, concludeOf, pieceOf, frontOf, piecesOf}
-use Rattle.line_spec.specs.Opening.{lent, started, refuses, openOf, openCourse, OpenWay, Began}
+use Rattle.line_spec.specs.Opening.{lent, started, refuses, openInputOf, openCourse, OpenWay, Began}
 use Rattle.line_spec.specs.Whole.{resumeOf, wholeOf}
 use Rattle.line_spec.specs.Lent.{lentLine, lentPieces, lentEnds}
 use Rattle.line_spec.specs.Judged.{frontLeft, Took, Follows, Judged}
@@ -74,7 +75,7 @@ EndsArePieces =
     → lentEnds front pieces l a b w ≡ over (lentPieces front pieces l a b w)
 
 unfoldable pub OpenLeaves : Type 0
-OpenLeaves = (s l a b w : List ℕ) → OpenWay s l a b w (openOf s l a b w)
+OpenLeaves = (s l a b w : List ℕ) → OpenWay s l a b w (openInputOf s l a b w)
 
 -- every lent word as Feed left it; the record goes on, or a refusal is the line, of 11 to 13 with all events taken
 pub record ResumeLeaves : Type 0 where
@@ -103,12 +104,13 @@ pub record PieceEnds : Type 0 where
 -- what `open` left, where it refuses; else the list as it left it, and the areas and work words as Feed on the table's
 -- numbers and the events leaves them
 pub record LineLeaves : Type 0 where
-  pub refusing : (s l a b w : List ℕ) (n p : ℕ) → openOf s l a b w .answer ≡ refuses n p
-      → let o = openOf s l a b w in
+  pub refusing : (s l a b w : List ℕ) (n p : ℕ) → openInputOf s l a b w .answer ≡ refuses n p
+      → let o = openInputOf s l a b w in
       wholeOf s l a b w
       ≡ record { line = refused n p; list = o .list; area0 = o .area0; area1 = o .area1; work = o .work }
-  pub taking : (s l a b w : List ℕ) (st : State) (count next : ℕ) → openOf s l a b w .answer ≡ started st count next
-      → let o = openOf s l a b w in
+  pub taking : (s l a b w : List ℕ) (st : State) (count next : ℕ)
+      → openInputOf s l a b w .answer ≡ started st count next
+      → let o = openInputOf s l a b w in
       let m : Monitor = record { state = st; area0 = o .area0; area1 = o .area1 } in
       let f = feedOf (take count (o .list)) m (drop next s) (o .work) in
       wholeOf s l a b w
@@ -123,13 +125,13 @@ pub record LineLeaves : Type 0 where
 -- a fresh monitor on the list that was read, with the areas as they stand, or a refusal
 unfoldable pub OpenIsFront : Type 0
 OpenIsFront =
-    (s l a b w : List ℕ) → lent l a b w ≡ true → openCourse (openOf s l a b w) ≡ frontOf s .course
+    (s l a b w : List ℕ) → lent l a b w ≡ true → openCourse (openInputOf s l a b w) ≡ frontOf s .course
 
 -- the events that `open` leaves to feed are those of the front
 unfoldable pub OpenStarts : Type 0
 OpenStarts =
-    (s l a b w : List ℕ) (st : State) (count next : ℕ) → openOf s l a b w .answer ≡ started st count next
-    → Began s l a b w (openOf s l a b w) count next
+    (s l a b w : List ℕ) (st : State) (count next : ℕ) → openInputOf s l a b w .answer ≡ started st count next
+    → Began s l a b w (openInputOf s l a b w) count next
 
 -- the claim PiecesAreLent of the definitions alone
 unfoldable pub PiecesAreWhole : Type 0
@@ -153,16 +155,12 @@ GoingTakesAll =
 unfoldable pub SaidIsLine : Type 0
 SaidIsLine =
     (s l a b w : List ℕ) → lent l a b w ≡ true → (x : Line)
-    → concludeOf (frontLeft s (openOf s l a b w) .course) ≡ x → lineOf s ≡ x
+    → concludeOf (frontLeft s (openInputOf s l a b w) .course) ≡ x → lineOf s ≡ x
 
 unfoldable pub SaidIsJudged : Type 0
 SaidIsJudged =
     (s l a b w : List ℕ) → lent l a b w ≡ true → (n : ℕ) (x : Line) → 16387 ≤ length s
-    → Follows n (frontLeft s (openOf s l a b w)) x → Judged n s x
-
--- table B: "`03 02 00 01 00 00 01 01 01 00 02 00 02 01 05 00`"
-abbrev pub tableB : List ℕ
-tableB = 3 ∷ 2 ∷ 0 ∷ 1 ∷ 0 ∷ 0 ∷ 1 ∷ 1 ∷ 1 ∷ 0 ∷ 2 ∷ 0 ∷ 2 ∷ 1 ∷ 5 ∷ 0 ∷ []
+    → Follows n (frontLeft s (openInputOf s l a b w)) x → Judged n s x
 
 -- sixteen STOPs, one or the other
 abbrev stops : Term

@@ -10,7 +10,7 @@ use mathlib.Core.List.{List, [], _∷_}
 use lib.ListN.{drop}
 use Rattle.line_spec.specs.Line.{Line, refused, lineOf}
 use Rattle.line_spec.specs.Pieces.{Course, going, over, concludeOf, afterPiece}
-use Rattle.line_spec.specs.Opening.{lent, OpenAnswer, started, refuses, OpenOutcome, openOf, openCourse}
+use Rattle.line_spec.specs.Opening.{lent, OpenAnswer, started, refuses, OpenOutcome, openInputOf, openCourse}
 use Rattle.line_spec.specs.Whole.{ResumeOutcome, resumeOf}
 pub mod Laws
 pub mod Ends
@@ -42,7 +42,7 @@ resumeAll o (es ∷ ess) = resumeAll (resumeNext o es) ess
 -- front, pieces after it, list, areas, work words
 unfoldable pub lentPieces : List ℕ → List (List ℕ) → List ℕ → List ℕ → List ℕ → List ℕ → Line
 lentPieces s ess l a b w =
-    let o = openOf s l a b w in
+    let o = openInputOf s l a b w in
     concludeOf (resumeAll (resumeFirst o) (frontEvents s (o .answer) ∷ ess) .course)
 
 -- ---- as the program goes: it asks `after_piece` of each piece, and reads no more once a line stands
@@ -67,4 +67,4 @@ endsBy s o ess (started st count next) = endsAll (resumeFirst o) (drop next s) e
 endsBy s o ess (refuses n p) = over (refused n p)
 
 unfoldable pub lentEnds : List ℕ → List (List ℕ) → List ℕ → List ℕ → List ℕ → List ℕ → Course
-lentEnds s ess l a b w = let o = openOf s l a b w in endsBy s o ess (o .answer)
+lentEnds s ess l a b w = let o = openInputOf s l a b w in endsBy s o ess (o .answer)

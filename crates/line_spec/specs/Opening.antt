@@ -2,7 +2,7 @@
 --     lentFit, lent               whether lent lengths are the program's
 --     OpenAnswer, OpenOutcome     a record with two numbers, or a refusal; with what stands in the lent buffers
 --     startedOn, openTable        of a list that was opened; of a table's bytes
---     openOf                      of an input
+--     openInputOf                 of an input
 --     OpenWay                     its ways, with every lent word of each
 --     openCourse, Began           what it leaves, as a course; what holds where there is a record
 -- The laws are in `Opening/`: `Laws`, `Front`. Assumes nothing.
@@ -80,8 +80,8 @@ openHead size (parts bs es) l a b w = openTable bs (size - length es) l a b w
 openHead size (wrong n p) l a b w = openRefused n p l a b w
 
 -- input, list, areas, work words; "wrong measure", place 0, all kept
-unfoldable pub openOf : List ℕ → List ℕ → List ℕ → List ℕ → List ℕ → OpenOutcome
-openOf s l a b w =
+unfoldable pub openInputOf : List ℕ → List ℕ → List ℕ → List ℕ → List ℕ → OpenOutcome
+openInputOf s l a b w =
     elim (lent l a b w) [
       | true ↦ openHead (length s) (headOf s) l a b w
       | false ↦ openRefused 1 0 l a b w

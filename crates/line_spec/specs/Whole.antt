@@ -10,7 +10,7 @@ use Rattle.monitor_spec.specs.State.{Monitor, Outcome}
 use Rattle.monitor_spec.specs.Feed.{feedOf}
 use Rattle.line_spec.specs.Line.{Line, refused}
 use Rattle.line_spec.specs.Pieces.{Course, fed, concludeOf}
-use Rattle.line_spec.specs.Opening.{OpenAnswer, started, refuses, OpenOutcome, openOf}
+use Rattle.line_spec.specs.Opening.{OpenAnswer, started, refuses, OpenOutcome, openInputOf}
 
 -- ---- a piece
 
@@ -60,4 +60,4 @@ wholeAfter s o = wholeBy s o (o .answer)
 
 -- input, list, areas, work words
 unfoldable pub wholeOf : List ℕ → List ℕ → List ℕ → List ℕ → List ℕ → LineOutcome
-wholeOf s l a b w = wholeAfter s (openOf s l a b w)
+wholeOf s l a b w = wholeAfter s (openInputOf s l a b w)

@@ -2,7 +2,7 @@
 -- taken, 0 for running or 1 for failed, place (0 if running)").
 --     readLot, LotScan   the record at the head of some bytes
 --     lotBytes           a record as bytes
---     entryAt            what stands at a position;  found: the answer of `lot_at`, from a scan of the bytes there
+--     entryAt            what stands at a position;  foundLot: the answer of `lot_at`, from a scan of the bytes there
 -- The laws are in `Lot/Scans.antt` and, at a position, `Lot/Laws.antt`. Assumes nothing.
 use Prim.Native.Nat.{ℕ, _+_}
 use mathlib.Core.List.{List, _++_}
@@ -38,9 +38,9 @@ readLot s =
 unfoldable pub lotBytes : Lot → List ℕ
 lotBytes r = groups 9 (r .number) ++ (groups 9 (r .taken) ++ (groups 9 (r .mark) ++ groups 9 (r .place)))
 
-unfoldable pub found : ℕ → LotScan → Entry
-found at (lot r n rest) = Record r (at + n)
-found at unread = Unread
+unfoldable pub foundLot : ℕ → LotScan → Entry
+foundLot at (lot r n rest) = Record r (at + n)
+foundLot at unread = Unread
 
 unfoldable pub entryAt : List ℕ → ℕ → Entry
-entryAt s at = found at (readLot (drop at s))
+entryAt s at = foundLot at (readLot (drop at s))

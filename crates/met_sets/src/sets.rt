@@ -6,7 +6,6 @@ ghost use lib.ListN.{length, getD, replicate};
 ghost use Rattle.slots.specs.Insertion.{stored};
 ghost use Rattle.monitor_spec.specs.State.{chunks};
 ghost use Rattle.met_sets.specs.Sets.{countAt, slotsAt, Shape};
-use crate::words::copy;
 use crate::words::same_words;
 
 // How many slots set i has.

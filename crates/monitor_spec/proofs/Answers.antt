@@ -17,11 +17,11 @@ use Rattle.monitor_spec.specs.State.{State, Monitor, given, refused, sto
 use Rattle.monitor_spec.specs.Entering.{refusing}
 use Rattle.monitor_spec.specs.Feed.{takeEvent, endingOf, feedOf}
 use Rattle.monitor_spec.specs.Joined.{extend}
-use Rattle.monitor_spec.specs.Expected.{verdictOf, recordOf, monitorAfter}
+use Rattle.monitor_spec.specs.Expected.{verdictAfter, recordOf, monitorAfter}
 use Rattle.monitor_spec.specs.Expected.Records.{record-verdict}
 use Rattle.monitor_spec.specs.Expected.Steps.{Fed}
 use Rattle.monitor_spec.specs.History.{Leaves}
-use Rattle.monitor_spec.specs.History.Laws.{extends, measured, feed-refused, feed-goes}
+use Rattle.monitor_spec.specs.History.Laws.{extends, after-measured, feed-refused, feed-goes}
 use Rattle.monitor_spec.specs.Stopping.{EventStops, StoppedAt, AnswersOne}
 use Rattle.numbers.specs.Choice.{T-true, true-T}
 use Rattle.monitor_spec.proofs.Endings.{false-T, not-true, none-answer, some-answer}
@@ -109,7 +109,7 @@ module _ (t : Table) (regular : Regular t) (n : ℕ) (s : List ℕ) (fed : Fed t
     unfolding refusing
     wrong-work e =
         ap (λ (o : Outcome). o .answer)
-        (feed-refused t regular n l ns says low high M es w (measured t regular n l ns says low high s fed) e)
+        (feed-refused t regular n l ns says low high M es w (after-measured t regular n l ns says low high s fed) e)
 
     right-work : workMeasured w ≡ true → (u : List ℕ) → feedOf l M u w ≡ endingOf (length w) (go 0 u)
     right-work e u = feed-goes t regular n l ns says low high s u w fed e
@@ -211,5 +211,5 @@ module _ (t : Table) (regular : Regular t) (n : ℕ) (s : List ℕ) (fed : Fed t
         let (h, x) = gives-to r e in
         given-same r (monitorAfter t n (s ++ es) .state) (sym e ∙ gives-from (T-true (workMeasured w) h) x)
 
-    pub given-verdict : (r : State) → feedOf l M es w .answer ≡ given r → r .verdict ≡ verdictOf t (s ++ es)
+    pub given-verdict : (r : State) → feedOf l M es w .answer ≡ given r → r .verdict ≡ verdictAfter t (s ++ es)
     given-verdict r e = ap (λ (z : State). z .verdict) (given-record r e) ∙ record-verdict t (s ++ es)

@@ -14,7 +14,7 @@ use lib.Dec.{T, eqb, ltb, leb}
 use borrow.Author.Tests.{leb-true, leb-false, le-leb, lt-leb, ltb-true, lt-ltb, eqb-true, eqb-false, eq-eqb, ne-eqb}
 use Rattle.table.specs.Table.{Table}
 use Rattle.monitor_spec.specs.Regular.{Regular}
-use Rattle.monitor_spec.specs.Fold.{Step, stops, Ended}
+use Rattle.monitor_spec.specs.Fold.{StepEnd, stops, Ended}
 use Rattle.monitor_spec.specs.State.{State, Monitor, given, refused, stopped}
 use Rattle.monitor_spec.specs.Feed.{takeEvent, endingOf}
 use Rattle.monitor_spec.specs.Joined.{residualCount}
@@ -80,7 +80,7 @@ ending-refused {X} k x n p e = by (x .why) refl
 
 -- ---- one event, after a list
 
-stops-same : (i j : ℕ) → _≡_ {A = Step Monitor} (stops i) (stops j) → i ≡ j
+stops-same : (i j : ℕ) → _≡_ {A = StepEnd Monitor} (stops i) (stops j) → i ≡ j
 stops-same i j e = cc
 
 -- which test met

@@ -12,7 +12,6 @@ use Rattle.table.specs.Judge.{accepted, judgeList}
 use Rattle.meaning.specs.Figure1.{Term}
 use Rattle.meaning.specs.Figure2.{TraceSet, Model}
 use Rattle.monitor_spec.specs.Regular.{Regular}
-use Rattle.residuals.specs.Residual.{residualsOf}
 use Rattle.monitor_spec.specs.Fold.{Ended, through}
 use Rattle.monitor_spec.specs.Fold.Laws.{some-stopped}
 use Rattle.monitor_spec.specs.Valid.Laws.{and-split}
@@ -23,12 +22,12 @@ use Rattle.monitor_spec.specs.Feed.{takeEvent, endingOf, feedOf}
 use Rattle.monitor_spec.specs.Open.{openOf}
 use Rattle.monitor_spec.specs.Refusals.Laws.{lent}
 use Rattle.monitor_spec.specs.Joined.{Call, residualCount, extend, joinCall, joined}
-use Rattle.monitor_spec.specs.Expected.{recordOf, monitorAfter}
+use Rattle.monitor_spec.specs.Expected.{monitorAfter}
 use Rattle.monitor_spec.specs.Expected.Steps.{Fed}
 use Rattle.monitor_spec.specs.History.{history, Opened, Leaves, Eventful, Along, AfterCalls}
-use Rattle.monitor_spec.specs.History.Laws.{extends, measured, feed-refused, feed-goes, fed-join, call-join}
+use Rattle.monitor_spec.specs.History.Laws.{extends, after-measured, feed-refused, feed-goes, fed-join, call-join}
 use Rattle.monitor_spec.specs.History.Laws.{fed-joined, joined-ends, history-joined}
-use Rattle.monitor_spec.specs.History.Begun.{fresh-fed, open-goes, Began, opened-began}
+use Rattle.monitor_spec.specs.History.Begun.{fresh-fed, open-goes, BeganOn, opened-began}
 use Rattle.monitor_spec.specs.History.After.{after-events}
 use Rattle.numbers.specs.Choice.{T-true, true-T}
 use Rattle.monitor_spec.proofs.Endings.{false-T, none-answer, some-answer, stops-out}
@@ -68,7 +67,7 @@ module _ (l ns : List ℕ) (t : Table) (says : judgeList l ≡ accepted ns t) (r
       let z : areasMeasured c d ≡ true = rw (p, q) x in
       both-true z v
 
-  after-all : (a b : List ℕ) (first : Call) (m : Monitor) → Began a b t first m → (calls : List Call)
+  after-all : (a b : List ℕ) (first : Call) (m : Monitor) → BeganOn a b t first m → (calls : List Call)
       → AfterCalls l t H a b (joined t (slotCount a) first calls)
       (monitorAfter t (slotCount a) (joined t (slotCount a) first calls))
   unfolding slotCount
@@ -112,7 +111,7 @@ module _ (l ns : List ℕ) (t : Table) (says : judgeList l ≡ accepted ns t) (r
           (eventful-ending s w (true-T (workMeasured w) e) f es)
       by false e =
           rw (feed-refused t regular n l ns says low high (monitorAfter t n s) es w
-          (measured t regular n l ns says low high s f) e)
+          (after-measured t regular n l ns says low high s f) e)
           (false-T (workMeasured w) e, refl, refl)
 
   pub along-joined : (cs : List Call) (s : List ℕ) → Fed t n s → Along l (monitorAfter t n s) cs
@@ -127,7 +126,7 @@ module _ (l ns : List ℕ) (t : Table) (says : judgeList l ≡ accepted ns t) (r
 
 -- what every claim along a history starts from
 pub record Reached (l a b : List ℕ) (t : Table) (first : Call) (m : Monitor) (calls : List Call) : Type 0 where
-  pub began : Began a b t first m
+  pub began : BeganOn a b t first m
   pub fed : Fed t (slotCount a) (joined t (slotCount a) first calls)
   pub after : history l m calls ≡ monitorAfter t (slotCount a) (joined t (slotCount a) first calls)
 

@@ -20,7 +20,7 @@ use Rattle.monitor_spec.specs.Open.{openOf}
 use Rattle.monitor_spec.specs.Open.Laws.{accepted-same}
 use Rattle.monitor_spec.specs.Refusals.Laws.{lent}
 use Rattle.monitor_spec.specs.Joined.{residualCount}
-use Rattle.monitor_spec.specs.Expected.{verdictOf, recordOf, monitorAfter}
+use Rattle.monitor_spec.specs.Expected.{verdictAfter, recordOf, monitorAfter}
 use Rattle.monitor_spec.specs.Expected.Steps.{Fed}
 use Rattle.monitor_spec.specs.History.Laws.{feed-goes}
 use Rattle.monitor_spec.specs.History.Begun.{fresh-fed, open-goes, slots-range}
@@ -67,7 +67,7 @@ module _ (l ns : List ℕ) (t : Table) (says : judgeList l ≡ accepted ns t) (r
     opened-record : (r : State) → openOf l a b s w .answer ≡ given r → r ≡ recordOf t s
     opened-record r e = given-record t regular k [] fed l ns says low high s w r (sym as-fed ∙ e)
 
-    opened-verdict : (r : State) → openOf l a b s w .answer ≡ given r → r .verdict ≡ verdictOf t s
+    opened-verdict : (r : State) → openOf l a b s w .answer ≡ given r → r .verdict ≡ verdictAfter t s
     opened-verdict r e = given-verdict t regular k [] fed l ns says low high s w r (sym as-fed ∙ e)
 
     opened-stops : (number place : ℕ) → ((r : State) × (openOf l a b s w .answer ≡ stopped number place r))

@@ -1,5 +1,5 @@
 -- Offer and View on the monitor that a list calls for. Assumes nothing.
-use Prim.Native.Nat.{ℕ, _+_, _/_, _%_, _^_, _≤_, _<_}
+use Prim.Native.Nat.{ℕ, _+_, _/_, _%_, _^_, _≤_}
 use native.Mathlib.Omega.{arith}
 use native.Mathlib.Nat.{zero-div}
 use mathlib.Core.Path.{_≡_, refl, ap, sym, subst, _∙_}
@@ -33,7 +33,7 @@ use Rattle.monitor_spec.specs.Sensible.{Agrees, Sensible}
 use Rattle.monitor_spec.specs.Expected.Laid.{laid-present}
 use Rattle.monitor_spec.specs.Expected.Steps.{Fed, fed-sensible}
 use Rattle.monitor_spec.specs.History.{start}
-use Rattle.monitor_spec.specs.History.Laws.{measured, after-consistent}
+use Rattle.monitor_spec.specs.History.Laws.{after-measured, after-consistent}
 use Rattle.monitor_spec.specs.Offers.{BitsJust, WordsJust, OffersJust}
 use Rattle.monitor_spec.specs.History.Verdicts.{held-some}
 
@@ -115,7 +115,7 @@ module _ (l ns : List ℕ) (t : Table) (says : judgeList l ≡ accepted ns t) (r
   offers-after n low high s f H model w b =
       record {
         bits = offerBits t (monitorAfter t n s) (monitorAfter t n s .state .verdict);
-        answer = offer-goes (monitorAfter t n s) w (measured t regular n l ns says low high s f) b
+        answer = offer-goes (monitorAfter t n s) w (after-measured t regular n l ns says low high s f) b
             (after-consistent t regular n l ns says low high s f);
         exact = record {
           first = traced s H model 0 _ (bits-after n s f .first);

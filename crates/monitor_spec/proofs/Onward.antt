@@ -19,7 +19,7 @@ use Rattle.monitor_spec.specs.Expected.{monitorOnward}
 use Rattle.monitor_spec.specs.Sensible.{Sensible}
 use Rattle.monitor_spec.specs.History.{Leaves}
 use Rattle.monitor_spec.specs.Progress.{Passes, HaltsAt, LeavesAt, FeedStops, FeedGives}
-use Rattle.monitor_spec.specs.Progress.Laws.{passes-ends, halts-ends, Course, passed, halted, course}
+use Rattle.monitor_spec.specs.Progress.Laws.{passes-ends, halts-ends, PassOrHalt, passed, halted, pass-or-halt}
 use Rattle.monitor_spec.proofs.Forms.{given-same, stopped-same, refused-given, refused-stopped, given-stopped}
 use Rattle.monitor_spec.specs.Refusals.Laws.{is-table-in, is-table-out, accepts, Lent, Held}
 use Rattle.monitor_spec.proofs.Feeds.{on-open, opens}
@@ -76,9 +76,9 @@ module _ (t : Table) (regular : Regular t) (n : ℕ) (s : State) (rs : List Resi
 
   pub run-stops : (number place : ℕ) (left : Monitor) → LeavesAt o number place left
       → (a : HaltsAt t n (s .taken) rs es number place) × (left ≡ onward (a .before))
-  run-stops number place left x = by (course t regular n es (s .taken) rs)
+  run-stops number place left x = by (pass-or-halt t regular n es (s .taken) rs)
     where
-      by : Course t regular n (s .taken) rs es
+      by : PassOrHalt t regular n (s .taken) rs es
           → (a : HaltsAt t n (s .taken) rs es number place) × (left ≡ onward (a .before))
       by (passed p) =
           given-stopped (onward es .state) number place (left .state) (passed-leaves p .record-same) (x .record-same)
@@ -100,9 +100,9 @@ module _ (t : Table) (regular : Regular t) (n : ℕ) (s : State) (rs : List Resi
           )
 
   pub run-gives : (left : Monitor) → Leaves o left → Passes t n (s .taken) rs es × (left ≡ onward es)
-  run-gives left x = by (course t regular n es (s .taken) rs)
+  run-gives left x = by (pass-or-halt t regular n es (s .taken) rs)
     where
-      by : Course t regular n (s .taken) rs es → Passes t n (s .taken) rs es × (left ≡ onward es)
+      by : PassOrHalt t regular n (s .taken) rs es → Passes t n (s .taken) rs es × (left ≡ onward es)
       by (passed p) =
           let y = passed-leaves p in (
             p,

@@ -21,7 +21,7 @@ use Rattle.monitor_spec.specs.State.{refused, Outcome, slotCount, fill}
 use Rattle.monitor_spec.specs.Entering.{refusing}
 use Rattle.monitor_spec.specs.Feed.{endingOf}
 use Rattle.monitor_spec.specs.Open.{openOf}
-use Rattle.monitor_spec.specs.Open.Laws.{OpenWay, unmeasured, declines, exceeds, runs, open-way}
+use Rattle.monitor_spec.specs.Open.Laws.{OpenCase, unmeasured, declines, exceeds, runs, open-case}
 use Rattle.monitor_spec.specs.Open.Laws.{open-unmeasured, open-declined, exceededOf, open-exceeded, open-runs}
 use Rattle.monitor_spec.specs.Joined.{residualCount}
 use Rattle.monitor_spec.specs.Refusals.{Measured, OpenRefused, wrong-length, bad-table, exceeded, WorkLeft}
@@ -57,7 +57,7 @@ module _ (l a b es w : List ℕ) where
 
   -- ---- refusals without a record, exactly
 
-  refused-to : (k p : ℕ) → out .answer ≡ refused k p → OpenWay l a b es w → OpenRefused l a b w k p
+  refused-to : (k p : ℕ) → out .answer ≡ refused k p → OpenCase l a b es w → OpenRefused l a b w k p
   refused-to k p e (unmeasured x) =
       let (i, j) = refused-same k p 1 0 (sym e ∙ says-shut 1 0 w (open-unmeasured l a b es w x)) in
       wrong-length (unmeasured-out a b w x) i j
@@ -80,14 +80,14 @@ module _ (l a b es w : List ℕ) where
       rw (j, q) (says-13 (open-exceeded l a b es w (measured-in a b w x) l t (is-table-in l t i) h))
 
   pub open-refused : (k p : ℕ) → (out .answer ≡ refused k p) ↔ OpenRefused l a b w k p
-  open-refused k p = (λ e. refused-to k p e (open-way l a b es w), refused-from k p)
+  open-refused k p = (λ e. refused-to k p e (open-case l a b es w), refused-from k p)
 
   -- an answer with a record
   pub opens : {X : Type 0} → ((k p : ℕ) → out .answer ≡ refused k p → ⊥)
       → (lent a b w ≡ true → (ns : List ℕ) (t : Table) → judgeList l ≡ accepted ns t → residualCount t [] ≤ n → X) → X
-  opens {X} f g = by (open-way l a b es w)
+  opens {X} f g = by (open-case l a b es w)
     where
-      by : OpenWay l a b es w → X
+      by : OpenCase l a b es w → X
       by (unmeasured x) = absurd (f 1 0 (says-shut 1 0 w (open-unmeasured l a b es w x)))
       by (declines x k p d) = absurd (f k p (says-shut k p _ (open-declined l a b es w x k p d)))
       by (exceeds x ns t d h) = absurd (f 13 0 (says-13 (open-exceeded l a b es w x ns t d h)))
@@ -99,11 +99,11 @@ module _ (l a b es w : List ℕ) where
   unfolding refusing exceededOf endingOf
   open-work =
       record {
-        zeroed = λ x. by x (open-way l a b es w) ∙ ap zeros (x .work);
+        zeroed = λ x. by x (open-case l a b es w) ∙ ap zeros (x .work);
         kept = λ x. ap (λ (z : Outcome). z .work) (open-unmeasured l a b es w (unmeasured-in a b w x));
       }
     where
-      by : Measured a b w → OpenWay l a b es w → out .work ≡ zeros (length w)
+      by : Measured a b w → OpenCase l a b es w → out .work ≡ zeros (length w)
       by x (unmeasured y) = absurd (unmeasured-out a b w y x)
       by x (declines y k p d) = ap (λ (z : Outcome). z .work) (open-declined l a b es w y k p d)
       by x (exceeds y ns t d h) = ap (λ (z : Outcome). z .work) (open-exceeded l a b es w y ns t d h)

@@ -13,6 +13,7 @@ use Rattle.table.specs.Judge.{accepted, judgeList}
 use Rattle.residuals.specs.Residual.{run, fromDefinition, residualsOf}
 use Rattle.residuals.specs.Slots.{slotsOf}
 use Rattle.monitor_spec.specs.Regular.{Regular}
+use Rattle.monitor_spec.specs.Valid.Laws.{some-same, none-some}
 use Rattle.monitor_spec.specs.State.{State, freshState, holding, Monitor, Answer, given, refused, stopped}
 use Rattle.monitor_spec.specs.State.{Outcome, slotCount, even, choose, laid}
 use Rattle.monitor_spec.specs.Fold.{through}
@@ -25,7 +26,7 @@ use Rattle.monitor_spec.specs.Expected.Records.{record-first}
 use Rattle.monitor_spec.specs.Expected.Steps.{fed-sensible}
 use Rattle.monitor_spec.specs.Sensible.{Sensible}
 use Rattle.monitor_spec.specs.History.{recordIn, Opened, Leaves}
-use Rattle.monitor_spec.specs.History.Begun.{fresh-fed, none-some, some-same}
+use Rattle.monitor_spec.specs.History.Begun.{fresh-fed}
 use Rattle.monitor_spec.specs.Progress.{LeavesAt, OpenStops, OpenGives}
 use Rattle.monitor_spec.proofs.Forms.{refused-given, refused-stopped}
 use Rattle.monitor_spec.specs.Refusals.Laws.{lent, measured-out, measured-in, is-table-in, is-table-out, accepts}
@@ -143,7 +144,7 @@ module _ (l a b : List ℕ) (c : Call) (m : Monitor) where
           let s : r ≡ m .state = some-same r (m .state) (sym (ap recordIn e) ∙ o .gave) in
           inl (open-gives l a b (c .events) (c .work) m .0
           (record { record-same = e ∙ ap given s; area0-same = o .gave0; area1-same = o .gave1 }))
-      by (refused k p) e = none-some (m .state) (ap recordIn e) (o .gave)
+      by (refused k p) e = none-some (m .state) (sym (ap recordIn e) ∙ o .gave)
       by (stopped k p r) e =
           let s : r ≡ m .state = some-same r (m .state) (sym (ap recordIn e) ∙ o .gave) in
           inr (

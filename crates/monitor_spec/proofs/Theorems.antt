@@ -1,10 +1,9 @@
 -- A proof of each claim of `specs/Claims.antt`. Assumes nothing.
-use Prim.Native.Nat.{ℕ, _≤_}
+use Prim.Native.Nat.{ℕ}
 use native.Mathlib.Omega.{arith}
-use mathlib.Core.Path.{_≡_, ap, sym, subst, _∙_}
+use mathlib.Core.Path.{_≡_, sym, subst, _∙_}
 use mathlib.Core.List.{List, [], _∷_, _++_}
 use mathlib.Core.Bool.{true}
-use mathlib.Core.Option.{some}
 use Rattle.table.specs.Stands.Laws.{number-at}
 use Rattle.monitor_spec.specs.Regular.Laws.{regular}
 use Rattle.monitor_spec.specs.Refusals.Laws.{accepts}
@@ -12,10 +11,9 @@ use Rattle.monitor_spec.specs.ResidualMeaning.Traces.{traces-run, traces
 use Rattle.residuals.specs.Residual.{Residual, residualsOf}
 use Rattle.residuals.specs.Residual.Counts.{residuals-few}
 use Rattle.residuals.specs.Slots.Laws.{slots-few}
-use Rattle.monitor_spec.specs.Valid.{slotResidual, validSlot}
+use Rattle.monitor_spec.specs.Valid.{validSlot}
 use Rattle.monitor_spec.specs.Proper.Laws.{resolve-reach}
 use Rattle.monitor_spec.specs.Valid.Laws.{valid-proper, proper-valid}
-use Rattle.monitor_spec.specs.Valid.Residuals.{read-back}
 use Rattle.monitor_spec.specs.State.{Monitor, areasMeasured, workMeasured, slotCount, laid}
 use Rattle.monitor_spec.specs.Consistent.{consistent}
 use Rattle.monitor_spec.specs.Consistent.Reading.{consistent-laid}

@@ -10,6 +10,7 @@ use lib.ListN.{length, replicate}
 use Rattle.table.specs.Table.{fixed, Term, stop, fail, prefix, choice, par, one}
 use Rattle.table.specs.Writing.{numbersOf}
 use Rattle.table.specs.Operations.{zeros}
+use Rattle.table.specs.Examples.{tableB}
 use Rattle.monitor_spec.specs.State.{Verdict, running, failedAt, Monitor, Answer, given, refused, stopped}
 use Rattle.monitor_spec.specs.State.{Outcome}
 use Rattle.monitor_spec.specs.Feed.{counterMost, feedOf}
@@ -17,7 +18,7 @@ use Rattle.monitor_spec.specs.Open.{openOf}
 use Rattle.monitor_spec.specs.Offer as Offer
 use Rattle.monitor_spec.specs.Offer.{OfferOutcome, offerOf}
 use Rattle.monitor_spec.specs.View.{Part, viewPart, viewOf}
-use Rattle.monitor_spec.specs.Examples.{tableB, drawn, a, b}
+use Rattle.monitor_spec.specs.Examples.{drawn, a, b}
 use Rattle.monitor_spec.specs.Cases.{peaked, st, oneNode, threeNodes, word}
 
 -- words that nobody wrote

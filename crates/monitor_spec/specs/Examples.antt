@@ -8,12 +8,9 @@ use mathlib.Core.List.{List, [], _∷_, map}
 use Rattle.table.specs.Table.{fixed, family, Term, stop, fail, prefix, choice, par, one, each}
 use Rattle.table.specs.Writing.{numbersOf}
 use Rattle.table.specs.Operations.{zeros}
+use Rattle.table.specs.Examples.{tableB}
 use Rattle.monitor_spec.specs.State.{Verdict, running, failedAt, Answer, given, refused}
 use Rattle.monitor_spec.specs.Open.{openOf}
-
--- "Table B, A = 3, sets {0} and {1}, prefix {0}, prefix {1}, call 0": its numbers are its bytes
-abbrev pub tableB : List ℕ
-tableB = 3 ∷ 2 ∷ 0 ∷ 1 ∷ 0 ∷ 0 ∷ 1 ∷ 1 ∷ 1 ∷ 0 ∷ 2 ∷ 0 ∷ 2 ∷ 1 ∷ 5 ∷ 0 ∷ []
 
 -- A = 3; sets {0}, {1}, {}, {0,1}, and the rows {1}, {0}, {}; one definition
 unfoldable pub drawn : Term → List ℕ

@@ -27,8 +27,8 @@ unfoldable pub verdictFrom : Table → List Residual → ℕ → List ℕ → Ve
 verdictFrom t rs k [] = ifNone rs (failedAt k) running
 verdictFrom t rs k (e ∷ s) = ifNone rs (failedAt k) (verdictFrom t (afterAll t e rs) (suc k) s)
 
-unfoldable pub verdictOf : Table → List ℕ → Verdict
-verdictOf t s = verdictFrom t (resolveDef t (bodyCount t) (last t)) 0 s
+unfoldable pub verdictAfter : Table → List ℕ → Verdict
+verdictAfter t s = verdictFrom t (resolveDef t (bodyCount t) (last t)) 0 s
 
 -- with k taken and a verdict before: "Later events are taken; the place stays."
 unfoldable pub verdictOnward : Table → Verdict → List Residual → ℕ → List ℕ → Verdict

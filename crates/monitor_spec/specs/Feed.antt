@@ -15,7 +15,7 @@ use Rattle.table.specs.Operations.{zeros}
 use Rattle.residuals.specs.Residual.{Residual, afterAll}
 use Rattle.residuals.specs.Slots.{slotsOf}
 use Rattle.monitor_spec.specs.Valid.{held}
-use Rattle.monitor_spec.specs.Fold.{Step, went, stops, Ended, through}
+use Rattle.monitor_spec.specs.Fold.{StepEnd, went, stops, Ended, through}
 use Rattle.monitor_spec.specs.State.{stateAfter, Monitor, given, stopped, Outcome, slotCount, even, choose}
 use Rattle.monitor_spec.specs.State.{chunks, fill}
 use Rattle.monitor_spec.specs.Entering.{entranceOn, entering, refusing}
@@ -56,7 +56,7 @@ eventRefused t cap k rs e =
       ]
     ]
 
-unfoldable pub takeEvent : Table → Monitor → ℕ → Step Monitor
+unfoldable pub takeEvent : Table → Monitor → ℕ → StepEnd Monitor
 takeEvent t m e =
     elim (eventRefused t (slotCount (m .area0)) (m .state .taken) (held t (presentSlots m)) e) [
       | some k ↦ stops k

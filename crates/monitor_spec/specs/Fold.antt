@@ -1,5 +1,5 @@
 -- Folding a step that may stop, over a list, and over a list of lists with a restart at each (ours).
---     Step, Ended       what one step gives; where a fold ended, how many it took, and why it stopped
+--     StepEnd, Ended    what one step gives; where a fold ended, how many it took, and why it stopped
 --     through           the fold over one list
 --     took              the elements that it took
 --     restarts, joins   over a list of lists: where it ends, and all that were taken
@@ -14,16 +14,16 @@ pub mod Laws
 pub mod Joined
 
 module _ (C : Type 0) where
-  pub data Step : Type 0 where
-    went : C → Step
-    stops : ℕ → Step
+  pub data StepEnd : Type 0 where
+    went : C → StepEnd
+    stops : ℕ → StepEnd
 
   pub record Ended : Type 0 where
     pub at : C
     pub taken : ℕ
     pub why : Option ℕ
 
-module _ {C E : Type 0} (step : C → E → Step C) where
+module _ {C E : Type 0} (step : C → E → StepEnd C) where
   unfoldable pub through : C → ℕ → List E → Ended C
   through c k [] = record { at = c; taken = k; why = none }
   through c k (e ∷ es) =

@@ -50,7 +50,7 @@ fn take_last(line: &[u8], list: &mut [u16], area0: &mut [u64], area1: &mut [u64]
     }
     State {
         kept: 0,
-        run: groups::take_line(line, list, area0, area1, r),
+        run: groups::run_line(line, list, area0, area1, r),
         ended: true,
     }
 }

@@ -42,7 +42,7 @@ pub fn too_long(r: Run) -> Run {
 }
 
 // A line: a comment, a change of what is lent, or a call.
-pub fn take_line(
+pub fn run_line(
     line: &[u8],
     list: &mut [u16],
     area0: &mut [u64],
@@ -85,7 +85,7 @@ pub fn take_lines(
         if end == n {
             return Taken { run: r, next: at };
         }
-        r = take_line(&text[at..end], list, area0, area1, r);
+        r = run_line(&text[at..end], list, area0, area1, r);
         at = end + 1;
         if is_malformed(r) {
             return Taken { run: r, next: at };

@@ -24,19 +24,19 @@ sheetSaid n v out = record { number = n; value = v; output = out }
 -- ---- an answer
 
 -- the refusal's number, 0 where there is none
-unfoldable pub numberOf : Sheet → ℕ
-numberOf (Given n) = 0
-numberOf (Refused q) = q .number
+unfoldable pub sheetNumber : Sheet → ℕ
+sheetNumber (Given n) = 0
+sheetNumber (Refused q) = q .number
 
 -- "the byte count given", or the refusal's place
-unfoldable pub valueOf : Sheet → ℕ
-valueOf (Given n) = n
-valueOf (Refused q) = q .place
+unfoldable pub sheetValue : Sheet → ℕ
+sheetValue (Given n) = n
+sheetValue (Refused q) = q .place
 
 -- the promise of `tell_sheet`
 pub record SheetTold (x : Sheet) (n v : ℕ) : Type 0 where
-  pub number : n ≡ numberOf x
-  pub value : v ≡ valueOf x
+  pub number : n ≡ sheetNumber x
+  pub value : v ≡ sheetValue x
 
 -- ---- an outcome
 

@@ -2,7 +2,7 @@
 // where a slot belongs among those held, and holding one more. The definitions are in
 // `specs/Insertion.antt`.
 ghost use mathlib.Core.Path.{_≡_};
-ghost use Prim.Native.Nat.{ℕ, _+_, _-_, _*_, _≤_};
+ghost use Prim.Native.Nat.{_+_, _-_, _*_, _≤_};
 ghost use lib.ListN.{length};
 ghost use Rattle.slots.specs.Insertion.{order, isAbove, middleOf, narrowed, seek, placeIn};
 ghost use Rattle.slots.specs.Insertion.{gapped, stored, insertAnswer, insertWords};

@@ -4,9 +4,9 @@
 --     succeeding                       the record after an event, while events can be counted
 -- The laws are in `Record/Laws.antt`. Assumes nothing.
 use Prim.Native.Nat.{ℕ}
-use mathlib.Core.Bool.{true, false, _&&_}
+use mathlib.Core.Bool.{true, false}
 use mathlib.Core.List.{List}
-use lib.Dec.{eqb, leb}
+use lib.Dec.{eqb}
 use Rattle.state.specs.declared.record.Verdict.{Verdict as VerdictCode}
 use Rattle.state.specs.declared.record.Verdict.the-variants.{Running, Failed}
 use Rattle.state.specs.declared.record.State.{State as StateCode}

@@ -14,7 +14,7 @@ use Rattle.residuals.specs.Residual.{Residual, leaf, pair}
 use Rattle.table.specs.Stands.Laws.{number-at, number-below}
 use Rattle.monitor_spec.specs.Meaning.{IsLeaf, IsPar, Sound}
 use Rattle.monitor_spec.specs.Regular.Laws.{regular}
-use Rattle.monitor_spec.specs.Proper.{Remembers, Fits, Proper}
+use Rattle.monitor_spec.specs.Proper.{Remembers, MemoriesFit, Proper}
 use Rattle.monitor_spec.specs.Valid.Laws.{some-same}
 use Rattle.monitor_spec.specs.Valid.Residuals.{digits-fit}
 use Rattle.tree_walk.specs.Forest.{ValidNode, Valid}
@@ -60,7 +60,7 @@ module _ (t : Table) (rules : Rules t) where
   node-valid n c m x e f =
       (digits-fit t (regular t rules) c m f, term-known n x e, digits-below (t .alphabet) c m f)
 
-  valid-fits : (r : Residual) → Sound t r → Fits t r → Valid t r
+  valid-fits : (r : Residual) → Sound t r → MemoriesFit t r → Valid t r
   valid-fits (leaf n m) (x, e, i) f = (node-valid n _ m x e f, λ k. leaf-kind x i (ap kindOf (sym (term-is n x e)) ∙ k))
   valid-fits (pair n m l r) (x, e, i, a, b) (f, g, h) =
       (node-valid n _ m x e f, ap kindOf (term-is n x e) ∙ par-kind x i, valid-fits l a g, valid-fits r b h)

@@ -1,17 +1,14 @@
 -- A proof of each claim of `specs/Claims.antt`, in its order and under its name. Assumes nothing.
-use mathlib.Core.List.{List}
-use lib.ListN.{length}
-use Rattle.table.specs.Table.{Table}
-use Rattle.numbers.specs.Number.Laws.{Written, read-written, read-is-written}
+use Rattle.numbers.specs.Number.Laws.{read-written, read-is-written}
 use Rattle.table.specs.Tokens.{listTokens}
-use Rattle.table.specs.Tokens.Laws.{Cut, follows-list, list-follows}
+use Rattle.table.specs.Tokens.Laws.{follows-list, list-follows}
 use Rattle.table.specs.Writing.{numbersOf}
 use Rattle.table.specs.Grammar.Whole.{table-ok-sound, table-ok-complete}
 use Rattle.table.specs.Fields.Laws.{fields-in, fields-out}
 use Rattle.table.specs.Branches.Capped.{capped-few, capped-term}
 use Rattle.table.specs.Branches.{branches}
 use Rattle.table.specs.Width.Reach as width
-use Rattle.table.specs.Judge.Laws.{AcceptedList, list-out, list-in, AcceptedBytes, bytes-out, bytes-in}
+use Rattle.table.specs.Judge.Laws.{list-out, list-in, bytes-out, bytes-in}
 use Rattle.table.specs.Marks.Written.{table-numbers}
 use Rattle.table.specs.Refusals.AtNumbers.{refused-out, refused-in}
 use Rattle.table.specs.Refusals.Terms.{many-at}

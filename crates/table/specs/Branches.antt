@@ -4,10 +4,9 @@
 --     branchesAt         of one definition, in a list of each one's
 --     tooManyBranches    the lowest body or follower above 256 (refusal 9)
 -- The laws are in `Branches/Laws.antt`. Assumes nothing.
-use Prim.Native.Nat.{ℕ, zero, suc, _+_, _*_}
-use mathlib.Core.Bool.{Bool, true, false}
+use Prim.Native.Nat.{ℕ, suc, _+_, _*_}
 use mathlib.Core.List.{List, [], _∷_}
-use mathlib.Core.Option.{Option, none, some}
+use mathlib.Core.Option.{Option, none}
 use lib.ListN.{length, getD}
 use lib.Dec.{leb}
 use Rattle.table.specs.Table.{Term, stop, fail, prefix, choice, par, call, Definition, Table, size}

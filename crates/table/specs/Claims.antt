@@ -27,7 +27,6 @@ use mathlib.Core.List.{List, _∷_, _++_, flatMap}
 use mathlib.Core.Option.{none}
 use lib.ListN.{length, take, drop, getD}
 use lib.Dec.{T}
-use Rattle.numbers.specs.Every.{All}
 use Rattle.table.specs.Table.{Term, call, Table}
 use Rattle.numbers.specs.Number.{bytesOf, value, readNumber, listBytes}
 use Rattle.numbers.specs.Number.{Bytes}
@@ -49,11 +48,11 @@ use Rattle.table.specs.Bounds.{alphabetRows, setRows, rowRows, definitio
 use Rattle.table.specs.Bounds.{widthRows, branchRows, orderRows}
 use Rattle.table.specs.Rules.{Rules}
 use Rattle.table.specs.Marks.{tableMarks, Shape}
-use Rattle.table.specs.Parser.Mark.{Mark, numbers, Pass}
+use Rattle.table.specs.Parser.Mark.{numbers, Pass}
 use Rattle.table.specs.Refusals.{Refused, fewTerms, ManyAt}
 use Rattle.table.specs.BytesRefused.{RefusedBytes}
 use Rattle.table.specs.Judge.{accepted, declined, judgeList, judgeBytes}
-use Rattle.table.specs.Operations.{Answer, done, Outcome, zeros, readOf, writeOf, ReadWay, WriteWay}
+use Rattle.table.specs.Operations.{done, zeros, readOf, writeOf, ReadWay, WriteWay}
 
 unfoldable pub NumberReadsBack : Type 0
 NumberReadsBack = (v : ℕ) (s : List ℕ) → v ≤ 65535 → readNumber (bytesOf v ++ s) ≡ value v (length (bytesOf v)) s

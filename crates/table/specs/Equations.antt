@@ -5,23 +5,22 @@
 --     branches-guarded  the same, from the one rule that it rests on
 --     width-level       "call to its own level 1, to a lower level that level's hands"; "the largest among its bodies"
 -- Assumes nothing.
-use Prim.Native.Nat.{ℕ, zero, suc, _+_, _*_, _≤_, _<_, max}
+use Prim.Native.Nat.{ℕ, suc, _+_, _*_, _≤_, _<_, max}
 use native.Mathlib.Omega.{arith}
 use native.Mathlib.Decide.{decLt}
-use native.Mathlib.Nat.{zero-mul}
-use mathlib.Core.Path.{_≡_, refl, sym, ap, ap₂, _∙_, subst}
+use mathlib.Core.Path.{_≡_, refl, ap, ap₂, _∙_, subst}
 use mathlib.Core.Bool.{Bool, true, false, cond}
-use mathlib.Core.List.{List, [], _∷_, _++_, map, flatMap, map-append}
+use mathlib.Core.List.{List, [], _∷_}
 use mathlib.Core.Option.{none}
-use lib.ListN.{length, getD, length-append, length-map}
+use lib.ListN.{length}
 use lib.Dec.{eqb}
 use borrow.Author.Tests.{eq-eqb, ne-eqb, eqb-true}
-use Rattle.numbers.specs.Every.{All, AllFrom, from-at}
+use Rattle.numbers.specs.Every.{AllFrom, from-at}
 use Rattle.table.specs.Grow.{grow}
 use Rattle.table.specs.Grow.Laws.{length-grow, getD-grow, grow-stable}
-use Rattle.table.specs.Table.{SetRef, Term, stop, fail, prefix, choice, par, call, Definition, Table}
+use Rattle.table.specs.Table.{Term, stop, fail, prefix, choice, par, call, Definition, Table}
 use Rattle.table.specs.Context.{Context, outermost, underPrefix, underParallel, Throughout}
-use Rattle.table.specs.Fields.{OfCall, Fields}
+use Rattle.table.specs.Fields.{OfCall}
 use Rattle.table.specs.References.{levelIn, firstWrong}
 use Rattle.table.specs.Width.{widthWith, widest, callWidth, nextWidth, allWidths, levelWidth}
 use Rattle.table.specs.Branches.{branchesWith, branchesAt, bodyIn, nextBranches, allBranches, branches}

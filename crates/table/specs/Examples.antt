@@ -1,5 +1,5 @@
 -- Worked inputs and what they are judged to be: 01's own and the cases at its edges, as rows of computed tests.
---     verdict, bytesAre, listIs    a judgement as two numbers; what bytes, a number list are judged to be
+--     inNumbers, bytesAre, listIs  a judgement as two numbers; what bytes, a number list are judged to be
 --     numberRows, tableRows        numbers and whole tables
 --     countRows                    width, branches and the number of terms
 --     longRows                     "long table"
@@ -17,22 +17,22 @@ use Rattle.table.specs.Operations.{Answer, done, refusal, Outcome, zeros
 pub mod Laws
 
 -- a judgement as two numbers: refusal and place, or 0 and how many numbers the table has
-pub record Verdict : Type 0 where
+pub record InNumbers : Type 0 where
   pub number : ℕ
   pub at : ℕ
 
-abbrev pub verdict : Judgement → Verdict
-verdict (accepted ns t) = record { number = 0; at = length ns }
-verdict (declined n p) = record { number = n; at = p }
+abbrev pub inNumbers : Judgement → InNumbers
+inNumbers (accepted ns t) = record { number = 0; at = length ns }
+inNumbers (declined n p) = record { number = n; at = p }
 
-abbrev pub is : Verdict → ℕ → ℕ → Bool
+abbrev pub is : InNumbers → ℕ → ℕ → Bool
 is v n p = eqb (v .number) n && eqb (v .at) p
 
 unfoldable pub bytesAre : List ℕ → ℕ → ℕ → Bool
-bytesAre s n p = is (verdict (judgeBytes s)) n p
+bytesAre s n p = is (inNumbers (judgeBytes s)) n p
 
 unfoldable pub listIs : List ℕ → ℕ → ℕ → Bool
-listIs l n p = is (verdict (judgeList l)) n p
+listIs l n p = is (inNumbers (judgeList l)) n p
 
 abbrev pub every : List Bool → Bool
 every [] = true
@@ -40,7 +40,7 @@ every (b ∷ bs) = b && every bs
 
 -- ---- numbers and tables
 
--- 01, "The program and its lines": "Table B"
+-- 01, "The program and its lines": "Table B"; its numbers are its bytes
 abbrev pub tableB : List ℕ
 tableB = 3 ∷ 2 ∷ 0 ∷ 1 ∷ 0 ∷ 0 ∷ 1 ∷ 1 ∷ 1 ∷ 0 ∷ 2 ∷ 0 ∷ 2 ∷ 1 ∷ 5 ∷ 0 ∷ []
 

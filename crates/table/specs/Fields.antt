@@ -8,7 +8,7 @@ use mathlib.Core.List.{List, [], _∷_}
 use lib.ListN.{length, getD}
 use Rattle.numbers.specs.Every.{All}
 use Rattle.table.specs.Table.{SetRef, fixed, family, Term, stop, fail, prefix, choice, par, call, SetDef, one}
-use Rattle.table.specs.Table.{each, Definition, Table, termCount}
+use Rattle.table.specs.Table.{each, Table, termCount}
 use Rattle.table.specs.Rows.{alphabetMost, rowsIn, RowsFit}
 use Rattle.table.specs.Context.{Each}
 pub mod Laws

@@ -3,7 +3,7 @@
 --     judgeBytes    of bytes (Read);  judgeList: of a number list (Write, Open, Feed, Offer)
 -- The laws are in `Judge/Laws.antt`. Assumes nothing.
 use Prim.Native.Nat.{ℕ}
-use mathlib.Core.Bool.{Bool, true, false, cond}
+use mathlib.Core.Bool.{cond}
 use mathlib.Core.List.{List}
 use mathlib.Core.Option.{Option, none, some}
 use lib.ListN.{length}

@@ -5,7 +5,7 @@
 --     Open, Fits                 numbers that begin a writing, each within its bound. Open: and the writing goes on;
 --                                Fits: it may also end there
 -- That the grammar sees them so is in `Marks/Whole.antt`. Assumes nothing.
-use Prim.Native.Nat.{ℕ, zero, suc, _+_, _<_}
+use Prim.Native.Nat.{ℕ, zero, suc, _+_}
 use mathlib.Core.Path.{_≡_}
 use mathlib.Core.Bool.{Bool, true, false, _&&_}
 use mathlib.Core.List.{List, [], _∷_, _++_, flatMap}

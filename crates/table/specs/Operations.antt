@@ -5,8 +5,8 @@
 -- The laws are in `Operations/`: `Laws`, `Ways`. Assumes nothing.
 use Prim.Native.Nat.{ℕ, _-_, _≤_, _<_}
 use mathlib.Core.Path.{_≡_}
-use mathlib.Core.Bool.{Bool, true, false, cond, _&&_}
-use mathlib.Core.List.{List, [], _∷_, _++_}
+use mathlib.Core.Bool.{Bool, cond, _&&_}
+use mathlib.Core.List.{List, _++_}
 use lib.ListN.{length, replicate, drop}
 use lib.Dec.{eqb, leb}
 use Rattle.table.specs.Table.{Table}

@@ -5,7 +5,7 @@
 --     times              so many things of one kind
 -- Assumes nothing.
 use Prim.Native.Nat.{ℕ, zero, suc}
-use mathlib.Core.Bool.{Bool, true, false, cond}
+use mathlib.Core.Bool.{Bool, cond}
 use mathlib.Core.List.{List, [], _∷_}
 use Rattle.table.specs.Tokens.{Tokens, token, ended, broken}
 pub mod Laws

@@ -8,9 +8,9 @@
 --     BadReference, TooWide, TooManyBranches, TooLong     conditions 7, 8, 9 and 2
 --     Refused         all of them
 -- The laws are in `Refusals/`: `Laws`, `Judged`, `Stops`, `Exact`, `AtNumbers`, `Terms`, `Lowest`. Assumes nothing.
-use Prim.Native.Nat.{ℕ, suc, _+_, _≤_, _<_}
+use Prim.Native.Nat.{ℕ, suc, _+_, _<_}
 use mathlib.Core.Path.{_≡_}
-use mathlib.Core.Bool.{Bool, true, false}
+use mathlib.Core.Bool.{Bool, true}
 use mathlib.Core.List.{List, [], _∷_, _++_, flatMap, map}
 use mathlib.Core.Option.{some}
 use lib.ListN.{length, take, replicate}

@@ -2,13 +2,14 @@
 -- table"; ours: as a relation to go by).
 --     Stands             x is the term of number n over definitions, in definition h, under c prefixes
 --     SomewhereStands    in some definition, under some prefixes
--- The laws are in `Stands/Laws.antt`. Assumes nothing.
+-- The laws are in `Stands/Laws.antt` and, of the definition, `Stands/Home.antt`. Assumes nothing.
 use Prim.Native.Nat.{ℕ, suc, _+_, _<_}
 use mathlib.Core.List.{List}
 use lib.ListN.{length, take}
 use Rattle.table.specs.Table.{SetRef, Term, prefix, choice, par, size, Definition, sizes}
 use Rattle.table.specs.Branches.{bodyIn}
 pub mod Laws
+pub mod Home
 
 pub data Stands (ds : List Definition) : ℕ → ℕ → ℕ → Term → Type 0 where
   body-stands : {h : ℕ} → h < length ds → Stands ds h 0 (sizes (take h ds)) (bodyIn ds h)

@@ -3,10 +3,10 @@
 --     levelWidth    of a level;  reach: of a term
 --     tooWide       the lowest level above 8 (refusal 8)
 -- The laws are in `Width/Laws.antt` and `Width/Reach.antt`. Assumes nothing.
-use Prim.Native.Nat.{ℕ, zero, suc, _+_, max}
-use mathlib.Core.Bool.{Bool, true, false, cond}
+use Prim.Native.Nat.{ℕ, suc, _+_, max}
+use mathlib.Core.Bool.{cond}
 use mathlib.Core.List.{List, [], _∷_}
-use mathlib.Core.Option.{Option, none, some}
+use mathlib.Core.Option.{Option, none}
 use lib.ListN.{length, getD}
 use lib.Dec.{leb, eqb}
 use Rattle.table.specs.Table.{Term, stop, fail, prefix, choice, par, call, Definition, Table}

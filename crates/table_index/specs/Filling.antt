@@ -67,15 +67,15 @@ pub record WidthGiven (t : Table) (w : List ℕ) (n level r : ℕ) : Type 0 wher
   pub small : r ≤ 8 * size (termOf t n)
 
 -- the terms from one number up to another are whole
-abbrev pub Whole : Table → ℕ → ℕ → Type 0
-Whole t from to = (n : ℕ) → from ≤ n → n < to → n + size (termOf t n) ≤ to
+abbrev pub WholeTerms : Table → ℕ → ℕ → Type 0
+WholeTerms t from to = (n : ℕ) → from ≤ n → n < to → n + size (termOf t n) ≤ to
 
 pub record WidthsAsked (t : Table) (w : List ℕ) (from to level : ℕ) : Type 0 where
   pub fields : Fields t
   pub structure : Structured t w
   pub ordered : from ≤ to
   pub inside : to ≤ termCount t
-  pub whole : Whole t from to
+  pub whole : WholeTerms t from to
   pub counted : (n : ℕ) → from ≤ n → n < to → CallCounted t w level n
 
 pub record WidthsFilled (t : Table) (w w' : List ℕ) (from to level : ℕ) : Type 0 where
@@ -139,7 +139,7 @@ pub record FillAsked (t : Table) (w : List ℕ) (from to : ℕ) : Type 0 where
   pub linked : firstWrong t ≡ none
   pub ordered : from ≤ to
   pub inside : to ≤ termCount t
-  pub whole : Whole t from to
+  pub whole : WholeTerms t from to
 
 -- each call with at most so many prefixes around it finds the branches of the body that it names
 abbrev pub CallsReady : Table → List ℕ → ℕ → ℕ → ℕ → Type 0

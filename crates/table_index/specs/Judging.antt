@@ -6,12 +6,12 @@
 --     CheckDone                            with 2, before the work area is cleared
 --     CheckSaid, Checked                   whether a list is a table, and its index, or zeros
 -- Assumes nothing.
-use Prim.Native.Nat.{ℕ, _≤_, _<_}
+use Prim.Native.Nat.{ℕ, _≤_}
 use mathlib.Core.Path.{_≡_}
 use mathlib.Core.Bool.{Bool, true, false}
 use mathlib.Core.List.{List, _++_}
 use mathlib.Core.Option.{Option, none, some}
-use lib.ListN.{length, take, drop}
+use lib.ListN.{length, drop}
 use Rattle.numbers.specs.Number.{Bytes, listBytes, Incomplete, IllWritten}
 use Rattle.numbers.specs.Every.{All}
 use Rattle.table.specs.declared.answer.First.{First}

@@ -5,7 +5,7 @@
 --     TermRead, DefinitionsRead                          a term; the definitions
 --     ParseDone                                          the whole table
 -- Assumes nothing.
-use Prim.Native.Nat.{ℕ, zero, suc, _+_, _<_, _≤_}
+use Prim.Native.Nat.{ℕ, _+_, _<_, _≤_}
 use mathlib.Core.Path.{_≡_}
 use mathlib.Core.List.{List, [], map}
 use mathlib.Core.Bool.{cond}

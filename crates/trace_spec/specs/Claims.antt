@@ -20,10 +20,11 @@ use Rattle.table.specs.Fields.{Ascending}
 use Rattle.table.specs.Member.{elem}
 use Rattle.table.specs.Table.{fail, Table}
 use Rattle.table.specs.Judge.{accepted, judgeBytes, judgeList}
+use Rattle.table.specs.Examples.{tableB}
 use Rattle.monitor_spec.specs.State.{running, failedAt, State}
 use Rattle.monitor_spec.specs.Offer.{EventBits}
 use Rattle.line_spec.specs.Line.{parts, wrong, headOf, lineOf}
-use Rattle.line_spec.specs.Claims.{tableB, drawn}
+use Rattle.line_spec.specs.Claims.{drawn}
 use Rattle.trace_spec.specs.TraceLine.{TraceLine, starts, takes, refuses, LineAt, eventsIn}
 use Rattle.trace_spec.specs.Trace.{traceOf, lineBy}
 use Rattle.trace_spec.specs.Reads.{ended, readLines, reachedBy, readsOf, Decided}

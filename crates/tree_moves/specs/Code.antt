@@ -2,7 +2,7 @@
 -- are put together as they are.
 --     wayCode                           the word of a way, by the place of the tree's first node
 --     eitherCode, bothCode, pairCode    the word of a pair, from those of its sides
---     Decoded                           what `decode` says
+--     DecodedWay                        what `decode` says
 --     Stacked, Codes                    the words of trees on a stack; of the trees from a node on
 --     CodeIn                            what `root_code` says
 -- The laws are in `Code/Cases.antt` (a pair's word by its tests), `Code/Laws.antt` (it is the word of the pair's way),
@@ -15,7 +15,6 @@ use mathlib.Core.List.{List, [], _∷_, _++_}
 use lib.ListN.{length, getD, drop}
 use lib.Dec.{eqb, ltb}
 use Rattle.table.specs.Table.{Table}
-use Rattle.tree_moves.specs.declared.only.Moves.{Moves}
 use Rattle.tree_moves.specs.declared.only.Way.{Way}
 use Rattle.tree_moves.specs.declared.only.Way.the-variants.{Still, Moving, Many}
 use Rattle.residuals.specs.Residual.{Residual}
@@ -92,7 +91,7 @@ pairCode a b held = pairBy (eqb a 0) (eqb b 0) held a b
 
 -- ---- what the functions say
 
-pub record Decoded (v : ℕ) (c : Way) : Type 0 where
+pub record DecodedWay (v : ℕ) (c : Way) : Type 0 where
   pub of : (w : Way) → marksOf w < 65536 → v ≡ wayCode w 0 → c ≡ w
 
 pub record CodeIn (t : Table) (e : ℕ) (area : List ℕ) (k n v : ℕ) : Type 0 where

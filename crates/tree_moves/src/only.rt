@@ -11,7 +11,7 @@ ghost use Rattle.table_index.specs.Index.{tableIn, Indexed};
 ghost use Rattle.resolving.specs.Words.{KnownWord};
 ghost use Rattle.tree_moves.specs.Only.{leafWay, Rooted, WayIn};
 ghost use Rattle.tree_moves.specs.Code.{wayCode, eitherCode, bothCode, pairCode, codeBound};
-ghost use Rattle.tree_moves.specs.Code.{Decoded, CodeIn};
+ghost use Rattle.tree_moves.specs.Code.{DecodedWay, CodeIn};
 
 // Several results of a tree, by bits for its nodes (the first node's is the lowest): one result for
 // each leaf of `each` and each residual that it comes to, the leaves of `also` moving with it,
@@ -119,7 +119,7 @@ fn pair_code(a: u64, b: u64, held: bool) -> u64
 
 // The way that a word says.
 fn decode(v: u64) -> Way
-    ensures { λ r. ⌜ Decoded v r ⌝ }
+    ensures { λ r. ⌜ DecodedWay v r ⌝ }
 {
     if v == 0 {
         return Way::Still;

@@ -4,7 +4,7 @@ use node_word::term_of;
 use resolving::holds_at;
 use resolving::kind_at;
 ghost use mathlib.Core.Path.{_≡_};
-ghost use Prim.Native.Nat.{ℕ, _<_};
+ghost use Prim.Native.Nat.{_<_};
 ghost use Rattle.table_index.specs.Index.{tableIn, Indexed};
 ghost use Rattle.resolving.specs.Words.{kindAt, KnownWord};
 ghost use Rattle.tree_moves.specs.Takes.{TreeAt, Takes, leafTakes, pairTakes};

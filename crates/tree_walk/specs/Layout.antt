@@ -2,7 +2,7 @@
 --     memoAt        where the nodes' parts end, and the results that are kept of leaves begin
 --     storeWords    the words of a store
 -- Assumes nothing.
-use Prim.Native.Nat.{ℕ, _+_, _*_}
+use Prim.Native.Nat.{ℕ}
 
 -- sixteen parts of 257 words
 abbrev pub memoAt : ℕ

@@ -17,7 +17,7 @@ use Rattle.meaning.specs.Figure1.{Term}
 use Rattle.meaning.specs.Figure2.{TraceSet, Model}
 use Rattle.monitor_spec.specs.State.{Outcome, workMeasured, slotCount, choose}
 use Rattle.monitor_spec.specs.State.Areas.{both-true}
-use Rattle.monitor_spec.specs.Fold.{Step, through, extendBy, extendAll}
+use Rattle.monitor_spec.specs.Fold.{StepEnd, through, extendBy, extendAll}
 use Rattle.monitor_spec.specs.Fold.Joined.{Follows, extend-snoc, all-keeps, begins-keeps, one-fold, fold-begins}
 use Rattle.monitor_spec.specs.Feed.{takeEvent, endingOf}
 use Rattle.monitor_spec.specs.Open.{openOf}
@@ -90,7 +90,7 @@ module _ (l k windows ns os : List ℕ) (t u : Table) (says : judgeList l ≡ ac
   abbrev halts : List (ℕ × ℕ) → ℕ × ℕ → Bool
   halts = timedHalts t u windows n
 
-  abbrev step : TimedMonitor → ℕ × ℕ → Step TimedMonitor
+  abbrev step : TimedMonitor → ℕ × ℕ → StepEnd TimedMonitor
   step = takeTimed t u windows
 
   abbrev F : Follows step halts M Ok

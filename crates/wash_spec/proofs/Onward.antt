@@ -4,7 +4,6 @@ use Prim.Native.Nat.{ℕ}
 use mathlib.Core.Path.{_≡_, ap, ap₂, sym, subst, _∙_}
 use mathlib.Core.List.{List, _∷_, _++_}
 use mathlib.Core.Logic.{_↔_}
-use mathlib.Core.Option.{none, some}
 use lib.ListN.{length}
 use lib.Dec.{T}
 use Rattle.table.specs.Table.{Table}
@@ -13,7 +12,7 @@ use Rattle.monitor_spec.specs.Fold.{through}
 use Rattle.monitor_spec.specs.Refusals.Laws.{is-table-in, accepts}
 use Rattle.timetable.specs.Timetable.{goodTimetable}
 use Rattle.timetable.specs.Windows.Laws.{good-in}
-use Rattle.wash_spec.specs.Timed.{TimedMonitor, given, stopped, TimedOutcome}
+use Rattle.wash_spec.specs.Timed.{TimedMonitor, TimedOutcome}
 use Rattle.wash_spec.specs.Taking.{drawingAt, takeTimed}
 use Rattle.wash_spec.specs.Feed.{timedPairs, timedEnding, timedOf}
 use Rattle.wash_spec.specs.Feed.Laws.{pairs-back, events-back, minutes-back}

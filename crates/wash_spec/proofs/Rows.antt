@@ -40,8 +40,6 @@ use Rattle.monitor_spec.specs.Consistent.{areaFits, consistent}
 use Rattle.monitor_spec.specs.Entering.{measuring, judging, entrance, entering}
 use Rattle.monitor_spec.specs.Fold.{through}
 use Rattle.monitor_spec.specs.Feed.{presentSlots, nextSlots, taking, eventRefused, takeEvent}
-use Rattle.monitor_spec.specs.Feed.{endingOf}
-use Rattle.monitor_spec.specs.Feed.{feedOf}
 use Rattle.monitor_spec.specs.Open.{freshMonitor}
 use Rattle.monitor_spec.specs.Examples.{drawn}
 use Rattle.timetable.specs.Timetable.{goodWindow, goodFrom, goodTimetable, someWindow, holds, washAt, inForce}

@@ -17,7 +17,7 @@ use Rattle.table.specs.Operations.{zeros}
 use Rattle.monitor_spec.specs.Regular.{Regular}
 use Rattle.monitor_spec.specs.State.{areasMeasured, choose}
 use Rattle.monitor_spec.specs.State.Areas.{both-true, zero-zeros}
-use Rattle.monitor_spec.specs.History.Laws.{measured, after-consistent}
+use Rattle.monitor_spec.specs.History.Laws.{after-measured, after-consistent}
 use Rattle.monitor_spec.specs.Refusals.Laws.{accepts}
 use Rattle.timetable.specs.Timetable.{goodTimetable, inForce}
 use Rattle.wash_spec.specs.Timed.{TimedMonitor}
@@ -84,8 +84,8 @@ module _ (l k windows ns os : List ℕ) (t u : Table) (says : judgeList l ≡ ac
           → areasMeasured (afterMinute t u windows n o es .area0) (afterMinute t u windows n o es .area1) ≡ true
       by none g = zero-areas
       by (some last) g =
-          measured (D last) (drawing-regular t u regular-t regular-u windows last) n (L last) (N last) (says-at last)
-          low top es (g .0)
+          after-measured (D last) (drawing-regular t u regular-t regular-u windows last) n (L last) (N last)
+          (says-at last) low top es (g .0)
 
   pub agrees-after : (s : List (ℕ × ℕ)) → Ok s → timedConsistent t u windows (M s) ≡ true
   unfolding timedConsistent agreesBy timedAfter afterStretch afterMinute unstarted

@@ -1,10 +1,7 @@
 -- A proof of each claim of `specs/Claims.antt`. Assumes nothing.
-use Prim.Native.Nat.{ℕ}
 use mathlib.Core.Path.{_≡_, refl}
 use mathlib.Core.Bool.{Bool, true, false}
-use mathlib.Core.List.{List}
 use lib.Dec.{T}
-use Rattle.table.specs.Table.{Table}
 use Rattle.monitor_spec.specs.State.{choose}
 use Rattle.timetable.specs.Timetable.{inForce}
 use Rattle.timetable.specs.Windows.Laws.{good-in}

@@ -7,7 +7,6 @@ use Prim.Native.Nat.{ℕ}
 use mathlib.Core.List.{List, [], _∷_, map}
 use mathlib.Core.Option.{none, some}
 use lib.ListN.{length}
-use Rattle.table.specs.Table.{Table}
 use Rattle.table.specs.Operations.{zeros}
 use Rattle.monitor_spec.specs.Fold.{Ended, through}
 use Rattle.wash_spec.specs.Timed.{TimedMonitor, given, refused, stopped, TimedOutcome}

@@ -10,9 +10,10 @@ use lib.ListN.{replicate}
 use Rattle.table.specs.Table.{fixed, stop, prefix, choice, par, call, one}
 use Rattle.table.specs.Writing.{numbersOf}
 use Rattle.table.specs.Operations.{zeros}
+use Rattle.table.specs.Examples.{tableB}
 use Rattle.monitor_spec.specs.State.{running, failedAt}
 use Rattle.monitor_spec.specs.Feed.{counterMost}
-use Rattle.monitor_spec.specs.Examples.{tableB, drawn, a, b}
+use Rattle.monitor_spec.specs.Examples.{drawn, a, b}
 use Rattle.monitor_spec.specs.Cases.{peaked, st, def, oneNode, word}
 use Rattle.timetable.specs.Timetable.{week, minuteBound}
 use Rattle.wash_spec.specs.Timed.{TimedState, notStarted, started, TimedMonitor, TimedAnswer, given, refused}

@@ -13,7 +13,7 @@ use Rattle.table.specs.Table.{Table}
 use Rattle.residuals.specs.Residual.{residualsOf}
 use Rattle.residuals.specs.Slots.{slotsOf}
 use Rattle.monitor_spec.specs.State.{Monitor, slotCount, choose}
-use Rattle.monitor_spec.specs.Fold.{Step, went, stops}
+use Rattle.monitor_spec.specs.Fold.{StepEnd, went, stops}
 use Rattle.monitor_spec.specs.Feed.{takeEvent}
 use Rattle.monitor_spec.specs.Open.{freshMonitor}
 use Rattle.timetable.specs.Timetable.{minuteBound, inForce, changes}
@@ -37,23 +37,23 @@ startDue windows (started s last) now = changes windows last now
 
 -- "starts afresh, taken 0, on the drawing now in force": with n slots. "Crowded settling, then 11 to 13, are met on the
 -- drawing and count so reached"
-unfoldable pub takeFresh : Table → ℕ → ℕ → Step Monitor
+unfoldable pub takeFresh : Table → ℕ → ℕ → StepEnd Monitor
 takeFresh t n e =
     elim (ltb n (length (slotsOf (residualsOf t [])))) [ true ↦ stops 13 | false ↦ takeEvent t (freshMonitor t n) e ]
 
 -- where a start is due, and where none is: on the table t
-unfoldable pub takeOn : Table → Bool → TimedState → List ℕ → List ℕ → ℕ → Step Monitor
+unfoldable pub takeOn : Table → Bool → TimedState → List ℕ → List ℕ → ℕ → StepEnd Monitor
 takeOn t due notStarted a b e = takeFresh t (slotCount a) e
 takeOn t due (started s last) a b e =
     elim due [ true ↦ takeFresh t (slotCount a) e | false ↦ takeEvent t (plain s a b) e ]
 
 -- what is taken leaves the event's minute; "a refused event restores all of before"
-unfoldable pub atMinute : ℕ → Step Monitor → Step TimedMonitor
+unfoldable pub atMinute : ℕ → StepEnd Monitor → StepEnd TimedMonitor
 atMinute now (went m) = went (stamped now m)
 atMinute now (stops k) = stops k
 
 -- "17 .. checked before crowded settling": an event and its minute
-unfoldable pub takeTimed : Table → Table → List ℕ → TimedMonitor → ℕ × ℕ → Step TimedMonitor
+unfoldable pub takeTimed : Table → Table → List ℕ → TimedMonitor → ℕ × ℕ → StepEnd TimedMonitor
 takeTimed everyday wash windows m p =
     elim (clockBack (m .state) (p .1)) [
       | true ↦ stops 17

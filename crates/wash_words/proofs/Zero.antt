@@ -13,8 +13,7 @@ use Rattle.table.specs.Judge.{Judgement, accepted, declined, judgeList}
 use Rattle.residuals.specs.Residual.{residualsOf}
 use Rattle.residuals.specs.Slots.{slotsOf}
 use Rattle.monitor_spec.specs.State.{Monitor, slotCount}
-use Rattle.monitor_spec.specs.Fold.{Step, went, stops, Ended}
-use Rattle.monitor_spec.specs.Feed.{takeEvent}
+use Rattle.monitor_spec.specs.Fold.{StepEnd, went, stops, Ended}
 use Rattle.monitor_spec.specs.Entering.{measuring, judging, entrance, entering}
 use Rattle.timetable.specs.Timetable.{goodTimetable}
 use Rattle.words.specs.Calls.{unmeasured}
@@ -25,7 +24,7 @@ use Rattle.wash_spec.specs.Entering.{TimedEntrance, shut, admits, timedMeasured
 use Rattle.wash_spec.specs.Entering.{timedEntrance}
 use Rattle.wash_spec.specs.Feed.{timedPairs, timedEnding, timedRefusing, timedGoing, timedOf}
 use Rattle.wash_words.specs.Words.{timedRecordMeasured}
-use Rattle.wash_words.specs.Call.{timedNumber, isGiven, callOf, monitorIn, timedCall}
+use Rattle.wash_words.specs.Call.{timedNumber, isGiven, callOf, timedMonitorIn, timedCall}
 
 -- ---- one event: 17, 13, or as an event of the monitor stops
 
@@ -43,7 +42,7 @@ on-stop t due notStarted a b e = fresh-stop t (slotCount a) e
 on-stop t true (started s last) a b e = fresh-stop t (slotCount a) e
 on-stop t false (started s last) a b e = event-stop t (plain s a b) e
 
-minute-stop : (now : ℕ) (x : Step Monitor) → Stop Monitor x → Stop TimedMonitor (atMinute now x)
+minute-stop : (now : ℕ) (x : StepEnd Monitor) → Stop Monitor x → Stop TimedMonitor (atMinute now x)
 unfolding atMinute
 minute-stop now (went m) h = tt
 minute-stop now (stops n) h = h
@@ -118,12 +117,12 @@ timed-said everyday wash ws m es ms w =
 
 pub timed-zero : (everyday wash ws r a b es ms w : List ℕ)
     → eqb (timedCall everyday wash ws r a b es ms w .number) 0
-    ≡ (timedRecordMeasured r && isGiven (timedOf everyday wash ws (monitorIn r a b) es ms w .answer))
+    ≡ (timedRecordMeasured r && isGiven (timedOf everyday wash ws (timedMonitorIn r a b) es ms w .answer))
 unfolding timedCall callOf unmeasured
 timed-zero everyday wash ws r a b es ms w = go (timedRecordMeasured r) refl
   where
     go : (x : Bool) → timedRecordMeasured r ≡ x
         → eqb (timedCall everyday wash ws r a b es ms w .number) 0
-        ≡ (timedRecordMeasured r && isGiven (timedOf everyday wash ws (monitorIn r a b) es ms w .answer))
-    go true e = rw (e, timedCall) (timed-said everyday wash ws (monitorIn r a b) es ms w)
+        ≡ (timedRecordMeasured r && isGiven (timedOf everyday wash ws (timedMonitorIn r a b) es ms w .answer))
+    go true e = rw (e, timedCall) (timed-said everyday wash ws (timedMonitorIn r a b) es ms w)
     go false e = rw (e, timedCall)

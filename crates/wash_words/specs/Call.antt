@@ -1,9 +1,9 @@
 -- `cspe_timed_feed`: what it returns and what stands in the lent words afterwards (02, W5). The record is seven lent
 -- words (`Words`).
---     timedNumber, timedPlace, timedAfter    an answer in words
---     TimedTold                              the promise of `tell_timed`
---     timedCall                              of all that is lent
---     TimedWay                               the same by the operation's answer: every word of each way
+--     timedNumber, timedPlace, timedRecordAfter    an answer in words
+--     TimedTold                                    the promise of `tell_timed`
+--     timedCall                                    of all that is lent
+--     TimedWay                                     the same by the operation's answer: every word of each way
 -- The laws are in `Call/Laws.antt`. Assumes nothing.
 use Prim.Native.Nat.{ℕ}
 use mathlib.Core.Path.{_≡_}
@@ -37,16 +37,16 @@ timedPlace (refused n p) = p
 timedPlace (stopped n p s) = p
 
 -- what stands after the events taken; else the words that were lent are kept
-unfoldable pub timedAfter : List ℕ → TimedAnswer → List ℕ
-timedAfter r (given s) = timedWords s
-timedAfter r (refused n p) = r
-timedAfter r (stopped n p s) = timedWords s
+unfoldable pub timedRecordAfter : List ℕ → TimedAnswer → List ℕ
+timedRecordAfter r (given s) = timedWords s
+timedRecordAfter r (refused n p) = r
+timedRecordAfter r (stopped n p s) = timedWords s
 
 -- the promise of `tell_timed`: of an answer, where the words lent are r
 pub record TimedTold (x : TimedAnswer) (r : List ℕ) (n p : ℕ) (r' : List ℕ) : Type 0 where
   pub number : n ≡ timedNumber x
   pub place : p ≡ timedPlace x
-  pub words : r' ≡ timedAfter r x
+  pub words : r' ≡ timedRecordAfter r x
 
 -- ---- a call
 
@@ -55,22 +55,22 @@ callOf r o =
     record {
       number = timedNumber (o .answer);
       place = timedPlace (o .answer);
-      words = timedAfter r (o .answer);
+      words = timedRecordAfter r (o .answer);
       area0 = o .area0;
       area1 = o .area1;
       work = o .work;
     }
 
 -- the monitor that the lent words and areas are
-unfoldable pub monitorIn : List ℕ → List ℕ → List ℕ → TimedMonitor
-monitorIn r a b = record { state = timedIn r; area0 = a; area1 = b }
+unfoldable pub timedMonitorIn : List ℕ → List ℕ → List ℕ → TimedMonitor
+timedMonitorIn r a b = record { state = timedIn r; area0 = a; area1 = b }
 
 -- the everyday number list, that of the wash hours, timetable, record, areas, events, their minutes, work words; a
 -- record that is not of seven words is refusal 1, place 0, all kept
 unfoldable pub timedCall : List ℕ → List ℕ → List ℕ → List ℕ → List ℕ → List ℕ → List ℕ → List ℕ → List ℕ → MonitorCall
 timedCall everyday wash windows r a b events minutes w =
     elim (timedRecordMeasured r) [
-      | true ↦ callOf r (timedOf everyday wash windows (monitorIn r a b) events minutes w)
+      | true ↦ callOf r (timedOf everyday wash windows (timedMonitorIn r a b) events minutes w)
       | false ↦ unmeasured r a b w
     ]
 

@@ -17,7 +17,7 @@ use Rattle.monitor_spec.specs.State.{State}
 use Rattle.wash_spec.specs.Timed.{TimedState, notStarted, started}
 use Rattle.wash_spec.specs.Feed.{timedOf}
 use Rattle.wash_words.specs.Words.{timedRecordMeasured, timedIn, timedWords}
-use Rattle.wash_words.specs.Call.{isGiven, monitorIn, timedCall, TimedWay}
+use Rattle.wash_words.specs.Call.{isGiven, timedMonitorIn, timedCall, TimedWay}
 
 unfoldable pub TimedReadsBack : Type 0
 TimedReadsBack = (s : TimedState) → timedIn (timedWords s) ≡ s
@@ -35,7 +35,7 @@ pub record TimedReads : Type 0 where
 unfoldable pub TimedTells : Type 0
 TimedTells =
     (everyday wash windows r a b events minutes w : List ℕ)
-    → TimedWay r a b w (timedOf everyday wash windows (monitorIn r a b) events minutes w)
+    → TimedWay r a b w (timedOf everyday wash windows (timedMonitorIn r a b) events minutes w)
     (timedCall everyday wash windows r a b events minutes w)
 
 -- a record that is not of seven words is a refusal too
@@ -43,4 +43,4 @@ unfoldable pub ZeroExactly : Type 0
 ZeroExactly =
     (everyday wash windows r a b events minutes w : List ℕ)
     → eqb (timedCall everyday wash windows r a b events minutes w .number) 0
-    ≡ (timedRecordMeasured r && isGiven (timedOf everyday wash windows (monitorIn r a b) events minutes w .answer))
+    ≡ (timedRecordMeasured r && isGiven (timedOf everyday wash windows (timedMonitorIn r a b) events minutes w .answer))

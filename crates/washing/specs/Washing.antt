@@ -1,5 +1,5 @@
 -- What the functions below `timed_feed` ask for and promise (02, W5).
---     IsTable, listAt               a number list that is a table; the list of the table in force
+--     ListAccepted, listAt          a number list that is a table; the list of the table in force
 --     FirstBy, AfreshBy, FreshBy    the first event of a fresh start: in one area; in both; with the index
 --     Free                          which area is zero
 --     OnReady, OnBy                 an event on one table
@@ -8,7 +8,7 @@
 --     TimedEntered                  what stands before the first event;  afterEveryday: after the everyday table
 --     TimedEndedBy                  all events
 -- The laws are with the proofs. Assumes nothing.
-use Prim.Native.Nat.{ℕ, _%_}
+use Prim.Native.Nat.{ℕ}
 use mathlib.Core.Path.{_≡_}
 use mathlib.Core.Bool.{Bool, true, false}
 use mathlib.Core.List.{List, []}
@@ -40,8 +40,8 @@ use Rattle.wash_state.specs.declared.answer.TimedAnswer.{TimedAnswer}
 use Rattle.wash_state.specs.Answers.{timedStateOf, timedMonitorOf, timedOutcome}
 
 -- none of 2 to 9 is met
-unfoldable pub IsTable : List ℕ → Type 0
-IsTable l = judgeList l ≡ accepted l (tableIn l)
+unfoldable pub ListAccepted : List ℕ → Type 0
+ListAccepted l = judgeList l ≡ accepted l (tableIn l)
 
 -- the number list of the table in force at a minute
 unfoldable pub listAt : List ℕ → List ℕ → List ℕ → ℕ → List ℕ
@@ -92,8 +92,8 @@ TimedStanding everyday wash windows (Started s last) a b work =
     × Standing (tableIn (listAt everyday wash windows last)) (monitorOf s a b)
 
 pub record Ready (everyday wash windows : List ℕ) (s : TimedState) (a b work : List ℕ) : Type 0 where
-  pub first : IsTable everyday
-  pub second : IsTable wash
+  pub first : ListAccepted everyday
+  pub second : ListAccepted wash
   pub good : T (goodTimetable windows)
   pub measured : areasMeasured a b ≡ true
   pub long : length work ≡ 8192

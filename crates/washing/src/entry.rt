@@ -8,7 +8,7 @@ ghost use Rattle.table_index.specs.Index.{tableIn, Indexed};
 ghost use Rattle.monitor_spec.specs.State.{lengthsFit, areasMeasured, workMeasured};
 ghost use Rattle.wash_spec.specs.Entering.{scheduling, timedEntrance};
 ghost use Rattle.wash_state.specs.Answers.{timedMonitorOf};
-ghost use Rattle.washing.specs.Washing.{IsTable, AgreedAt, Agreed};
+ghost use Rattle.washing.specs.Washing.{ListAccepted, AgreedAt, Agreed};
 ghost use Rattle.washing.specs.Washing.{TimedEntered, afterEveryday};
 use crate::fresh::stand;
 use entering::enter;
@@ -44,7 +44,7 @@ fn agrees_at(
     area1: &[u64],
     work: &mut [u64],
 ) -> bool
-    requires { ⌜ IsTable (now everyday) × Indexed (now wash) (now work) ⌝ }
+    requires { ⌜ ListAccepted (now everyday) × Indexed (now wash) (now work) ⌝ }
     requires { ⌜ (length (now area0) ≡ length (now area1)) × (length (now work) ≡ 8192) ⌝ }
     ensures { λ r.
         ⌜ AgreedAt (now (everyday .entry)) (now (wash .entry)) (now (windows .entry)) state last
@@ -68,7 +68,7 @@ fn agrees(
     area1: &[u64],
     work: &mut [u64],
 ) -> bool
-    requires { ⌜ IsTable (now everyday) × Indexed (now wash) (now work) ⌝ }
+    requires { ⌜ ListAccepted (now everyday) × Indexed (now wash) (now work) ⌝ }
     requires { ⌜ (length (now area0) ≡ length (now area1)) × (length (now work) ≡ 8192) ⌝ }
     ensures { λ r.
         ⌜ Agreed (now (everyday .entry)) (now (wash .entry)) (now (windows .entry)) state
@@ -93,7 +93,7 @@ fn schedule(
     area1: &[u64],
     work: &mut [u64],
 ) -> Judged
-    requires { ⌜ IsTable (now everyday) × Indexed (now wash) (now work) ⌝ }
+    requires { ⌜ ListAccepted (now everyday) × Indexed (now wash) (now work) ⌝ }
     requires { ⌜ (areasMeasured (now area0) (now area1) ≡ true) × (length (now work) ≡ 8192) ⌝ }
     ensures { λ r.
         ⌜ TimedEntered (scheduling (now (windows .entry))
@@ -129,7 +129,7 @@ fn enter_wash(
     area1: &[u64],
     work: &mut [u64],
 ) -> Judged
-    requires { ⌜ IsTable (now everyday) × (length (now work) ≡ 8192) ⌝ }
+    requires { ⌜ ListAccepted (now everyday) × (length (now work) ≡ 8192) ⌝ }
     requires { ⌜ areasMeasured (now area0) (now area1) ≡ true ⌝ }
     ensures { λ r.
         ⌜ TimedEntered (afterEveryday (now (everyday .entry)) (now (wash .entry))

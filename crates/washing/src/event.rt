@@ -7,7 +7,7 @@ ghost use Rattle.tree_walk.specs.Layout.{storeWords};
 ghost use Rattle.monitor_spec.specs.State.{areasMeasured};
 ghost use Rattle.wash_spec.specs.Taking.{clockBack, startDue};
 ghost use Rattle.wash_state.specs.Answers.{timedStateOf};
-ghost use Rattle.washing.specs.Washing.{IsTable, OnReady, OnBy, Ready, TimedBy};
+ghost use Rattle.washing.specs.Washing.{ListAccepted, OnReady, OnBy, Ready, TimedBy};
 use crate::fresh::take_fresh;
 use feeding::Taken;
 use feeding::take_anew;
@@ -52,7 +52,7 @@ fn take_on(
     area1: &mut [u64],
     store: &mut [u64],
 ) -> Taken
-    requires { ⌜ IsTable (now list) × (length (now work) ≡ 8192) ⌝ }
+    requires { ⌜ ListAccepted (now list) × (length (now work) ≡ 8192) ⌝ }
     requires { ⌜ areasMeasured (now area0) (now area1) ≡ true ⌝ }
     requires { ⌜ OnReady (now list) (now work) due state (now area0) (now area1) ⌝ }
     requires { ⌜ length (now store) ≡ storeWords ⌝ }

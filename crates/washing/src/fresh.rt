@@ -9,7 +9,7 @@ ghost use Rattle.tree_walk.specs.Layout.{storeWords};
 ghost use Rattle.table_index.specs.Index.{tableIn, Indexed};
 ghost use Rattle.monitor_spec.specs.State.{areasMeasured, slotCount};
 ghost use Rattle.feeding.specs.Feeding.{Empty};
-ghost use Rattle.washing.specs.Washing.{IsTable, FirstBy, AfreshBy, Free, FreshBy};
+ghost use Rattle.washing.specs.Washing.{ListAccepted, FirstBy, AfreshBy, Free, FreshBy};
 use entering::enter;
 use feeding::Taken;
 use feeding::take_anew;
@@ -21,7 +21,7 @@ use trying::copy_words;
 
 // Makes the index of a table, which was judged before, stand in the work area.
 pub(crate) fn stand(list: &[u16], work: &mut [u64])
-    requires { ⌜ IsTable (now list) × (length (now work) ≡ 8192) ⌝ }
+    requires { ⌜ ListAccepted (now list) × (length (now work) ≡ 8192) ⌝ }
     ensures { λ _. ⌜ Indexed (now (list .entry)) (now (work .exit)) ⌝ }
 {
     let _judged = enter(list, true, work);
@@ -130,7 +130,7 @@ pub(crate) fn take_fresh(
     area1: &mut [u64],
     store: &mut [u64],
 ) -> Taken
-    requires { ⌜ IsTable (now list) × (length (now work) ≡ 8192) ⌝ }
+    requires { ⌜ ListAccepted (now list) × (length (now work) ≡ 8192) ⌝ }
     requires { ⌜ areasMeasured (now area0) (now area1) ≡ true ⌝ }
     requires { ⌜ Free even (now area0) (now area1) ⌝ }
     requires { ⌜ length (now store) ≡ storeWords ⌝ }

@@ -46,9 +46,9 @@ use Rattle.monitor_spec.specs.View.{partBy, viewPart}
 use Rattle.table.specs.Operations.{measured, readJudged, readOf, writeJudged, writeOf}
 use Rattle.words.specs.Words.{recordMeasured, verdictIn, stateIn, failureWords, wordsOf}
 use Rattle.words.specs.Tables as tables
-use Rattle.words.specs.Tables.{valueOf, tableCall, readCall, writeCall}
+use Rattle.words.specs.Tables.{tableValue, tableCall, readCall, writeCall}
 use Rattle.words.specs.Calls as calls
-use Rattle.words.specs.Calls.{numberOf, recordAfter, monitorCall, monitorIn, unmeasured}
+use Rattle.words.specs.Calls.{answerNumber, recordAfter, monitorCall, monitorIn, unmeasured}
 use Rattle.words.specs.Calls.{openedOf, openCall, feedCall, tryCall, offerNumber, offerValue, offerSecond}
 use Rattle.words.specs.Calls.{offerCall}
 use Rattle.words.specs.Calls.{viewing, viewCall}
@@ -76,10 +76,10 @@ unfolding flatMap size sizes bodyOf bodyNumber termIn termOfDefs termAt prefixes
     measured readJudged readOf writeJudged writeOf bitOf bitsFrom wordBits wordFrom allBits offerBits
     offering offerOf
     partBy viewPart
-    recordMeasured verdictIn stateIn failureWords wordsOf tables.numberOf valueOf tableCall readCall writeCall
-    numberOf calls.placeOf recordAfter monitorCall monitorIn unmeasured openedOf openCall feedCall tryCall
+    recordMeasured verdictIn stateIn failureWords wordsOf tables.tableNumber tableValue tableCall readCall writeCall
+    answerNumber calls.answerPlace recordAfter monitorCall monitorIn unmeasured openedOf openCall feedCall tryCall
     furtherMeasured leftIn onCopy tryOf tried
-    offerNumber offerValue offerSecond calls.offering offerCall viewing viewCall opened started fed offered viewed
+    offerNumber offerValue offerSecond calls.offeringCall offerCall viewing viewCall opened started fed offered viewed
     RowsHold
 rows-hold = (
   refl,

@@ -31,7 +31,7 @@ use Rattle.words.specs.Nonzero.{list-some, bytes-some, Why, event-stop, 
 use Rattle.words.specs.Words.{recordMeasured}
 use Rattle.words.specs.Tables as tables
 use Rattle.words.specs.Tables.{isDone, tableCall, readCall, writeCall}
-use Rattle.words.specs.Calls.{numberOf, isGiven, monitorCall, monitorIn, unmeasured, openCall, feedCall}
+use Rattle.words.specs.Calls.{answerNumber, isGiven, monitorCall, monitorIn, unmeasured, openCall, feedCall}
 use Rattle.words.specs.Calls.{tryCall}
 use Rattle.words.specs.Calls.{offerNumber, isOffered, offerCall}
 use Rattle.words.specs.Calls as calls
@@ -39,15 +39,15 @@ use Rattle.words.specs.Calls as calls
 -- ---- Read and Write
 
 abbrev ZeroJustWhenDone : Outcome → Type 0
-ZeroJustWhenDone o = eqb (tables.numberOf (o .answer)) 0 ≡ isDone (o .answer)
+ZeroJustWhenDone o = eqb (tables.tableNumber (o .answer)) 0 ≡ isDone (o .answer)
 
 read-judged : (s : List ℕ) → Bytes s → (j : Judgement) → judgeBytes s ≡ j → ZeroJustWhenDone (readJudged j)
-unfolding readJudged tables.numberOf isDone
+unfolding readJudged tables.tableNumber isDone
 read-judged s w (accepted ns t) e = refl
 read-judged s w (declined n at) e = ne-eqb n 0 (bytes-some s n at w e)
 
 pub read-zero : (s out w : List ℕ) → Bytes s → eqb (readCall s out w .number) 0 ≡ isDone (readOf s out w .answer)
-unfolding readCall tableCall readOf tables.numberOf isDone
+unfolding readCall tableCall readOf tables.tableNumber isDone
 read-zero s out w h = go (measured out 16384 && measured w 8192)
   where
     go : (x : Bool)
@@ -56,7 +56,7 @@ read-zero s out w h = go (measured out 16384 && measured w 8192)
     go false = refl
 
 write-judged : (l out : List ℕ) (j : Judgement) → judgeList l ≡ j → ZeroJustWhenDone (writeJudged (listBytes l) out j)
-unfolding writeJudged tables.numberOf isDone
+unfolding writeJudged tables.tableNumber isDone
 write-judged l out (accepted ns t) e = go (leb (length (listBytes l)) (length out))
   where
     bs : List ℕ
@@ -71,7 +71,7 @@ write-judged l out (accepted ns t) e = go (leb (length (listBytes l)) (length ou
 write-judged l out (declined n at) e = ne-eqb n 0 (list-some l n at e)
 
 pub write-zero : (l out w : List ℕ) → eqb (writeCall l out w .number) 0 ≡ isDone (writeOf l out w .answer)
-unfolding writeCall tableCall writeOf tables.numberOf isDone
+unfolding writeCall tableCall writeOf tables.tableNumber isDone
 write-zero l out w = go (measured w 8192)
   where
     go : (x : Bool)
@@ -81,12 +81,12 @@ write-zero l out w = go (measured w 8192)
     go false = refl
 
 abbrev Said : state.Outcome → Type 0
-Said o = eqb (numberOf (o .answer)) 0 ≡ isGiven (o .answer)
+Said o = eqb (answerNumber (o .answer)) 0 ≡ isGiven (o .answer)
 
 -- ---- after a list's events
 
 ending-said : (n : ℕ) (x : Ended Monitor) → Why (x .why) → Said (endingOf n x)
-unfolding endingOf numberOf isGiven
+unfolding endingOf answerNumber isGiven
 ending-said n x h = go (x .why) refl
   where
     go : (o : Option ℕ) → x .why ≡ o → Said (endingOf n x)
@@ -96,7 +96,7 @@ ending-said n x h = go (x .why) refl
 -- ---- Open
 
 open-accepted : (t : Table) (a es w : List ℕ) → Said (openAccepted t a es w)
-unfolding openAccepted numberOf isGiven
+unfolding openAccepted answerNumber isGiven
 open-accepted t a es w = go (ltb (slotCount a) (length (slotsOf (residualsOf t [])))) refl
   where
     go : (x : Bool) → ltb (slotCount a) (length (slotsOf (residualsOf t []))) ≡ x → Said (openAccepted t a es w)
@@ -106,7 +106,7 @@ open-accepted t a es w = go (ltb (slotCount a) (length (slotsOf (residualsOf t [
         (ending-said (length w) _ (through-why (takeEvent t) (event-stop t) es (freshMonitor t (slotCount a)) 0))
 
 open-said : (l a b es w : List ℕ) → Said (openOf l a b es w)
-unfolding refusing numberOf isGiven
+unfolding refusing answerNumber isGiven
 open-said l a b es w = go (entrance (areasMeasured a b && workMeasured w) l w) refl
   where
     go : (x : Entrance) → entrance (areasMeasured a b && workMeasured w) l w ≡ x → Said (openOf l a b es w)
@@ -134,7 +134,7 @@ on-some l m w n p v e =
     ne-eqb n 0 (on-all l m w (λ n p v. n ≡ 0 → ⊥) (λ h. omega arith) (list-some l) (λ h. omega arith) n p v e)
 
 feed-said : (l : List ℕ) (m : Monitor) (es w : List ℕ) → Said (feedOf l m es w)
-unfolding refusing numberOf isGiven
+unfolding refusing answerNumber isGiven
 feed-said l m es w = go (entranceOn l m w) refl
   where
     go : (x : Entrance) → entranceOn l m w ≡ x → Said (feedOf l m es w)
@@ -157,7 +157,7 @@ feed-zero l r a b es w = go (recordMeasured r) refl
 -- ---- Try
 
 try-said : (l : List ℕ) (m : Monitor) (c d es w : List ℕ) → Said (tryOf l m c d es w)
-unfolding onCopy refusing numberOf isGiven
+unfolding onCopy refusing answerNumber isGiven
 try-said l m c d es w = go (furtherMeasured m c d) refl
   where
     go : (x : Bool) → furtherMeasured m c d ≡ x → Said (tryOf l m c d es w)
@@ -192,7 +192,7 @@ offer-said l m w = go (entranceOn l m w) refl
 pub offer-zero : (l r a b w : List ℕ)
     → eqb (offerCall l r a b w .number) 0
     ≡ (recordMeasured r && isOffered (offerOf l (monitorIn r a b) w .answer))
-unfolding offerCall calls.offering
+unfolding offerCall calls.offeringCall
 offer-zero l r a b w = go (recordMeasured r) refl
   where
     go : (x : Bool) → recordMeasured r ≡ x

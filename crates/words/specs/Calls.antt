@@ -12,7 +12,7 @@ use mathlib.Core.Bool.{Bool, true, false, _&&_}
 use mathlib.Core.List.{List}
 use lib.ListN.{length}
 use lib.Dec.{eqb}
-use Rattle.monitor_spec.specs.State.{State, Monitor, Answer, given, refused, stopped, Outcome}
+use Rattle.monitor_spec.specs.State.{Monitor, Answer, given, refused, stopped, Outcome}
 use Rattle.monitor_spec.specs.Open.{openOf}
 use Rattle.monitor_spec.specs.Feed.{feedOf}
 use Rattle.monitor_spec.specs.Try.{tryOf}
@@ -36,10 +36,10 @@ abbrev pub monitorSaid : ℕ → ℕ → List ℕ → List ℕ → List ℕ → 
 monitorSaid n p r a b w = record { number = n; place = p; words = r; area0 = a; area1 = b; work = w }
 
 -- the refusal's number, 0 where there is none
-unfoldable pub numberOf : Answer → ℕ
-numberOf (given s) = 0
-numberOf (refused n p) = n
-numberOf (stopped n p s) = n
+unfoldable pub answerNumber : Answer → ℕ
+answerNumber (given s) = 0
+answerNumber (refused n p) = n
+answerNumber (stopped n p s) = n
 
 -- there is none
 unfoldable pub isGiven : Answer → Bool
@@ -48,10 +48,10 @@ isGiven (refused n p) = false
 isGiven (stopped n p s) = false
 
 -- its place, 0 where there is none
-unfoldable pub placeOf : Answer → ℕ
-placeOf (given s) = 0
-placeOf (refused n p) = p
-placeOf (stopped n p s) = p
+unfoldable pub answerPlace : Answer → ℕ
+answerPlace (given s) = 0
+answerPlace (refused n p) = p
+answerPlace (stopped n p s) = p
 
 -- the record given, or that after the events already taken; else the words that were lent are kept
 unfoldable pub recordAfter : List ℕ → Answer → List ℕ
@@ -61,15 +61,15 @@ recordAfter r (stopped n p s) = wordsOf s
 
 -- the promise of `tell`: of an answer, where the words lent are r
 pub record MonitorTold (x : Answer) (r : List ℕ) (n p : ℕ) (r' : List ℕ) : Type 0 where
-  pub number : n ≡ numberOf x
-  pub place : p ≡ placeOf x
+  pub number : n ≡ answerNumber x
+  pub place : p ≡ answerPlace x
   pub words : r' ≡ recordAfter r x
 
 unfoldable pub monitorCall : List ℕ → Outcome → MonitorCall
 monitorCall r o =
     record {
-      number = numberOf (o .answer);
-      place = placeOf (o .answer);
+      number = answerNumber (o .answer);
+      place = answerPlace (o .answer);
       words = recordAfter r (o .answer);
       area0 = o .area0;
       area1 = o .area1;
@@ -164,8 +164,8 @@ pub record OfferTold (x : Offered) (n v s : ℕ) : Type 0 where
   pub value : v ≡ offerValue x
   pub second : s ≡ offerSecond x
 
-unfoldable pub offering : OfferOutcome → OfferCall
-offering o =
+unfoldable pub offeringCall : OfferOutcome → OfferCall
+offeringCall o =
     record {
       number = offerNumber (o .answer);
       value = offerValue (o .answer);
@@ -179,7 +179,7 @@ offering o =
 unfoldable pub offerCall : List ℕ → List ℕ → List ℕ → List ℕ → List ℕ → OfferCall
 offerCall l r a b w =
     elim (recordMeasured r) [
-      | true ↦ offering (offerOf l (monitorIn r a b) w)
+      | true ↦ offeringCall (offerOf l (monitorIn r a b) w)
       | false ↦ record { number = 1; value = 0; second = 0; area0 = a; area1 = b; work = w }
     ]
 

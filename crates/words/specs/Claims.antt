@@ -24,7 +24,7 @@ use Rattle.words.specs.Words.{recordMeasured, stateIn, wordsOf}
 use Rattle.words.specs.Tables.{isDone, readCall, writeCall}
 use Rattle.words.specs.Calls.{isGiven, isOffered, monitorIn, openCall, feedCall, tryCall, offerCall}
 use Rattle.words.specs.Calls.{viewCall}
-use Rattle.words.specs.Ways.{CallWay, OpenWay, TryWay, OfferWay, ViewWay, TableWay}
+use Rattle.words.specs.Ways.{CallWay, OpenCallWay, TryWay, OfferWay, ViewWay, TableWay}
 use Rattle.words.specs.Examples.{RowsHold}
 
 unfoldable pub RecordReadsBack : Type 0
@@ -34,7 +34,7 @@ RecordReadsBack = (s : State) → stateIn (wordsOf s) ≡ s
 pub record CallsTell : Type 0 where
   pub read : (s out w : List ℕ) → TableWay (readOf s out w) (readCall s out w)
   pub write : (l out w : List ℕ) → TableWay (writeOf l out w) (writeCall l out w)
-  pub opening : (l r a b es w : List ℕ) → OpenWay r a b w (openOf l a b es w) (openCall l r a b es w)
+  pub opening : (l r a b es w : List ℕ) → OpenCallWay r a b w (openOf l a b es w) (openCall l r a b es w)
   pub feed : (l r a b es w : List ℕ)
       → CallWay r a b w (feedOf l (monitorIn r a b) es w) (feedCall l r a b es w)
   pub trial : (l r a b r′ c d es w : List ℕ)

@@ -7,16 +7,13 @@ use mathlib.Core.Path.{_≡_}
 use mathlib.Core.List.{List, [], _∷_, _++_, map}
 use lib.ListN.{replicate}
 use Rattle.table.specs.Operations.{zeros}
+use Rattle.table.specs.Examples.{tableB}
 use Rattle.monitor_spec.specs.State.{running, failedAt}
 use Rattle.words.specs.Words.{stateIn}
 use Rattle.words.specs.Tables.{tableSaid, readCall, writeCall}
 use Rattle.words.specs.Calls.{MonitorCall, OpenCall, OfferCall, ViewCall, openCall, feedCall, tryCall, offerCall}
 use Rattle.words.specs.Calls.{viewCall}
 use Rattle.words.specs.Calls as calls
-
--- 01, "Table B": its numbers are its bytes
-abbrev pub tableB : List ℕ
-tableB = 3 ∷ 2 ∷ 0 ∷ 1 ∷ 0 ∷ 0 ∷ 1 ∷ 1 ∷ 1 ∷ 0 ∷ 2 ∷ 0 ∷ 2 ∷ 1 ∷ 5 ∷ 0 ∷ []
 
 -- A = 1, the set {0}: (0 to STOP) choice (0 to FAIL), two residuals; 0 to (0 to STOP) choice (0 to FAIL), one and then
 -- two

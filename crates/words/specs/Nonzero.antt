@@ -22,7 +22,7 @@ use Rattle.table.specs.BytesRefused.{over-bytes, wrong-bytes, wide-bytes, branc
 use Rattle.table.specs.BytesRefused.Exact.{refused-bytes-out}
 use Rattle.residuals.specs.Residual.{Residual}
 use Rattle.monitor_spec.specs.State.{Monitor}
-use Rattle.monitor_spec.specs.Fold.{Step, went, stops, through}
+use Rattle.monitor_spec.specs.Fold.{StepEnd, went, stops, through}
 use Rattle.monitor_spec.specs.Feed.{takeEvent}
 use Rattle.monitor_spec.specs.Feed.Laws.{EventCase, meets, passes, event-case, metBy, take-refused, take-passes}
 use Rattle.monitor_spec.specs.Progress.{Meets, unknown, full, exceeded}
@@ -61,7 +61,7 @@ abbrev pub Why : Option ℕ → Type 0
 Why none = T true
 Why (some n) = n ≡ 0 → ⊥
 
-abbrev pub Stop : (C : Type 0) → Step C → Type 0
+abbrev pub Stop : (C : Type 0) → StepEnd C → Type 0
 Stop C (went m) = T true
 Stop C (stops n) = n ≡ 0 → ⊥
 
@@ -81,13 +81,13 @@ event-stop t m e = go (metBy t m e) refl
     go none h = rw (take-passes t m e h) tt
     go (some n) h = rw (take-refused t m e n h) (subst Why h (case-why (event-case t _ _ _ e)))
 
-pub through-why : {C E : Type 0} (step : C → E → Step C) → ((c : C) (e : E) → Stop C (step c e))
+pub through-why : {C E : Type 0} (step : C → E → StepEnd C) → ((c : C) (e : E) → Stop C (step c e))
     → (es : List E) (c : C) (k : ℕ) → Why (through step c k es .why)
 unfolding through
 through-why step all [] c k = tt
 through-why {C} step all (e ∷ es) c k = go (step c e) refl (λ d. through-why step all es d (suc k))
   where
-    go : (x : Step C) → step c e ≡ x → ((d : C) → Why (through step d (suc k) es .why))
+    go : (x : StepEnd C) → step c e ≡ x → ((d : C) → Why (through step d (suc k) es .why))
         → Why (through step c k (e ∷ es) .why)
     go (went d) h later = rw (h, through) (later d)
     go (stops n) h later = rw (h, through) (subst (Stop C) h (all c e))

@@ -21,9 +21,9 @@ abbrev pub tableSaid : ℕ → ℕ → List ℕ → List ℕ → TableCall
 tableSaid n v out w = record { number = n; value = v; output = out; work = w }
 
 -- the refusal's number, 0 where there is none
-unfoldable pub numberOf : Answer → ℕ
-numberOf (done n) = 0
-numberOf (refusal n at) = n
+unfoldable pub tableNumber : Answer → ℕ
+tableNumber (done n) = 0
+tableNumber (refusal n at) = n
 
 -- there is no refusal
 unfoldable pub isDone : Answer → Bool
@@ -31,18 +31,18 @@ isDone (done n) = true
 isDone (refusal n at) = false
 
 -- the count, or the refusal's place
-unfoldable pub valueOf : Answer → ℕ
-valueOf (done n) = n
-valueOf (refusal n at) = at
+unfoldable pub tableValue : Answer → ℕ
+tableValue (done n) = n
+tableValue (refusal n at) = at
 
 -- the promise of `tell_table`
 pub record TableTold (x : Answer) (n v : ℕ) : Type 0 where
-  pub number : n ≡ numberOf x
-  pub value : v ≡ valueOf x
+  pub number : n ≡ tableNumber x
+  pub value : v ≡ tableValue x
 
 unfoldable pub tableCall : Outcome → TableCall
 tableCall o =
-    record { number = numberOf (o .answer); value = valueOf (o .answer); output = o .output; work = o .work }
+    record { number = tableNumber (o .answer); value = tableValue (o .answer); output = o .output; work = o .work }
 
 -- bytes, output, work words
 unfoldable pub readCall : List ℕ → List ℕ → List ℕ → TableCall

@@ -1,5 +1,5 @@
 -- What each call returns and leaves, by the record's length and the operation's answer: every word of each way.
---     CallWay     of Open and Feed, whose outcome is o;  OpenWay: of Open, with whether there is a record
+--     CallWay     of Open and Feed, whose outcome is o;  OpenCallWay: of Open, with whether there is a record
 --     TryWay      of Try
 --     OfferWay    of Offer
 --     ViewWay     of View, whose part of an area is given
@@ -57,7 +57,7 @@ pub data CallWay (r a b w : List ℕ) (o : Outcome) : MonitorCall → Type 0 whe
       })
 
 -- 02, W7: "an Open that gave a record", and one that gave none
-pub record OpenWay (r a b w : List ℕ) (o : Outcome) (k : OpenCall) : Type 0 where
+pub record OpenCallWay (r a b w : List ℕ) (o : Outcome) (k : OpenCall) : Type 0 where
   pub way : CallWay r a b w o (k .call)
   pub with-record : (s : State) → length r ≡ 5 → recordIn (o .answer) ≡ some s → k .opened ≡ 1
   pub without-record : recordIn (o .answer) ≡ none → k .opened ≡ 0
@@ -66,7 +66,7 @@ pub record OpenWay (r a b w : List ℕ) (o : Outcome) (k : OpenCall) : Type 0 wh
 -- of the record r that is read, and the further record and areas
 pub data TryWay (r r′ c d w : List ℕ) (o : Outcome) (k : MonitorCall) : Type 0 where
   -- a record that is not of five words (ours): 1 at place 0, all kept
-  readUnfit : (length r ≡ 5 → ⊥)
+  recordUnfit : (length r ≡ 5 → ⊥)
       → k ≡ record { number = 1; place = 0; words = r′; area0 = c; area1 = d; work = w } → TryWay r r′ c d w o k
   -- else a call's ways, in the further words
   furtherWay : length r ≡ 5 → CallWay r′ c d w o k → TryWay r r′ c d w o k

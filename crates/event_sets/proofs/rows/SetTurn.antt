@@ -12,8 +12,8 @@ use native.Mathlib.Decide.{decLt}
 use mathlib.Core.Path.{_≡_, refl, sym, ap, _∙_, subst}
 use mathlib.Core.List.{List, [], _∷_, map}
 use lib.ListN.{length, getD, length-map}
-use lib.Dec.{leb, ltb}
-use mathlib.Core.Bool.{Bool, true, false, not, _&&_, false≢true}
+use lib.Dec.{ltb}
+use mathlib.Core.Bool.{Bool, true, false, not, false≢true}
 use Rattle.numbers.specs.Choice.{true-T}
 use borrow.Author.Tests.{le-leb, lt-leb, lt-ltb, le-ltb}
 use Rattle.table.specs.declared.answer.Refusal.{Refusal}

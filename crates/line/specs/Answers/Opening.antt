@@ -19,12 +19,12 @@ use Rattle.line.specs.declared.answer.Opened.{Opened}
 use Rattle.line.specs.declared.answer.Opened.the-variants.{Started, Refused}
 use Rattle.line_spec.specs.Line.{freshOn}
 use Rattle.line.specs.Answers.{openedSaid, openSaid}
-use Rattle.line_spec.specs.Opening.{refuses, OpenOutcome, openRefused, startAnswer, startedOn, openOf}
+use Rattle.line_spec.specs.Opening.{refuses, OpenOutcome, openRefused, startAnswer, startedOn, openInputOf}
 use Rattle.line_spec.specs.Opening.Front.{open-unfit, open-wrong, open-accepted, open-declined, open-began}
 use Rattle.line.specs.declared.answer.TableRead.{TableRead}
 use Rattle.line.specs.declared.answer.TableRead.the-variants.{Numbers}
 use Rattle.line.specs.declared.answer.TableRead.the-variants as table
-use Rattle.line.specs.TableRead.{TableSaid, TableRefused, lengthsWrong, headWrong, tableDeclined}
+use Rattle.line.specs.TableRead.{TableSaid, TableRefused, refusedLengths, refusedHead, refusedTable}
 use Rattle.line.specs.TableRead.Laws.{said-numbers, said-refused, numbers-front, numbers-few}
 
 -- ---- open_list
@@ -75,7 +75,7 @@ module _ (s l a b w : List ℕ) (r : TableRead) (l' v : List ℕ) (said : TableS
   pub opens-numbers : (count next : ℕ) → r ≡ Numbers count next → (x : Opened) (a' b' w' : List ℕ)
       → openSaid x (take count l') a' b' w'
       ≡ startedOn (length (take count l')) next (take count l') (freshOn (take count l') a b v)
-      → openSaid x l' a' b' w' ≡ openOf s l a b w
+      → openSaid x l' a' b' w' ≡ openInputOf s l a b w
   opens-numbers count next k x a' b' w' h =
       let d = said-numbers s l a b w r l' v said count next k in
       let m = length-drop next s in
@@ -87,22 +87,22 @@ module _ (s l a b w : List ℕ) (r : TableRead) (l' v : List ℕ) (said : TableS
       (freshOn (numbers-front s l a b w count next l' v d i) a b (d .work i)))
       ∙ sym (open-accepted s l a b w (d .fit) (d .bytes) (drop next s) (d .head) (d .numbers) (d .table) (d .judged))
 
-  pub opens-refused : (q : Refusal) → r ≡ table.Refused q → openSaid (Refused q) l' a b v ≡ openOf s l a b w
+  pub opens-refused : (q : Refusal) → r ≡ table.Refused q → openSaid (Refused q) l' a b v ≡ openInputOf s l a b w
   unfolding openRefused
   opens-refused q k = by (q .number) (q .place) l' v (said-refused s l a b w r l' v said q k)
     where
       by : (n p : ℕ) (l' v : List ℕ) → TableRefused s l a b w n p l' v
-          → record { answer = refuses n p; list = l'; area0 = a; area1 = b; work = v } ≡ openOf s l a b w
-      by n p l' v (lengthsWrong e) = sym (open-unfit s l a b w e)
-      by n p l' v (headWrong _ _ e h) = sym (open-wrong s l a b w e n p h)
-      by n p l' v (tableDeclined bs es _ _ _ _ e h j f g) =
+          → record { answer = refuses n p; list = l'; area0 = a; area1 = b; work = v } ≡ openInputOf s l a b w
+      by n p l' v (refusedLengths e) = sym (open-unfit s l a b w e)
+      by n p l' v (refusedHead _ _ e h) = sym (open-wrong s l a b w e n p h)
+      by n p l' v (refusedTable bs es _ _ _ _ e h j f g) =
           (λ i. record { answer = refuses n p; list = f i; area0 = a; area1 = b; work = g i })
           ∙ sym (open-declined s l a b w e bs es h n p j)
 
 -- ---- what `open` gives
 
 pub started-within : (s l a b w : List ℕ) (r : Opened) (l' a' b' w' : List ℕ)
-    → openSaid r l' a' b' w' ≡ openOf s l a b w
+    → openSaid r l' a' b' w' ≡ openInputOf s l a b w
     → (st : State) (count next : ℕ) → r ≡ Started st count next → (count ≤ length l') × (next ≤ length s)
 started-within s l a b w r l' a' b' w' said st count next k =
     let e = sym (ap (λ (o : OpenOutcome). o .answer) said) ∙ ap openedSaid k in

@@ -25,7 +25,7 @@ use Rattle.line.specs.declared.answer.Opened.the-variants.{Started, Refu
 use Rattle.line_spec.specs.Line.{Line, refused, stateLine}
 use Rattle.line_spec.specs.Line as line
 use Rattle.line_spec.specs.Pieces.{over, fed, fedBy, concludeOf}
-use Rattle.line_spec.specs.Opening.{openOf}
+use Rattle.line_spec.specs.Opening.{openInputOf}
 use Rattle.format.specs.Line.{lineSaid}
 use Rattle.line.specs.Answers.{openSaid, resumeSaid, wholeSaid}
 use Rattle.line_spec.specs.Whole.{ResumeOutcome, resumedBy, resumeOf, LineOutcome, finished, finishOf, wholeBy}
@@ -92,29 +92,29 @@ relisted l k o x e =
       work = y .work;
     }) e
 
-module _ (s l a b w : List ℕ) (r : Opened) (l' a' b' w' : List ℕ) (says : openSaid r l' a' b' w' ≡ openOf s l a b w)
-  where
-    whole : (x : Opened) → r ≡ x → wholeAfter s (openSaid x l' a' b' w') ≡ wholeOf s l a b w
-    unfolding wholeOf
-    whole x k =
-        sym (ap (λ (y : Opened). wholeAfter s (openSaid y l' a' b' w')) k) ∙ ap (wholeAfter s) says
+module _ (s l a b w : List ℕ) (r : Opened) (l' a' b' w' : List ℕ)
+    (says : openSaid r l' a' b' w' ≡ openInputOf s l a b w) where
+  whole : (x : Opened) → r ≡ x → wholeAfter s (openSaid x l' a' b' w') ≡ wholeOf s l a b w
+  unfolding wholeOf
+  whole x k =
+      sym (ap (λ (y : Opened). wholeAfter s (openSaid y l' a' b' w')) k) ∙ ap (wholeAfter s) says
 
-    pub line-started : (st : State) (count next : ℕ) → r ≡ Started st count next → (x : code.Line)
-        (a″ b″ w″ : List ℕ)
-        → wholeSaid x (take count l') a″ b″ w″
-        ≡ finishOf (take count l') (monitorOf st a' b') (take (length s - next) (drop next s)) w'
-        → wholeSaid x l' a″ b″ w″ ≡ wholeOf s l a b w
-    unfolding finishOf wholeAfter wholeBy
-    line-started st count next k x a″ b″ w″ h =
-        let m = length-drop next s in
-        let t : take (length s - next) (drop next s) ≡ drop next s =
-        take-all (length s - next) (drop next s) (omega arith) in
-        relisted l' (take count l') _ _ h
-        ∙ ap (λ (es : List ℕ). finished l' (resumeOf (take count l') (monitorOf st a' b') es w')) t
-        ∙ whole (Started st count next) k
+  pub line-started : (st : State) (count next : ℕ) → r ≡ Started st count next → (x : code.Line)
+      (a″ b″ w″ : List ℕ)
+      → wholeSaid x (take count l') a″ b″ w″
+      ≡ finishOf (take count l') (monitorOf st a' b') (take (length s - next) (drop next s)) w'
+      → wholeSaid x l' a″ b″ w″ ≡ wholeOf s l a b w
+  unfolding finishOf wholeAfter wholeBy
+  line-started st count next k x a″ b″ w″ h =
+      let m = length-drop next s in
+      let t : take (length s - next) (drop next s) ≡ drop next s =
+      take-all (length s - next) (drop next s) (omega arith) in
+      relisted l' (take count l') _ _ h
+      ∙ ap (λ (es : List ℕ). finished l' (resumeOf (take count l') (monitorOf st a' b') es w')) t
+      ∙ whole (Started st count next) k
 
-    pub line-refused : (q : Refusal) → r ≡ Refused q → (x : code.Line)
-        → lineSaid x ≡ refused (q .number) (q .place) → wholeSaid x l' a' b' w' ≡ wholeOf s l a b w
-    unfolding wholeAfter wholeBy
-    line-refused q k x h =
-        ap (λ (y : Line). record { line = y; list = l'; area0 = a'; area1 = b'; work = w' }) h ∙ whole (Refused q) k
+  pub line-refused : (q : Refusal) → r ≡ Refused q → (x : code.Line)
+      → lineSaid x ≡ refused (q .number) (q .place) → wholeSaid x l' a' b' w' ≡ wholeOf s l a b w
+  unfolding wholeAfter wholeBy
+  line-refused q k x h =
+      ap (λ (y : Line). record { line = y; list = l'; area0 = a'; area1 = b'; work = w' }) h ∙ whole (Refused q) k

@@ -26,7 +26,7 @@ use Rattle.line_spec.specs.Opening.Laws.{read-right, zeros-length}
 use Rattle.line_spec.specs.Opening.Front.{lent-out}
 use Rattle.line.specs.declared.answer.TableRead.{TableRead}
 use Rattle.line.specs.declared.answer.TableRead.the-variants.{Numbers, Refused}
-use Rattle.line.specs.TableRead.{NumbersRead, TableRefused, lengthsWrong, headWrong, tableDeclined, TableSaid}
+use Rattle.line.specs.TableRead.{NumbersRead, TableRefused, refusedLengths, refusedHead, refusedTable, TableSaid}
 
 -- ---- by the ways out
 
@@ -41,14 +41,14 @@ not-done n i j e = absurd (let z : _≡_ {A = ℕ} 0 1 = cc in omega arith)
 
 module _ (s l a b w : List ℕ) where
   pub read-unfit : lent l a b w ≡ false → TableSaid s l a b w (Refused (record { number = 1; place = 0 })) l w
-  read-unfit e = lengthsWrong e
+  read-unfit e = refusedLengths e
 
   module _ (fit : lent l a b w ≡ true) (h : headCode.Head) (says : HeadSaid s h) where
     told-head : (x : headCode.Head) → h ≡ x → HeadIs (headOf s) s x
     told-head x k = subst (HeadIs (headOf s) s) k says
 
     pub read-wrong : (q : Refusal) → h ≡ Wrong q → TableSaid s l a b w (Refused q) l w
-    read-wrong q k = headWrong (q .number) (q .place) fit (told-head (Wrong q) k)
+    read-wrong q k = refusedHead (q .number) (q .place) fit (told-head (Wrong q) k)
 
     module _ (x y : ℕ) (k : h ≡ Parts x y) (r : tableCode.Answer) (l' w' : List ℕ)
         (said : tableAnswers.outcome r l' w' ≡ readOf (take (y - x) (drop x s)) l w) where
@@ -94,7 +94,7 @@ module _ (s l a b w : List ℕ) where
           by (declined i j) g =
               let o = given (told.Refused q) e (declined i j) g in
               let (n, p) = refusal-same (q .number) (q .place) i j (ap (λ (v : read.Outcome). v .answer) o) in
-              tableDeclined (take (y - x) (drop x s)) (drop y s) (q .number) (q .place) l' w' fit
+              refusedTable (take (y - x) (drop x s)) (drop y s) (q .number) (q .place) l' w' fit
               (told-head (Parts x y) k .same) (g ∙ (λ d. declined (sym n d) (sym p d)))
               (ap (λ (v : read.Outcome). v .output) o) (ap (λ (v : read.Outcome). v .work) o)
 

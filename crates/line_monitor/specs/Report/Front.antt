@@ -14,7 +14,7 @@ use Rattle.state.specs.declared.record.State.{State}
 use Rattle.state.specs.Record.{monitorOf}
 use Rattle.line_spec.specs.Line.{refused}
 use Rattle.line_spec.specs.Pieces.{over, concludeOf, afterPiece}
-use Rattle.line_spec.specs.Opening.{openOf, courseBy, openCourse}
+use Rattle.line_spec.specs.Opening.{openInputOf, courseBy, openCourse}
 use Rattle.line_spec.specs.Opening.Front.{Lengths, lent-in}
 use Rattle.line_spec.specs.Whole.{ResumeOutcome, resumeOf}
 use Rattle.line_spec.specs.Lent.{resumeFirst, frontEvents, nextBy, resumeNext, resumeAll, withCourse}
@@ -75,16 +75,16 @@ module _ (l : List ℕ) (s : State) (a b es w : List ℕ) (last : Bool) (r : Cou
 
 module _ (s l a b w : List ℕ) (fit : Lengths l a b w) where
   says : (last : Bool) → (last ≡ false → 16387 ≤ length s) → (t : Report)
-      → FrontFed last (frontLeft s (openOf s l a b w)) t → Says last s t
+      → FrontFed last (frontLeft s (openInputOf s l a b w)) t → Says last s t
   says true long (Line x) h = front-line s l a b w (lent-in l a b w fit) (lineSaid x) h
   says true long (Broken f) h = h
   says false long (Line x) h = follows-judged s l a b w (lent-in l a b w fit) 65536 (lineSaid x) (long refl) h
   says false long (Broken f) h = h
 
   module _ (last : Bool) (long : last ≡ false → 16387 ≤ length s) (r : Opened) (l' a' b' w' : List ℕ)
-      (said : openSaid r l' a' b' w' ≡ openOf s l a b w)
+      (said : openSaid r l' a' b' w' ≡ openInputOf s l a b w)
     where
-      left : (x : Opened) → r ≡ x → frontLeft s (openSaid x l' a' b' w') ≡ frontLeft s (openOf s l a b w)
+      left : (x : Opened) → r ≡ x → frontLeft s (openSaid x l' a' b' w') ≡ frontLeft s (openInputOf s l a b w)
       left x k = sym (ap (λ (y : Opened). frontLeft s (openSaid y l' a' b' w')) k) ∙ ap (frontLeft s) said
 
       pub says-started : (st : State) (count next : ℕ) → r ≡ Started st count next → (t : Report)
@@ -104,5 +104,5 @@ module _ (s l a b w : List ℕ) (fit : Lengths l a b w) where
           → lineSaid x ≡ refused (q .number) (q .place) → Says last s (Line x)
       unfolding frontLeft resumeFirst resumeNext nextBy openCourse courseBy frontEvents
       says-refused q k x h =
-          says last long (Line x) (front-stands last (frontLeft s (openOf s l a b w)) x
+          says last long (Line x) (front-stands last (frontLeft s (openInputOf s l a b w)) x
           (ap (λ (p : ResumeOutcome). p .course) (sym (left (Refused q) k)) ∙ ap over (sym h)))

@@ -14,7 +14,7 @@ use lib.ListN.{length}
 use Rattle.monitor_spec.specs.State.{Monitor}
 use Rattle.line_spec.specs.Line.{Line, refused, lineOf}
 use Rattle.line_spec.specs.Pieces.{Course, going, over, concludeOf, afterPiece}
-use Rattle.line_spec.specs.Opening.{lent, openOf}
+use Rattle.line_spec.specs.Opening.{lent, openInputOf}
 use Rattle.line_spec.specs.Whole.{ResumeOutcome, resumedBy, resumeOf}
 use Rattle.line_spec.specs.Lent.{lentLine, nextBy, resumeNext, resumeAll, lentPieces, withCourse}
 use Rattle.line_spec.specs.Lent.Laws.{pieces-lent}
@@ -109,24 +109,24 @@ flatten-last (fs ∷ ess) es =
 
 module _ (s l a b w : List ℕ) (fit : lent l a b w ≡ true) where
   lines : (ess : List (List ℕ)) (x : Line) → (16387 ≤ length s) ⊎ (ess ≡ [])
-      → concludeOf (resumeAll (frontLeft s (openOf s l a b w)) ess .course) ≡ x → lineOf (s ++ flatten ess) ≡ x
+      → concludeOf (resumeAll (frontLeft s (openInputOf s l a b w)) ess .course) ≡ x → lineOf (s ++ flatten ess) ≡ x
   unfolding frontLeft lentPieces lentLine resumeAll
   lines ess x h e =
       sym (ap (λ (y : Bool). cond y (lineOf (s ++ flatten ess)) (refused 1 0)) fit)
       ∙ sym (pieces-lent s ess l a b w h) ∙ e
 
   -- the input ended with its front
-  pub front-line : (x : Line) → concludeOf (frontLeft s (openOf s l a b w) .course) ≡ x → lineOf s ≡ x
+  pub front-line : (x : Line) → concludeOf (frontLeft s (openInputOf s l a b w) .course) ≡ x → lineOf s ≡ x
   unfolding resumeAll flatten
   front-line x e = ap lineOf (sym (append-nil s)) ∙ lines [] x (inr refl) e
 
   -- it did not
-  pub follows-judged : (n : ℕ) (x : Line) → 16387 ≤ length s → Follows n (frontLeft s (openOf s l a b w)) x
+  pub follows-judged : (n : ℕ) (x : Line) → 16387 ≤ length s → Follows n (frontLeft s (openInputOf s l a b w)) x
       → Judged n s x
   unfolding concludeOf
   follows-judged n x h (endsIn ess es f i e) = ended ess es f i (lines (ess ++ (es ∷ [])) x (inl h) e)
   follows-judged n x h (standsAfter ess f e) = stood ess f (λ rest.
-      let o = frontLeft s (openOf s l a b w) in
+      let o = frontLeft s (openInputOf s l a b w) in
       let c = ap (λ (r : ResumeOutcome). r .course) (resume-append o ess (rest ∷ []))
       ∙ stays (resumeAll o ess) (rest ∷ []) x e in
       ap (λ (y : List ℕ). lineOf (s ++ y)) (sym (flatten-last ess rest))

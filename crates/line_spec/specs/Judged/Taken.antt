@@ -11,7 +11,7 @@ use mathlib.Core.Option.{Option, none, some}
 use lib.ListN.{length}
 use Rattle.table.specs.Table.{Table}
 use Rattle.residuals.specs.Residual.{Residual}
-use Rattle.monitor_spec.specs.Fold.{Step, went, stops, Ended, through}
+use Rattle.monitor_spec.specs.Fold.{StepEnd, went, stops, Ended, through}
 use Rattle.monitor_spec.specs.Fold.Laws.{through-went, through-stops}
 use Rattle.monitor_spec.specs.State.{State, stateAfter, Monitor, Answer, given, stopped, Outcome}
 use Rattle.monitor_spec.specs.State.{counted, holding}
@@ -56,10 +56,10 @@ unfolding through
 all-took t m k [] h = record { all = omega arith; fits = λ i. i }
 all-took t m k (e ∷ es) h = by (takeEvent t m e) refl (λ d. all-took t d (suc k) es)
   where
-    S : Monitor → ℕ → Step Monitor
+    S : Monitor → ℕ → StepEnd Monitor
     S = takeEvent t
 
-    by : (x : Step Monitor) → takeEvent t m e ≡ x
+    by : (x : StepEnd Monitor) → takeEvent t m e ≡ x
         → ((d : Monitor) → through S d (suc k) es .why ≡ none
         → Took (d .state) (length es) (through S d (suc k) es .at .state))
         → Took (m .state) (length (e ∷ es)) (through S m k (e ∷ es) .at .state)

@@ -9,7 +9,7 @@ use mathlib.Core.List.{List, [], _∷_}
 use lib.ListN.{drop}
 use Rattle.line_spec.specs.Line.{Line, refused}
 use Rattle.line_spec.specs.Pieces.{Course, going, over, concludeOf, afterPiece}
-use Rattle.line_spec.specs.Opening.{OpenAnswer, started, refuses, OpenOutcome, openOf, courseBy, openCourse}
+use Rattle.line_spec.specs.Opening.{OpenAnswer, started, refuses, OpenOutcome, openInputOf, courseBy, openCourse}
 use Rattle.line_spec.specs.Whole.{ResumeOutcome}
 use Rattle.line_spec.specs.Lent.{resumeFirst, frontEvents, nextBy, resumeNext, resumeAll, lentPieces}
 use Rattle.line_spec.specs.Lent.{withCourse, endsAll, endsBy, lentEnds}
@@ -57,4 +57,4 @@ by-answer s o ess (refuses n p) e =
 pub ends-pieces : (s : List ℕ) (ess : List (List ℕ)) (l a b w : List ℕ) → lentEnds s ess l a b w
     ≡ over (lentPieces s ess l a b w)
 unfolding lentEnds lentPieces
-ends-pieces s ess l a b w = by-answer s (openOf s l a b w) ess (openOf s l a b w .answer) refl
+ends-pieces s ess l a b w = by-answer s (openInputOf s l a b w) ess (openInputOf s l a b w .answer) refl

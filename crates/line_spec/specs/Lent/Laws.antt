@@ -8,21 +8,21 @@ use mathlib.Core.Path.{_≡_, refl, ap, sym, subst, _∙_}
 use mathlib.Core.Bool.{Bool, true, false, cond}
 use mathlib.Core.List.{List, [], _∷_, _++_, append-nil, flatten}
 use mathlib.Core.Logic.{_⊎_, inr}
-use lib.ListN.{length, drop}
+use lib.ListN.{length}
 use Rattle.table.specs.Judge.{judgeList}
 use Rattle.table.specs.Operations.{zeros}
 use Rattle.monitor_spec.specs.Fold.{through}
-use Rattle.monitor_spec.specs.State.{State, Monitor, Outcome, areasMeasured, workMeasured}
+use Rattle.monitor_spec.specs.State.{Monitor, Outcome, areasMeasured, workMeasured}
 use Rattle.monitor_spec.specs.Entering.{Entrance, shut, admits, judging, agreeing, entranceOn, entering, refusing}
 use Rattle.monitor_spec.specs.Entering.Laws.{entrance-unmeasured, on-shut, on-length, on-measured}
 use Rattle.monitor_spec.specs.Feed.{takeEvent, endingOf, feedOf}
 use Rattle.monitor_spec.specs.Feed.Laws.{feed-shut, feed-admits}
 use Rattle.line_spec.specs.Line.{Line, refused, lineOf}
-use Rattle.line_spec.specs.Pieces.{Course, going, over, fed, fedBy, pieceOf, Front, frontOf, feedFront}
+use Rattle.line_spec.specs.Pieces.{Course, going, over, fed, fedBy, pieceOf, frontOf, feedFront}
 use Rattle.line_spec.specs.Pieces.{concludeOf}
 use Rattle.line_spec.specs.Pieces.{throughPieces, piecesOf}
 use Rattle.line_spec.specs.Pieces.Joined.{over-stays, pieces-whole}
-use Rattle.line_spec.specs.Opening.{lent, OpenAnswer, started, refuses, OpenOutcome, openRefused, openOf}
+use Rattle.line_spec.specs.Opening.{lent, OpenAnswer, started, refuses, OpenOutcome, openRefused, openInputOf}
 use Rattle.line_spec.specs.Opening.{courseBy, openCourse}
 use Rattle.line_spec.specs.Opening.Laws.{work-measured, zeros-length}
 use Rattle.line_spec.specs.Opening.Front.{open-unfit, open-course, open-began}
@@ -125,24 +125,24 @@ unfolding courseBy
 refuses-ready o n p e = subst (λ (c : Course). Ready c (o .work)) (sym (course-by o (refuses n p) e)) tt
 
 module _ (s l a b w : List ℕ) (fit : lent l a b w ≡ true) where
-  first-ready : Ready (openCourse (openOf s l a b w)) (openOf s l a b w .work)
-  first-ready = by (openOf s l a b w .answer) refl
+  first-ready : Ready (openCourse (openInputOf s l a b w)) (openInputOf s l a b w .work)
+  first-ready = by (openInputOf s l a b w .answer) refl
     where
-      by : (x : OpenAnswer) → openOf s l a b w .answer ≡ x
-          → Ready (openCourse (openOf s l a b w)) (openOf s l a b w .work)
+      by : (x : OpenAnswer) → openInputOf s l a b w .answer ≡ x
+          → Ready (openCourse (openInputOf s l a b w)) (openInputOf s l a b w .work)
       by (started st count next) e =
-          ready (openCourse (openOf s l a b w)) (openOf s l a b w .work)
+          ready (openCourse (openInputOf s l a b w)) (openInputOf s l a b w .work)
           (ap length (open-began s l a b w st count next e .work) ∙ zeros-length 8192)
-      by (refuses n p) e = refuses-ready (openOf s l a b w) n p e
+      by (refuses n p) e = refuses-ready (openInputOf s l a b w) n p e
 
-  first-piece : pieceOf (openCourse (openOf s l a b w)) (frontEvents s (openOf s l a b w .answer))
+  first-piece : pieceOf (openCourse (openInputOf s l a b w)) (frontEvents s (openInputOf s l a b w .answer))
       ≡ feedFront (frontOf s)
   unfolding feedFront frontEvents pieceOf courseBy
-  first-piece = by (openOf s l a b w .answer) refl
+  first-piece = by (openInputOf s l a b w .answer) refl
       ∙ ap (λ (c : Course). pieceOf c (frontOf s .events)) (open-course s l a b w fit)
     where
       o : OpenOutcome
-      o = openOf s l a b w
+      o = openInputOf s l a b w
 
       by : (x : OpenAnswer) → o .answer ≡ x → pieceOf (openCourse o) (frontEvents s (o .answer))
           ≡ pieceOf (openCourse o) (frontOf s .events)
@@ -157,7 +157,7 @@ module _ (s l a b w : List ℕ) (fit : lent l a b w ≡ true) where
   pieces-fit : (ess : List (List ℕ)) → lentPieces s ess l a b w ≡ piecesOf s ess
   unfolding lentPieces resumeFirst piecesOf throughPieces
   pieces-fit ess =
-      let o = openOf s l a b w in
+      let o = openInputOf s l a b w in
       ap concludeOf (all-course (resumeFirst o) (frontEvents s (o .answer) ∷ ess) first-ready
       ∙ ap (λ (c : Course). throughPieces c ess) first-piece)
 
@@ -165,7 +165,7 @@ pieces-unfit : (s : List ℕ) (ess : List (List ℕ)) (l a b w : List ℕ) → l
     → lentPieces s ess l a b w ≡ refused 1 0
 unfolding lentPieces resumeFirst openRefused courseBy concludeOf
 pieces-unfit s ess l a b w e =
-    let o = openOf s l a b w in
+    let o = openInputOf s l a b w in
     let f : o .answer ≡ refuses 1 0 = ap (λ (x : OpenOutcome). x .answer) (open-unfit s l a b w e) in
     let all = frontEvents s (o .answer) ∷ ess in
     ap concludeOf (all-course (resumeFirst o) all (refuses-ready o 1 0 f)
@@ -205,5 +205,5 @@ alone s o = by (o .answer) refl
 pub whole-line : (s l a b w : List ℕ) → wholeOf s l a b w .line ≡ lentLine s l a b w
 unfolding wholeOf lentPieces flatten
 whole-line s l a b w =
-    alone s (openOf s l a b w) ∙ pieces-lent s [] l a b w (inr refl)
+    alone s (openInputOf s l a b w) ∙ pieces-lent s [] l a b w (inr refl)
     ∙ ap (λ (x : List ℕ). lentLine x l a b w) (append-nil s)

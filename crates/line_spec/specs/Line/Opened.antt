@@ -3,30 +3,28 @@
 --     opened-line     of a list and events;  whole-opened: of an input
 -- Assumes nothing.
 use Prim.Native.Nat.{ℕ, _≤_}
-use mathlib.Core.Path.{_≡_, refl, ap, sym, _∙_}
-use mathlib.Core.Bool.{Bool, true, false}
+use mathlib.Core.Path.{_≡_, ap, sym, _∙_}
+use mathlib.Core.Bool.{true}
 use mathlib.Core.List.{List, []}
-use lib.ListN.{length}
 use Rattle.table.specs.Table.{Table}
-use Rattle.table.specs.Judge.{Judgement, accepted, judgeList, judgeBytes}
+use Rattle.table.specs.Judge.{accepted, judgeList, judgeBytes}
 use Rattle.table.specs.Judge.Laws.{list-out}
 use Rattle.table.specs.Operations.{zeros}
 use Rattle.monitor_spec.specs.Regular.Laws.{regular}
 use Rattle.monitor_spec.specs.Valid.Laws.{and-split}
-use Rattle.monitor_spec.specs.State.{State, Monitor, Answer, given, Outcome, areasMeasured, workMeasured, slotCount}
+use Rattle.monitor_spec.specs.State.{Monitor, given, Outcome, areasMeasured, workMeasured, slotCount}
 use Rattle.monitor_spec.specs.State as state
 use Rattle.monitor_spec.specs.Entering.{refusing}
 use Rattle.monitor_spec.specs.Fold.{through}
 use Rattle.monitor_spec.specs.Feed.{endingOf, feedOf}
 use Rattle.monitor_spec.specs.Open.{freshMonitor, openOf}
 use Rattle.monitor_spec.specs.Refusals.Laws.{lent}
-use Rattle.monitor_spec.specs.Open.Laws.{OpenWay, unmeasured, declines, exceeds, runs, open-way}
+use Rattle.monitor_spec.specs.Open.Laws.{OpenCase, unmeasured, declines, exceeds, runs, open-case}
 use Rattle.monitor_spec.specs.Open.Laws.{open-unmeasured, open-declined, exceededOf, open-exceeded, open-runs}
 use Rattle.monitor_spec.specs.Joined.{residualCount}
-use Rattle.monitor_spec.specs.Expected.{monitorAfter}
 use Rattle.monitor_spec.specs.History.Laws.{feed-goes}
 use Rattle.monitor_spec.specs.History.Begun.{fresh-after, fresh-fed, open-goes, slots-range}
-use Rattle.line_spec.specs.Line.{Head, parts, headOf, refused, answerLine, fresh, monitorLeft, startedBy}
+use Rattle.line_spec.specs.Line.{parts, headOf, refused, answerLine, fresh, monitorLeft, startedBy}
 use Rattle.line_spec.specs.Line.{startedLine, readLine, headLine, lineOf}
 
 module _ (l es : List ℕ) where
@@ -67,12 +65,12 @@ module _ (l es : List ℕ) where
 
   pub opened-line : startedLine l es ≡ answerLine (opened .answer)
   unfolding fresh refusing exceededOf endingOf through
-  opened-line = by (open-way l z z [] w)
+  opened-line = by (open-case l z z [] w)
     where
       said : (o : Outcome) (us : List ℕ) → openOf l z z us w ≡ o → openOf l z z us w .answer ≡ o .answer
       said o us e = ap (λ (x : Outcome). x .answer) e
 
-      by : OpenWay l z z [] w → startedLine l es ≡ answerLine (opened .answer)
+      by : OpenCase l z z [] w → startedLine l es ≡ answerLine (opened .answer)
       by (unmeasured e) =
           both-refused 1 0 (said _ [] (open-unmeasured l z z [] w e)) (said _ es (open-unmeasured l z z es w e))
       by (declines e n p d) =

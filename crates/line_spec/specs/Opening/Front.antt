@@ -1,14 +1,14 @@
--- What `openOf` leaves is the front of the input.
+-- What `openInputOf` leaves is the front of the input.
 --     lent-out, lent-in          the lent lengths
 --     open-unfit                 where one is wrong
 --     open-wrong, open-accepted, open-declined     by the head, and by Read's judgement
 --     open-ways                  its ways
 --     open-course, open-began    the course is that of the front; where there is a record, what holds besides
 -- Assumes nothing.
-use Prim.Native.Nat.{ℕ, _-_, _≤_}
+use Prim.Native.Nat.{ℕ, _-_}
 use native.Mathlib.Omega.{arith}
 use mathlib.Core.Path.{_≡_, refl, ap, sym, subst, _∙_}
-use mathlib.Core.Bool.{Bool, true, false, _&&_}
+use mathlib.Core.Bool.{Bool, true, false}
 use mathlib.Core.List.{List, _++_}
 use lib.ListN.{length, take, drop, length-append}
 use lib.Seq.{take-append-seam}
@@ -26,7 +26,7 @@ use Rattle.line_spec.specs.Pieces.{Course, fed, fedBy, frontBy, frontHea
 use Rattle.line_spec.specs.Line.Laws.{head-events}
 use Rattle.line_spec.specs.Opening.{lentFit, lent, started, refuses, OpenOutcome, openRefused, startAnswer}
 use Rattle.line_spec.specs.Opening.{startedOn}
-use Rattle.line_spec.specs.Opening.{openHead, openOf, courseBy, openCourse, OpenWay, lengthsWrong, headWrong}
+use Rattle.line_spec.specs.Opening.{openHead, openInputOf, courseBy, openCourse, OpenWay, lengthsWrong, headWrong}
 use Rattle.line_spec.specs.Opening.{tableDeclined, tableAccepted, Began}
 use Rattle.line_spec.specs.Opening.Laws.{fed-fresh, fresh-work, zeros-length, table-accepted, table-declined}
 
@@ -51,49 +51,50 @@ unfolding lentFit
 lent-in l a b w h = rw (eq-eqb _ _ (h .list), eq-eqb _ _ (h .area0), eq-eqb _ _ (h .area1), eq-eqb _ _ (h .work)) refl
 
 module _ (s l a b w : List ℕ) where
-  open-fit : lent l a b w ≡ true → openOf s l a b w ≡ openHead (length s) (headOf s) l a b w
-  unfolding openOf
-  open-fit e = rw (e, openOf)
+  open-fit : lent l a b w ≡ true → openInputOf s l a b w ≡ openHead (length s) (headOf s) l a b w
+  unfolding openInputOf
+  open-fit e = rw (e, openInputOf)
 
-  pub open-unfit : lent l a b w ≡ false → openOf s l a b w ≡ openRefused 1 0 l a b w
-  unfolding openOf
-  open-unfit e = rw (e, openOf)
+  pub open-unfit : lent l a b w ≡ false → openInputOf s l a b w ≡ openRefused 1 0 l a b w
+  unfolding openInputOf
+  open-unfit e = rw (e, openInputOf)
 
 -- ---- the ways
 
 module _ (s l a b w : List ℕ) where
-  headed : lent l a b w ≡ true → (h : Head) → headOf s ≡ h → openOf s l a b w ≡ openHead (length s) h l a b w
+  headed : lent l a b w ≡ true → (h : Head) → headOf s ≡ h → openInputOf s l a b w ≡ openHead (length s) h l a b w
   headed e h k = open-fit s l a b w e ∙ ap (λ (x : Head). openHead (length s) x l a b w) k
 
-  pub open-wrong : lent l a b w ≡ true → (n p : ℕ) → headOf s ≡ wrong n p → openOf s l a b w ≡ openRefused n p l a b w
+  pub open-wrong : lent l a b w ≡ true → (n p : ℕ) → headOf s ≡ wrong n p
+      → openInputOf s l a b w ≡ openRefused n p l a b w
   unfolding openHead
   open-wrong e n p h = headed e (wrong n p) h
 
   module _ (e : lent l a b w ≡ true) (bs es : List ℕ) (h : headOf s ≡ parts bs es) where
-    pub open-accepted : (ns : List ℕ) (t : Table) → judgeBytes bs ≡ accepted ns t → openOf s l a b w
+    pub open-accepted : (ns : List ℕ) (t : Table) → judgeBytes bs ≡ accepted ns t → openInputOf s l a b w
         ≡ startedOn (length ns) (length s - length es) (ns ++ zeros (16384 - length ns)) (freshOn ns a b (zeros 8192))
     unfolding openHead
     open-accepted ns t j =
         let d = lent-out l a b w e in
         headed e (parts bs es) h ∙ table-accepted bs (length s - length es) l a b w (d .list) (d .work) ns t j
 
-    pub open-declined : (n p : ℕ) → judgeBytes bs ≡ declined n p → openOf s l a b w
+    pub open-declined : (n p : ℕ) → judgeBytes bs ≡ declined n p → openInputOf s l a b w
         ≡ openRefused n p (zeros 16384) a b (zeros 8192)
     unfolding openHead
     open-declined n p j =
         let d = lent-out l a b w e in
         headed e (parts bs es) h ∙ table-declined bs (length s - length es) l a b w (d .list) (d .work) n p j
 
-    judged : (j : Judgement) → judgeBytes bs ≡ j → OpenWay s l a b w (openOf s l a b w)
+    judged : (j : Judgement) → judgeBytes bs ≡ j → OpenWay s l a b w (openInputOf s l a b w)
     unfolding openRefused startedOn
     judged (accepted ns t) j = subst (OpenWay s l a b w) (sym (open-accepted ns t j)) (tableAccepted bs es ns t e h j)
     judged (declined n p) j = subst (OpenWay s l a b w) (sym (open-declined n p j)) (tableDeclined bs es n p e h j)
 
-  pub open-ways : OpenWay s l a b w (openOf s l a b w)
+  pub open-ways : OpenWay s l a b w (openInputOf s l a b w)
   unfolding openRefused
   open-ways = by (lent l a b w) refl (headOf s) refl
     where
-      by : (x : Bool) → lent l a b w ≡ x → (h : Head) → headOf s ≡ h → OpenWay s l a b w (openOf s l a b w)
+      by : (x : Bool) → lent l a b w ≡ x → (h : Head) → headOf s ≡ h → OpenWay s l a b w (openInputOf s l a b w)
       by false e h k = subst (OpenWay s l a b w) (sym (open-unfit s l a b w e)) (lengthsWrong e)
       by true e (wrong n p) h = subst (OpenWay s l a b w) (sym (open-wrong e n p h)) (headWrong n p e h)
       by true e (parts bs es) h = judged e bs es h (judgeBytes bs) refl
@@ -137,8 +138,8 @@ module _ (s l a b w : List ℕ) (fit : lent l a b w ≡ true) where
       accepted-course (length s - length es) ns
       ∙ sym (ap (λ (x : Head). frontHead x .course) h ∙ ap (λ (x : Judgement). frontBy es x .course) j)
 
-  pub open-course : openCourse (openOf s l a b w) ≡ frontOf s .course
-  open-course = by-way (openOf s l a b w) (open-ways s l a b w)
+  pub open-course : openCourse (openInputOf s l a b w) ≡ frontOf s .course
+  open-course = by-way (openInputOf s l a b w) (open-ways s l a b w)
 
 -- ---- where there is a record
 
@@ -174,5 +175,6 @@ module _ (s l a b w : List ℕ) (st : State) (count next : ℕ) where
         work = fresh-work ns a b (zeros 8192) (d .area0) (d .area1) (zeros-length 8192);
       }
 
-  pub open-began : openOf s l a b w .answer ≡ started st count next → Began s l a b w (openOf s l a b w) count next
-  open-began = begins (openOf s l a b w) (open-ways s l a b w)
+  pub open-began : openInputOf s l a b w .answer ≡ started st count next
+      → Began s l a b w (openInputOf s l a b w) count next
+  open-began = begins (openInputOf s l a b w) (open-ways s l a b w)

@@ -3,7 +3,7 @@
 --     fresh-work                         it clears the work area
 --     table-accepted, table-declined     a table's bytes read and started, by the judgement on them
 -- Assumes nothing.
-use Prim.Native.Nat.{ℕ, _-_, _/_}
+use Prim.Native.Nat.{ℕ, _-_}
 use native.Mathlib.Omega.{arith}
 use mathlib.Core.Path.{_≡_, refl, ap, ap₂, sym, _∙_}
 use mathlib.Core.Bool.{Bool, true, false, _&&_}

@@ -12,13 +12,11 @@ use mathlib.Core.Option.{Option, none, some}
 use mathlib.Core.Logic.{_⊎_, inl, inr}
 use lib.ListN.{length, length-append}
 use Rattle.table.specs.Table.{Table}
-use Rattle.table.specs.Rules.{Rules}
 use Rattle.table.specs.Judge.{Judgement, accepted, declined, judgeBytes, judgeList}
 use Rattle.table.specs.Judge.Laws.{list-out}
 use Rattle.table.specs.Operations.{zeros}
-use Rattle.monitor_spec.specs.Regular.{Regular}
 use Rattle.monitor_spec.specs.Regular.Laws.{regular}
-use Rattle.monitor_spec.specs.Fold.{Step, Ended, through, took}
+use Rattle.monitor_spec.specs.Fold.{StepEnd, Ended, through, took}
 use Rattle.monitor_spec.specs.Fold.Laws.{some-stopped}
 use Rattle.monitor_spec.specs.State.{State, Monitor, Answer, given, stopped, Outcome, slotCount, laid}
 use Rattle.monitor_spec.specs.State.{areasMeasured, workMeasured}
@@ -32,8 +30,8 @@ use Rattle.monitor_spec.specs.Expected.Steps.{Fed}
 use Rattle.monitor_spec.specs.Entering.{refusing}
 use Rattle.monitor_spec.specs.History.{recordIn, Opened}
 use Rattle.monitor_spec.specs.History.Laws.{extends}
-use Rattle.monitor_spec.specs.History.Begun.{Began, opened-began, empty-joins}
-use Rattle.line_spec.specs.Line.{Head, parts, wrong, headOf, Line, refused, stateLine, answerLine}
+use Rattle.monitor_spec.specs.History.Begun.{opened-began, empty-joins}
+use Rattle.line_spec.specs.Line.{Head, parts, wrong, headOf, Line, refused, answerLine}
 use Rattle.line_spec.specs.Line.{freshOn, fresh, monitorLeft}
 use Rattle.line_spec.specs.Line.{startedBy, startedLine, readLine, headLine, lineOf}
 use Rattle.line_spec.specs.Line.Laws.{slots-256}
@@ -41,21 +39,21 @@ use Rattle.line_spec.specs.Line.Heads.{widenHead, head-more, long-fixed}
 use Rattle.line_spec.specs.Pieces.{Course, going, over, fed, fedBy, pieceOf, frontBy, frontHead, frontOf}
 use Rattle.line_spec.specs.Pieces.{feedFront}
 use Rattle.line_spec.specs.Pieces.{concludeOf, throughPieces, piecesOf}
-use Rattle.line_spec.specs.Pieces.Laws.{Good, courseBy, course, good-feed, piece-course, piece-more}
+use Rattle.line_spec.specs.Pieces.Laws.{Good, courseAt, course, good-feed, piece-course, piece-more}
 
 -- a monitor that Open gave with an empty list is good, or a line stands
-pub data Sound : Course → Type 0 where
-  runs-on : (l : List ℕ) (m : Monitor) → Good l m → m .state .taken ≡ 0 → Sound (going l m)
-  stands : (x : Line) → Sound (over x)
+pub data SoundCourse : Course → Type 0 where
+  runs-on : (l : List ℕ) (m : Monitor) → Good l m → m .state .taken ≡ 0 → SoundCourse (going l m)
+  stands : (x : Line) → SoundCourse (over x)
 
 -- ---- pieces, joined
 
-piece-join : (c : Course) → Sound c → (es fs : List ℕ) → pieceOf (pieceOf c es) fs ≡ pieceOf c (es ++ fs)
+piece-join : (c : Course) → SoundCourse c → (es fs : List ℕ) → pieceOf (pieceOf c es) fs ≡ pieceOf c (es ++ fs)
 unfolding pieceOf
 piece-join (going l m) (runs-on _ _ g z) es fs = piece-more l m g es fs
 piece-join (over x) s es fs = refl
 
-through-join : (c : Course) → Sound c → (ess : List (List ℕ)) (es : List ℕ)
+through-join : (c : Course) → SoundCourse c → (ess : List (List ℕ)) (es : List ℕ)
     → throughPieces (pieceOf c es) ess ≡ pieceOf c (es ++ flatten ess)
 unfolding throughPieces flatten
 through-join c s [] es = ap (pieceOf c) (sym (append-nil es))
@@ -72,7 +70,7 @@ stopped-taken : (l : List ℕ) (m : Monitor) (g : Good l m) → m .state .taken 
 unfolding monitorAfter laid
 stopped-taken l m g z es n h =
     let t : Table = g .table in
-    let S : Monitor → ℕ → Step Monitor = takeEvent t in
+    let S : Monitor → ℕ → StepEnd Monitor = takeEvent t in
     let x = extends t (g .regular) 256 es (g .events) (g .fed) in
     let i = some-stopped S es m 0 n h in
     let a : (through S m 0 es) .at .state .taken ≡ length (extend t 256 (g .events) es) =
@@ -87,10 +85,10 @@ stopped-taken l m g z es n h =
 
 first-line : (l : List ℕ) (m : Monitor) → Good l m → m .state .taken ≡ 0 → (es : List ℕ)
     → concludeOf (pieceOf (going l m) es) ≡ answerLine (feedOf l m es (zeros 8192) .answer)
-unfolding concludeOf course courseBy answerLine endingOf
+unfolding concludeOf course courseAt answerLine endingOf
 first-line l m g z es = by ((through S m 0 es) .why) refl
   where
-    S : Monitor → ℕ → Step Monitor
+    S : Monitor → ℕ → StepEnd Monitor
     S = takeEvent (g .table)
 
     by : (o : Option ℕ) → (through S m 0 es) .why ≡ o
@@ -156,7 +154,7 @@ good-fresh l s e = by (judgeList l) refl
 
 -- what Open leaves, and the line of its first piece
 pub record Opens (l : List ℕ) : Type 0 where
-  pub sound : Sound (fed l (fresh l))
+  pub sound : SoundCourse (fed l (fresh l))
   pub line : (es : List ℕ) → concludeOf (pieceOf (fed l (fresh l)) es) ≡ startedLine l es
 
 opens : (l : List ℕ) → Opens l
@@ -169,14 +167,14 @@ opens l = by (fresh l .answer) refl
         let (g, z) = good-fresh l s e in
         let c : fed l (fresh l) ≡ going l m = ap (fedBy l (fresh l)) e in
         record {
-          sound = subst Sound (sym c) (runs-on l m g z);
+          sound = subst SoundCourse (sym c) (runs-on l m g z);
           line = λ es. ap (λ (x : Course). concludeOf (pieceOf x es)) c ∙ first-line l m g z es
               ∙ sym (ap (startedBy l es (fresh l)) e);
         }
     by (state.refused n p) e =
         let c : fed l (fresh l) ≡ over (refused n p) = ap (fedBy l (fresh l)) e in
         record {
-          sound = subst Sound (sym c) (stands (refused n p));
+          sound = subst SoundCourse (sym c) (stands (refused n p));
           line = λ es. ap (λ (x : Course). concludeOf (pieceOf x es)) c ∙ sym (ap (startedBy l es (fresh l)) e);
         }
     by (stopped n p s) e = absurd (empty-never l (zeros 4096) (zeros 4096) (zeros 8192) n p s e)

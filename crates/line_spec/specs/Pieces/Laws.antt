@@ -3,7 +3,7 @@
 --     course, piece-course  what a fold of events leaves of a running monitor
 --     piece-more           two pieces are one
 -- Assumes nothing.
-use Prim.Native.Nat.{ℕ, suc, _+_, _≤_}
+use Prim.Native.Nat.{ℕ, suc, _+_}
 use native.Mathlib.Omega.{arith}
 use mathlib.Core.Path.{_≡_, refl, ap, sym, subst, _∙_}
 use mathlib.Core.Bool.{true}
@@ -15,9 +15,9 @@ use Rattle.table.specs.Table.{Table}
 use Rattle.table.specs.Judge.{accepted, judgeList}
 use Rattle.table.specs.Operations.{zeros}
 use Rattle.monitor_spec.specs.Regular.{Regular}
-use Rattle.monitor_spec.specs.Fold.{Step, went, stops, Ended, through, took}
+use Rattle.monitor_spec.specs.Fold.{StepEnd, went, stops, Ended, through}
 use Rattle.monitor_spec.specs.Fold.Laws.{through-went, through-stops, took-then, none-took, through-at}
-use Rattle.monitor_spec.specs.State.{State, Monitor, Answer, given, stopped, Outcome, workMeasured}
+use Rattle.monitor_spec.specs.State.{Monitor, workMeasured}
 use Rattle.monitor_spec.specs.Feed.{takeEvent, endingOf, feedOf}
 use Rattle.monitor_spec.specs.Joined.{extend}
 use Rattle.monitor_spec.specs.Expected.{monitorAfter}
@@ -25,17 +25,16 @@ use Rattle.monitor_spec.specs.Expected.Steps.{Fed}
 use Rattle.monitor_spec.specs.History.Laws.{extends, feed-goes}
 use Rattle.line_spec.specs.Line.{refused, monitorLeft}
 use Rattle.line_spec.specs.Pieces.{Course, going, over, fed, fedBy, pieceOf}
-use Rattle.line_spec.specs.Pieces as pieces
 
 -- ---- folds
 
-module _ {C E : Type 0} (step : C → E → Step C) where
+module _ {C E : Type 0} (step : C → E → StepEnd C) where
   pub fold-why : (c : C) (k j : ℕ) (es : List E) → (through step c k es) .why ≡ (through step c j es) .why
   unfolding through
   fold-why c k j [] = refl
   fold-why c k j (e ∷ es) = by (step c e) refl (λ d. fold-why d (suc k) (suc j) es)
     where
-      by : (x : Step C) → step c e ≡ x
+      by : (x : StepEnd C) → step c e ≡ x
           → ((d : C) → (through step d (suc k) es) .why ≡ (through step d (suc j) es) .why)
           → (through step c k (e ∷ es)) .why ≡ (through step c j (e ∷ es)) .why
       by (went d) h ih = ap (λ (x : Ended C). x .why) (through-went step c d k e es h) ∙ ih d
@@ -49,7 +48,7 @@ module _ {C E : Type 0} (step : C → E → Step C) where
   fold-stopped c k n [] fs h = absurd (let z : _≡_ {A = ℕ} 0 1 = cc in omega arith)
   fold-stopped c k n (e ∷ es) fs h = by (step c e) refl (λ d. fold-stopped d (suc k) n es fs)
     where
-      by : (x : Step C) → step c e ≡ x
+      by : (x : StepEnd C) → step c e ≡ x
           → ((d : C) → (through step d (suc k) es) .why ≡ some n
           → through step d (suc k) (es ++ fs) ≡ through step d (suc k) es)
           → through step c k (e ∷ (es ++ fs)) ≡ through step c k (e ∷ es)
@@ -62,15 +61,15 @@ module _ {C E : Type 0} (step : C → E → Step C) where
 -- ---- a running monitor
 
 -- what a fold leaves
-unfoldable pub courseBy : List ℕ → Monitor → Option ℕ → Course
-courseBy l m none = going l m
-courseBy l m (some n) = over (refused n (m .state .taken))
+unfoldable pub courseAt : List ℕ → Monitor → Option ℕ → Course
+courseAt l m none = going l m
+courseAt l m (some n) = over (refused n (m .state .taken))
 
 unfoldable pub course : List ℕ → Ended Monitor → Course
-course l x = courseBy l (x .at) (x .why)
+course l x = courseAt l (x .at) (x .why)
 
 fed-ending : (l : List ℕ) (k : ℕ) (x : Ended Monitor) → fed l (endingOf k x) ≡ course l x
-unfolding fed fedBy course courseBy endingOf monitorLeft
+unfolding fed fedBy course courseAt endingOf monitorLeft
 fed-ending l k x = by (x .why) refl
   where
     by : (o : Option ℕ) → x .why ≡ o → fed l (endingOf k x) ≡ course l x
@@ -79,7 +78,7 @@ fed-ending l k x = by (x .why) refl
 
 course-same : (l : List ℕ) (x y : Ended Monitor) → x .at ≡ y .at → x .why ≡ y .why → course l x ≡ course l y
 unfolding course
-course-same l x y a w i = courseBy l (a i) (w i)
+course-same l x y a w i = courseAt l (a i) (w i)
 
 -- m is the monitor that a list calls for, on an accepted table
 pub record Good (l : List ℕ) (m : Monitor) : Type 0 where
@@ -91,9 +90,9 @@ pub record Good (l : List ℕ) (m : Monitor) : Type 0 where
   pub fed : Fed table 256 events
   pub same : m ≡ monitorAfter table 256 events
 
-pub measured : workMeasured (zeros 8192) ≡ true
+pub zeros-measured : workMeasured (zeros 8192) ≡ true
 unfolding workMeasured
-measured = eq-eqb (length (zeros 8192)) 8192 (length-replicate {A = ℕ} 8192 0)
+zeros-measured = eq-eqb (length (zeros 8192)) 8192 (length-replicate {A = ℕ} 8192 0)
 
 pub good-feed : (l : List ℕ) (m : Monitor) (g : Good l m) (es : List ℕ)
     → feedOf l m es (zeros 8192) ≡ endingOf (length (zeros 8192)) (through (takeEvent (g .table)) m 0 es)
@@ -101,7 +100,7 @@ good-feed l m g es =
     let t : Table = g .table in
     ap (λ (x : Monitor). feedOf l x es (zeros 8192)) (g .same)
     ∙ feed-goes t (g .regular) 256 l (g .numbers) (g .says) (omega arith) (omega arith) (g .events) es (zeros 8192)
-    (g .fed) measured
+    (g .fed) zeros-measured
     ∙ ap (λ (x : Monitor). endingOf (length (zeros 8192)) (through (takeEvent t) x 0 es)) (sym (g .same))
 
 pub piece-course : (l : List ℕ) (m : Monitor) (g : Good l m) (es : List ℕ)
@@ -129,10 +128,10 @@ good-after l m g es =
 -- two pieces are one
 pub piece-more : (l : List ℕ) (m : Monitor) → Good l m → (es fs : List ℕ)
     → pieceOf (pieceOf (going l m) es) fs ≡ pieceOf (going l m) (es ++ fs)
-unfolding pieceOf course courseBy good-after
+unfolding pieceOf course courseAt good-after
 piece-more l m g es fs = by ((through (takeEvent (g .table)) m 0 es) .why) refl
   where
-    S : Monitor → ℕ → Step Monitor
+    S : Monitor → ℕ → StepEnd Monitor
     S = takeEvent (g .table)
 
     by : (o : Option ℕ) → (through S m 0 es) .why ≡ o

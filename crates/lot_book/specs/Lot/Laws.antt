@@ -13,7 +13,7 @@ use Rattle.lot_book.specs.declared.entry.Lot.{Lot}
 use Rattle.lot_book.specs.declared.entry.Entry.the-variants.{Record, Unread}
 use Rattle.lot_book.specs.Number.{numberAt}
 use Rattle.lot_book.specs.Number.Laws.{number-stands, number-unread}
-use Rattle.lot_book.specs.Lot.{LotScan, lot, unread, andThen, readLot, found, entryAt}
+use Rattle.lot_book.specs.Lot.{LotScan, lot, unread, andThen, readLot, foundLot, entryAt}
 use Rattle.lot_book.specs.Lot.Scans.{lot-extent, none-then}
 
 -- ---- the ways out of `lot_at`
@@ -22,17 +22,17 @@ record-path r p q e = cc
 
 module _ (s : List ℕ) (at : ℕ) where
   pub no-number : number.Unread ≡ numberAt s at → Unread ≡ entryAt s at
-  unfolding entryAt readLot found
+  unfolding entryAt readLot foundLot
   no-number e = rw (none-then _ _ (number-unread s at e)) refl
 
   module _ (v p : ℕ) (e : number.Value v p ≡ numberAt s at) where
     pub no-taken : number.Unread ≡ numberAt s p → Unread ≡ entryAt s at
-    unfolding entryAt readLot andThen found
+    unfolding entryAt readLot andThen foundLot
     no-taken f = rw (number-stands s at v p e .scan, none-then _ _ (number-unread s p f)) refl
 
     module _ (w q : ℕ) (f : number.Value w q ≡ numberAt s p) where
       pub no-mark : number.Unread ≡ numberAt s q → Unread ≡ entryAt s at
-      unfolding entryAt readLot andThen found
+      unfolding entryAt readLot andThen foundLot
       no-mark g =
           rw (
             number-stands s at v p e .scan,
@@ -43,7 +43,7 @@ module _ (s : List ℕ) (at : ℕ) where
 
       module _ (m r : ℕ) (g : number.Value m r ≡ numberAt s q) where
         pub no-place : number.Unread ≡ numberAt s r → Unread ≡ entryAt s at
-        unfolding entryAt readLot andThen found
+        unfolding entryAt readLot andThen foundLot
         no-place h =
             rw (
               number-stands s at v p e .scan,
@@ -55,7 +55,7 @@ module _ (s : List ℕ) (at : ℕ) where
 
         pub whole : (c t : ℕ) → number.Value c t ≡ numberAt s r
             → Record (record { number = v; taken = w; mark = m; place = c }) t ≡ entryAt s at
-        unfolding entryAt readLot andThen found
+        unfolding entryAt readLot andThen foundLot
         whole c t h =
             let a = number-stands s at v p e in
             let b = number-stands s p w q f in
@@ -74,8 +74,8 @@ pub record LotStands (s : List ℕ) (at : ℕ) (r : Lot) (q : ℕ) : Type 0 wher
   pub within : q ≤ length s
 
 lot-stands-of : (s : List ℕ) (at : ℕ) (r : Lot) (q : ℕ) (x : LotScan) → x ≡ readLot (drop at s)
-    → Record r q ≡ found at x → LotStands s at r q
-unfolding found
+    → Record r q ≡ foundLot at x → LotStands s at r q
+unfolding foundLot
 lot-stands-of s at r q (lot w n rest) h e =
     let k : q ≡ at + n = cc in
     let same : w ≡ r = cc in
@@ -95,8 +95,8 @@ pub lot-stands : (s : List ℕ) (at : ℕ) (r : Lot) (q : ℕ) → Record r q �
 unfolding entryAt
 lot-stands s at r q e = lot-stands-of s at r q (readLot (drop at s)) refl e
 
-lot-unread-of : (at : ℕ) (x : LotScan) → Unread ≡ found at x → x ≡ unread
-unfolding found
+lot-unread-of : (at : ℕ) (x : LotScan) → Unread ≡ foundLot at x → x ≡ unread
+unfolding foundLot
 lot-unread-of at (lot w n rest) e = let z : _≡_ {A = ℕ} 0 1 = cc in absurd (omega arith)
 lot-unread-of at unread e = refl
 

@@ -6,7 +6,7 @@
 -- Assumes nothing.
 use Prim.Native.Nat.{ℕ, zero, suc, _<_, _≤_}
 use native.Mathlib.Omega.{arith}
-use mathlib.Core.List.{List, [], _∷_, map}
+use mathlib.Core.List.{List, [], map}
 use mathlib.Core.Logic.{inl}
 use Rattle.numbers.specs.Every.{All, all-imp, all-append}
 use Rattle.numbers.specs.Some.{Any, any-imp, any-append-left, any-append-right, any-map, any-flat, all-map}

@@ -27,7 +27,7 @@ use Rattle.monitor_spec.specs.Valid.{held}
 use Rattle.monitor_spec.specs.Valid.Residuals.{slot-sixteen, slots-all, slots-after}
 use Rattle.monitor_spec.specs.State.{State as Record, stateAfter, holding, Monitor, even, chunks, fill, laid}
 use Rattle.monitor_spec.specs.State.Areas.{choose-twice, chunks-fill}
-use Rattle.monitor_spec.specs.Fold.{Step, went, stops, through}
+use Rattle.monitor_spec.specs.Fold.{StepEnd, went, stops, through}
 use Rattle.monitor_spec.specs.Fold.Laws.{through-went}
 use Rattle.monitor_spec.specs.Feed.{counterMost, presentSlots, takeEvent}
 use Rattle.monitor_spec.specs.Feed.Laws.{event-unknown, take-refused}
@@ -64,7 +64,7 @@ module _ {t : Table} {cap : ℕ} {es : List ℕ} {m : Monitor} {i : ℕ} where
 pub went-known : (t : Table) (m m' : Monitor) (e : ℕ) → takeEvent t m e ≡ went m' → e < t .alphabet
 went-known t m m' e h = by (decLt e (t .alphabet))
   where
-    apart : {X : Type 0} {k : ℕ} → _≡_ {A = Step Monitor} (stops k) (went m') → X
+    apart : {X : Type 0} {k : ℕ} → _≡_ {A = StepEnd Monitor} (stops k) (went m') → X
     apart q = absurd (let z : _≡_ {A = ℕ} 0 1 = cc in omega arith)
 
     by : Dec (e < t .alphabet) → e < t .alphabet

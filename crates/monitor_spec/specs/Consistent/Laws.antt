@@ -13,7 +13,7 @@ use Rattle.residuals.specs.Residual.{Residual, afterAll}
 use Rattle.slots.specs.Canon.{same}
 use Rattle.residuals.specs.Slots.{slotsOf}
 use Rattle.monitor_spec.specs.Proper.Laws.{afterAll-proper}
-use Rattle.monitor_spec.specs.Fold.{Step, went, stops, Ended, through}
+use Rattle.monitor_spec.specs.Fold.{StepEnd, went, stops, Ended, through}
 use Rattle.monitor_spec.specs.Fold.Laws.{through-went, through-stops}
 use Rattle.monitor_spec.specs.State.{Verdict, running, failedAt, State, nextVerdict, stateAfter, Monitor}
 use Rattle.monitor_spec.specs.State.{counted, holding}
@@ -88,7 +88,7 @@ module _ (t : Table) (regular : Regular t) where
   through-laid n [] m k l = l
   through-laid n (e ∷ es) m k l = by (takeEvent t m e) refl (λ d. through-laid n es d (suc k))
     where
-      by : (x : Step Monitor) → takeEvent t m e ≡ x
+      by : (x : StepEnd Monitor) → takeEvent t m e ≡ x
           → ((d : Monitor) → Laid t n d → Laid t n ((through (takeEvent t) d (suc k) es) .at))
           → Laid t n ((through (takeEvent t) m k (e ∷ es)) .at)
       by (went d) h ih = subst (Laid t n)

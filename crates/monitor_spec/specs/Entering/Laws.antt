@@ -62,12 +62,12 @@ module _ (fits : Bool) (l w : List ℕ) where
 
   -- ---- one of the three
 
-  pub data Way : Type 0 where
+  data Way : Type 0 where
     unmeasured : fits ≡ false → Way
     refuses : (n p : ℕ) → fits ≡ true → judgeList l ≡ declined n p → Way
     enters : (ns : List ℕ) (t : Table) → fits ≡ true → judgeList l ≡ accepted ns t → Way
 
-  pub way : Way
+  way : Way
   way = by fits refl (judgeList l) refl
     where
       by : (b : Bool) → fits ≡ b → (j : Judgement) → judgeList l ≡ j → Way

@@ -15,9 +15,9 @@ use Rattle.monitor_spec.specs.State.{Verdict, running, failedAt, State, 
 use Rattle.monitor_spec.specs.State.{counted, holding}
 use Rattle.monitor_spec.specs.State.Records.{state-path, next-failed}
 use Rattle.monitor_spec.specs.Sensible.{Agrees}
-use Rattle.monitor_spec.specs.Expected.{ifNone, verdictFrom, verdictOf, verdictOnward, peakOnward, recordOnward}
-use Rattle.monitor_spec.specs.Expected.{recordOf}
-use Rattle.monitor_spec.specs.Expected.Verdicts.{verdict-by, verdictOf-snoc}
+use Rattle.monitor_spec.specs.Expected.{ifNone, verdictFrom, verdictAfter, verdictOnward, peakOnward}
+use Rattle.monitor_spec.specs.Expected.{recordOnward, recordOf}
+use Rattle.monitor_spec.specs.Expected.Verdicts.{verdict-by, verdictAfter-snoc}
 use Rattle.monitor_spec.specs.Expected.Peaks.{max-least, peak-snoc, peak-last}
 
 pub length-snoc : (s : List ℕ) (e : ℕ) → length (s ++ e ∷ []) ≡ suc (length s)
@@ -81,12 +81,12 @@ module _ (t : Table) where
   unfolding recordOf recordOnward freshState holding
   record-peak s = ap (λ (p : ℕ). peakOnward t p (residualsOf t []) s) (omega arith)
 
-  pub record-verdict : (s : List ℕ) → recordOf t s .verdict ≡ verdictOf t s
-  unfolding recordOf recordOnward freshState holding verdictOf residualsOf fromDefinition run
+  pub record-verdict : (s : List ℕ) → recordOf t s .verdict ≡ verdictAfter t s
+  unfolding recordOf recordOnward freshState holding verdictAfter residualsOf fromDefinition run
   record-verdict s = sym (from-next t (residualsOf t []) 0 s)
 
   pub record-first : recordOf t [] ≡ freshState (length (slotsOf (residualsOf t [])))
-  unfolding recordOf recordOnward peakOnward freshState holding verdictOf verdictFrom residualsOf fromDefinition run
+  unfolding recordOf recordOnward peakOnward freshState holding verdictAfter verdictFrom residualsOf fromDefinition run
   record-first =
       state-path (recordOf t []) (freshState (length (slotsOf (residualsOf t [])))) (record-taken []) (record-count [])
       refl (record-verdict [] ∙ sym (verdict-by (residualsOf t []) 0))
@@ -109,7 +109,7 @@ module _ (t : Table) where
       (record-count u)
       (record-peak u ∙ peak-snoc t s e p₀ (residualsOf t [])
       ∙ ap (λ (p : ℕ). max p n) (sym (record-peak s)))
-      (record-verdict u ∙ verdictOf-snoc t s e
+      (record-verdict u ∙ verdictAfter-snoc t s e
       ∙ ap₂ (λ (v : Verdict) (k : ℕ). nextVerdict v (suc k) n) (sym (record-verdict s)) (sym (record-taken s)))
 
   pub peak-next : (s : List ℕ) (e n : ℕ) → recordOf t s .peak ≤ n → length (slotsOf (residualsOf t (s ++ e ∷ []))) ≤ n

@@ -17,12 +17,12 @@ use Rattle.meaning.specs.Figure1.{bodyCount}
 use Rattle.residuals.specs.Residual.{Residual, resolveDef, afterAll, fromDefinition, residualsOf}
 use Rattle.residuals.specs.Slots.{slotsOf}
 use Rattle.monitor_spec.specs.Proper.Laws.{residualsOf-proper}
-use Rattle.monitor_spec.specs.Fold.{Step, went, stops}
+use Rattle.monitor_spec.specs.Fold.{StepEnd, went, stops}
 use Rattle.monitor_spec.specs.State.{Verdict, running, failedAt, State, stateAfter, Monitor, slotCount, laid}
 use Rattle.monitor_spec.specs.Feed.{nextSlots, taking, eventRefused, takeEvent}
 use Rattle.monitor_spec.specs.Joined.{residualCount, halts}
-use Rattle.monitor_spec.specs.Expected.{verdictOf, recordOf, monitorAfter}
-use Rattle.monitor_spec.specs.Expected.Verdicts.{residuals-snoc, Says, verdictOf-says}
+use Rattle.monitor_spec.specs.Expected.{verdictAfter, recordOf, monitorAfter}
+use Rattle.monitor_spec.specs.Expected.Verdicts.{residuals-snoc, Says, verdictAfter-says}
 use Rattle.monitor_spec.specs.Expected.Records.{length-snoc, record-taken, record-count, record-verdict}
 use Rattle.monitor_spec.specs.Expected.Records.{record-low, record-next, peak-next}
 use Rattle.monitor_spec.specs.Sensible.{Agrees, Sensible}
@@ -35,7 +35,7 @@ pub record Fed (t : Table) (n : ℕ) (s : List ℕ) : Type 0 where
   pub peak : recordOf t s .peak ≤ n
 
 -- the three tests of an event
-unfoldable pub sift : Bool → Bool → Bool → Monitor → Step Monitor
+unfoldable pub sift : Bool → Bool → Bool → Monitor → StepEnd Monitor
 sift a b c m = elim a [
   | true ↦ stops 11
   | false ↦
@@ -75,7 +75,7 @@ tests-sift : (a b c : Bool) (m : Monitor)
         | true ↦ some 12
         | false ↦ elim c as (λ x. Option ℕ) [ true ↦ some 13 | false ↦ none ]
       ]
-    ]) as (λ x. Step Monitor) [ some k ↦ stops k | none ↦ went m ] ≡ sift a b c m
+    ]) as (λ x. StepEnd Monitor) [ some k ↦ stops k | none ↦ went m ] ≡ sift a b c m
 unfolding sift
 tests-sift true b c m = refl
 tests-sift false true c m = refl
@@ -125,7 +125,7 @@ fed-sensible t regular n s fed =
       proper = residualsOf-proper t regular s (fed .known);
       room = fed .room;
       counted = record-count t s;
-      agrees = rw (record-taken t s, record-verdict t s) (says-agrees t s (verdictOf t s) (verdictOf-says t s));
+      agrees = rw (record-taken t s, record-verdict t s) (says-agrees t s (verdictAfter t s) (verdictAfter-says t s));
       peak-low = record-low t s;
       peak-high = fed .peak;
     }

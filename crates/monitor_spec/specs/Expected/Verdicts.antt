@@ -14,7 +14,7 @@ use Rattle.residuals.specs.Slots.{slotOf}
 use Rattle.residuals.specs.Slots.{slotsOf}
 use Rattle.monitor_spec.specs.State.{Verdict, running, failedAt, nextVerdict}
 use Rattle.monitor_spec.specs.State.Records.{next-some, next-none, next-failed}
-use Rattle.monitor_spec.specs.Expected.{ifNone, verdictFrom, verdictOf}
+use Rattle.monitor_spec.specs.Expected.{ifNone, verdictFrom, verdictAfter}
 
 -- ---- an empty list and its slots
 
@@ -96,11 +96,11 @@ module _ (t : Table) where
       ∙ ap (λ (i : ℕ). nextVerdict (verdictFrom t (afterAll t d (r ∷ rs)) (suc k) s) i
       (length (slotsOf (run t (afterAll t d (r ∷ rs)) (s ++ e ∷ []))))) n
 
-  pub verdictOf-snoc : (s : List ℕ) (e : ℕ)
-      → verdictOf t (s ++ e ∷ []) ≡ nextVerdict (verdictOf t s) (suc (length s))
+  pub verdictAfter-snoc : (s : List ℕ) (e : ℕ)
+      → verdictAfter t (s ++ e ∷ []) ≡ nextVerdict (verdictAfter t s) (suc (length s))
       (length (slotsOf (residualsOf t (s ++ e ∷ []))))
-  unfolding verdictOf residualsOf fromDefinition
-  verdictOf-snoc s e =
+  unfolding verdictAfter residualsOf fromDefinition
+  verdictAfter-snoc s e =
       let n : suc (0 + length s) ≡ suc (length s) = omega arith in
       let d : List Residual = resolveDef t (bodyCount t) (bodyCount t - 1) in
       verdict-snoc s e d 0
@@ -164,6 +164,6 @@ module _ (t : Table) where
         },
       )
 
-  pub verdictOf-says : (s : List ℕ) → Says (resolveDef t (bodyCount t) (bodyCount t - 1)) s 0 (verdictOf t s)
-  unfolding verdictOf
-  verdictOf-says s = verdict-says s (resolveDef t (bodyCount t) (bodyCount t - 1)) 0
+  pub verdictAfter-says : (s : List ℕ) → Says (resolveDef t (bodyCount t) (bodyCount t - 1)) s 0 (verdictAfter t s)
+  unfolding verdictAfter
+  verdictAfter-says s = verdict-says s (resolveDef t (bodyCount t) (bodyCount t - 1)) 0

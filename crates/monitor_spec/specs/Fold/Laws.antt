@@ -5,9 +5,9 @@ use mathlib.Core.Path.{_≡_, refl, ap, sym, _∙_}
 use mathlib.Core.List.{List, [], _∷_, _++_}
 use mathlib.Core.Option.{none, some}
 use lib.ListN.{length, length-append}
-use Rattle.monitor_spec.specs.Fold.{Step, went, stops, Ended, through, took, restarts, joins}
+use Rattle.monitor_spec.specs.Fold.{StepEnd, went, stops, Ended, through, took, restarts, joins}
 
-module _ {C E : Type 0} (step : C → E → Step C) where
+module _ {C E : Type 0} (step : C → E → StepEnd C) where
   pub through-went : (c d : C) (k : ℕ) (e : E) (es : List E) → step c e ≡ went d
       → through step c k (e ∷ es) ≡ through step d (suc k) es
   unfolding through
@@ -32,7 +32,8 @@ module _ {C E : Type 0} (step : C → E → Step C) where
   through-at c k j [] = refl
   through-at c k j (e ∷ es) = by (step c e) refl (λ d. through-at d (suc k) (suc j) es)
     where
-      by : (x : Step C) → step c e ≡ x → ((d : C) → (through step d (suc k) es) .at ≡ (through step d (suc j) es) .at)
+      by : (x : StepEnd C) → step c e ≡ x
+          → ((d : C) → (through step d (suc k) es) .at ≡ (through step d (suc j) es) .at)
           → (through step c k (e ∷ es)) .at ≡ (through step c j (e ∷ es)) .at
       by (went d) h ih = ap (λ (x : Ended C). x .at) (through-went c d k e es h) ∙ ih d
           ∙ sym (ap (λ (x : Ended C). x .at) (through-went c d j e es h))
@@ -47,7 +48,7 @@ module _ {C E : Type 0} (step : C → E → Step C) where
   took-then c k [] fs = let e : k ≡ k + 0 = omega arith in ap (λ (n : ℕ). through step c n fs) e
   took-then c k (e ∷ es) fs = by (step c e) refl (λ d. took-then d (suc k) es fs)
     where
-      by : (x : Step C) → step c e ≡ x
+      by : (x : StepEnd C) → step c e ≡ x
           → ((d : C) → through step d (suc k) (took step d es ++ fs) ≡ through step ((through step d (suc k) es) .at)
           (suc k + length (took step d es)) fs)
           → through step c k (took step c (e ∷ es) ++ fs) ≡ through step ((through step c k (e ∷ es)) .at)
@@ -92,7 +93,7 @@ module _ {C E : Type 0} (step : C → E → Step C) where
   none-took c k [] h = refl
   none-took c k (e ∷ es) h = by (step c e) refl (λ d. none-took d (suc k) es)
     where
-      by : (x : Step C) → step c e ≡ x → ((d : C) → (through step d (suc k) es) .why ≡ none → took step d es ≡ es)
+      by : (x : StepEnd C) → step c e ≡ x → ((d : C) → (through step d (suc k) es) .why ≡ none → took step d es ≡ es)
           → took step c (e ∷ es) ≡ e ∷ es
       by (went d) p ih = took-went c d e es p
           ∙ ap (e ∷_) (ih d (sym (ap (λ (x : Ended C). x .why) (through-went c d k e es p)) ∙ h))
@@ -115,7 +116,7 @@ module _ {C E : Type 0} (step : C → E → Step C) where
       same : (i j : ℕ) → some i ≡ some j → i ≡ j
       same i j p = cc
 
-      by : (x : Step C) → step c e ≡ x
+      by : (x : StepEnd C) → step c e ≡ x
           → ((d : C) → (through step d (suc k) es) .why ≡ some n → Stopped d (suc k) es n) → Stopped c k (e ∷ es) n
       by (went d) p ih =
           let q = through-went c d k e es p in
@@ -147,7 +148,7 @@ module _ {C E : Type 0} (step : C → E → Step C) where
   took-took [] c = refl
   took-took (e ∷ es) c = by (step c e) refl (λ d. took-took es d)
     where
-      by : (x : Step C) → step c e ≡ x → ((d : C) → took step d (took step d es) ≡ took step d es)
+      by : (x : StepEnd C) → step c e ≡ x → ((d : C) → took step d (took step d es) ≡ took step d es)
           → took step c (took step c (e ∷ es)) ≡ took step c (e ∷ es)
       by (went d) p ih = rw (took-went c d e es p) (took-went c d e (took step d es) p ∙ ap (e ∷_) (ih d))
       by (stops n) p ih = rw (took-stops c n e es p)
@@ -162,7 +163,7 @@ module _ {C E : Type 0} (step : C → E → Step C) where
       ∙ ap (λ (x : Ended C). record { at = f; taken = suc (x .taken); why = none }) h
   fold-snoc (x ∷ es) c d f k j e h p = by (step c x) refl (λ z. fold-snoc es z d f (suc k) j e)
     where
-      by : (y : Step C) → step c x ≡ y
+      by : (y : StepEnd C) → step c x ≡ y
           → ((z : C) → through step z (suc k) es ≡ record { at = d; taken = j; why = none } → step d e ≡ went f
           → through step z (suc k) (es ++ e ∷ []) ≡ record { at = f; taken = suc j; why = none })
           → through step c k (x ∷ es ++ e ∷ []) ≡ record { at = f; taken = suc j; why = none }

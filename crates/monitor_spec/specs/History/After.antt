@@ -14,14 +14,14 @@ use Rattle.residuals.specs.Slots.{slotsOf}
 use Rattle.monitor_spec.specs.State.{even, fill, laid}
 use Rattle.monitor_spec.specs.State.Areas.{choose-twice}
 use Rattle.monitor_spec.specs.Joined.{residualCount}
-use Rattle.monitor_spec.specs.Expected.{verdictOf, recordOf, monitorAfter}
+use Rattle.monitor_spec.specs.Expected.{verdictAfter, recordOf, monitorAfter}
 use Rattle.monitor_spec.specs.Expected.Records.{record-taken, record-count, record-verdict}
 use Rattle.monitor_spec.specs.History.{start, GreatestOver, HoldsJust, AfterEvents}
 use Rattle.monitor_spec.specs.History.Peaks.{record-greatest}
 use Rattle.monitor_spec.specs.History.Verdicts.{start-formed, judged-running, judged-failed}
 
 module _ (t : Table) (n : ℕ) (s : List ℕ) where
-  verdict-after : monitorAfter t n s .state .verdict ≡ verdictOf t s
+  verdict-after : monitorAfter t n s .state .verdict ≡ verdictAfter t s
   unfolding monitorAfter laid
   verdict-after = record-verdict t s
 

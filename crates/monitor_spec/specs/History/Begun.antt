@@ -2,12 +2,12 @@
 --     fresh-after, fresh-laid     the settled monitor is the one that the empty list calls for, laid out of its
 --                                 residuals
 --     open-goes                   Open is Feed's run from there
---     Began, opened-began         the record and areas that an Open gave;  empty-joins: of an empty list
+--     BeganOn, opened-began       the record and areas that an Open gave;  empty-joins: of an empty list
 -- Assumes nothing.
 use Prim.Native.Nat.{ℕ, _%_, _≤_}
 use native.Mathlib.Omega.{arith}
 use mathlib.Core.Path.{_≡_, refl, ap, sym, subst, _∙_}
-use mathlib.Core.Bool.{Bool, true, false, _&&_}
+use mathlib.Core.Bool.{Bool, true, false}
 use mathlib.Core.List.{List, []}
 use mathlib.Core.Option.{Option, none, some}
 use lib.ListN.{length}
@@ -18,7 +18,7 @@ use Rattle.table.specs.Judge.{accepted, judgeList}
 use Rattle.residuals.specs.Residual.{residualsOf}
 use Rattle.residuals.specs.Slots.{slotsOf}
 use Rattle.monitor_spec.specs.Regular.{Regular}
-use Rattle.monitor_spec.specs.Valid.Laws.{and-split}
+use Rattle.monitor_spec.specs.Valid.Laws.{and-split, some-same, none-some}
 use Rattle.monitor_spec.specs.State.{State, freshState, holding, Monitor, Answer, given, refused, stopped}
 use Rattle.monitor_spec.specs.State.{Outcome, areasMeasured, workMeasured, slotCount, even, choose, laid}
 use Rattle.monitor_spec.specs.Entering.{refusing}
@@ -26,7 +26,7 @@ use Rattle.monitor_spec.specs.Fold.{Ended, through}
 use Rattle.monitor_spec.specs.Feed.{takeEvent, endingOf}
 use Rattle.monitor_spec.specs.Open.{freshMonitor, openOf}
 use Rattle.monitor_spec.specs.Refusals.Laws.{lent}
-use Rattle.monitor_spec.specs.Open.Laws.{OpenWay, unmeasured, declines, exceeds, runs, open-way}
+use Rattle.monitor_spec.specs.Open.Laws.{OpenCase, unmeasured, declines, exceeds, runs, open-case}
 use Rattle.monitor_spec.specs.Open.Laws.{open-unmeasured, open-declined, exceededOf, open-exceeded, open-runs}
 use Rattle.monitor_spec.specs.Open.Laws.{accepted-same}
 use Rattle.monitor_spec.specs.Joined.{Call, residualCount, extend, joinCall}
@@ -75,7 +75,7 @@ slots-range a b e =
     let h = leb-true (length a) 4096 v in
     (omega arith, omega arith)
 
-pub record Began (a b : List ℕ) (t : Table) (c : Call) (m : Monitor) : Type 0 where
+pub record BeganOn (a b : List ℕ) (t : Table) (c : Call) (m : Monitor) : Type 0 where
   pub measured : lent a b (c .work) ≡ true
   pub low : 1 ≤ slotCount a
   pub high : slotCount a ≤ 256
@@ -91,12 +91,6 @@ empty-joins t n w = by (workMeasured w)
     by : (x : Bool) → _≡_ {A = List ℕ} (elim x [ true ↦ [] | false ↦ [] ]) []
     by true = refl
     by false = refl
-
-pub none-some : {X : Type 0} {A : Type 0} {x : Option A} (r : A) → x ≡ none → x ≡ some r → X
-none-some r e f = absurd (let z : _≡_ {A = ℕ} 0 1 = cc in omega arith)
-
-pub some-same : (r s : State) → some r ≡ some s → r ≡ s
-some-same r s e = cc
 
 pub ending-record : (k : ℕ) (x : Ended Monitor) → recordIn (endingOf k x .answer) ≡ some (x .at .state)
 unfolding endingOf recordIn
@@ -118,7 +112,7 @@ module _ (l ns : List ℕ) (t : Table) (says : judgeList l ≡ accepted ns t) (r
   -- an outcome without a record
   never : {X : Type 0} (n p : ℕ) → openOf l a b es w .answer ≡ refused n p → X
   unfolding recordIn
-  never n p e = none-some (m .state) (ap recordIn e) (o .gave)
+  never n p e = none-some (m .state) (sym (ap recordIn e) ∙ o .gave)
 
   joins-list : workMeasured w ≡ true → joinCall t (slotCount a) [] c ≡ extend t (slotCount a) [] es
   unfolding joinCall
@@ -133,7 +127,7 @@ module _ (l ns : List ℕ) (t : Table) (says : judgeList l ≡ accepted ns t) (r
       let q : m .area1 ≡ x .at .area1 = sym (o .gave1) ∙ ap (λ (z : Outcome). z .area1) e in
       (λ i. record { state = s i; area0 = p i; area1 = q i })
 
-  ran : lent a b w ≡ true → residualCount t [] ≤ slotCount a → Began a b t c m
+  ran : lent a b w ≡ true → residualCount t [] ≤ slotCount a → BeganOn a b t c m
   ran e h =
       let n : ℕ = slotCount a in
       let f = fresh-fed t n h in
@@ -149,11 +143,11 @@ module _ (l ns : List ℕ) (t : Table) (says : judgeList l ≡ accepted ns t) (r
             ∙ ap (monitorAfter t n) (sym (joins-list y));
       }
 
-  pub opened-began : Began a b t c m
+  pub opened-began : BeganOn a b t c m
   unfolding refusing exceededOf
-  opened-began = by (open-way l a b es w)
+  opened-began = by (open-case l a b es w)
     where
-      by : OpenWay l a b es w → Began a b t c m
+      by : OpenCase l a b es w → BeganOn a b t c m
       by (unmeasured e) = never 1 0 (ap (λ (z : Outcome). z .answer) (open-unmeasured l a b es w e))
       by (declines e n p d) = never n p (ap (λ (z : Outcome). z .answer) (open-declined l a b es w e n p d))
       by (exceeds e ks s d h) = never 13 0 (ap (λ (z : Outcome). z .answer) (open-exceeded l a b es w e ks s d h))

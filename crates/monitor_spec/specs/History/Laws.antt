@@ -174,10 +174,10 @@ module _ (t : Table) (regular : Regular t) (n : ℕ) where
     unfolding monitorAfter
     after-consistent s f = laid-consistent t regular n (recordOf t s) (residualsOf t s) (fed-sensible t regular n s f)
 
-    pub measured : (s : List ℕ) → Fed t n s
+    pub after-measured : (s : List ℕ) → Fed t n s
         → areasMeasured (monitorAfter t n s .area0) (monitorAfter t n s .area1) ≡ true
     unfolding areasMeasured
-    measured s f =
+    after-measured s f =
         let (x, y) = length-areas s f in
         let k : ℕ = length (monitorAfter t n s .area0) in
         both-true (eq-eqb k (length (monitorAfter t n s .area1)) (x ∙ sym y))
@@ -196,7 +196,7 @@ module _ (t : Table) (regular : Regular t) (n : ℕ) where
     feed-goes s es work f w =
         feed-admits l (monitorAfter t n s) es work t
         (on-consistent l (monitorAfter t n s) work t
-        (entrance-accepted _ l work ns t (both-true (measured s f) w) says) (after-consistent s f))
+        (entrance-accepted _ l work ns t (both-true (after-measured s f) w) says) (after-consistent s f))
 
     pub call-join : (s : List ℕ) (c : Call) → Fed t n s
         → callOn l (monitorAfter t n s) c ≡ monitorAfter t n (joinCall t n s c)
@@ -213,7 +213,7 @@ module _ (t : Table) (regular : Regular t) (n : ℕ) where
             ∙ ap (monitorAfter t n) (rw (w, joinCall))
         by false w =
             ap (afterwards (monitorAfter t n s))
-            (feed-refused (monitorAfter t n s) (c .events) (c .work) (measured s f) w)
+            (feed-refused (monitorAfter t n s) (c .events) (c .work) (after-measured s f) w)
             ∙ after-refusing (monitorAfter t n s) (c .work)
             ∙ ap (monitorAfter t n) (rw (w, joinCall))
 

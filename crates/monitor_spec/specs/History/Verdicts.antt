@@ -15,8 +15,8 @@ use Rattle.residuals.specs.Residual.{Residual, resolveDef, afterAll, run, fromD
 use Rattle.monitor_spec.specs.ResidualMeaning.Traces.{traces-last}
 use Rattle.monitor_spec.specs.Meaning.{Some}
 use Rattle.monitor_spec.specs.State.{Verdict, running, failedAt}
-use Rattle.monitor_spec.specs.Expected.{verdictOf}
-use Rattle.monitor_spec.specs.Expected.Verdicts.{Says, verdictOf-says, run-none}
+use Rattle.monitor_spec.specs.Expected.{verdictAfter}
+use Rattle.monitor_spec.specs.Expected.Verdicts.{Says, verdictAfter-says, run-none}
 use Rattle.monitor_spec.specs.History.{start, ShortestOutside}
 
 -- ---- a beginning of a trace is a trace
@@ -63,13 +63,13 @@ module _ (t : Table) (regular : Regular t) (H : Term → TraceSet) (model : Mode
         }),
       )
 
-  pub verdicts : (s : List ℕ) → Verdicts s (verdictOf t s)
-  verdicts s = verdicts-by s (verdictOf t s) (verdictOf-says t s)
+  pub verdicts : (s : List ℕ) → Verdicts s (verdictAfter t s)
+  verdicts s = verdicts-by s (verdictAfter t s) (verdictAfter-says t s)
 
-  pub judged-running : (s : List ℕ) → (verdictOf t s ≡ running) ↔ H (start t) s
+  pub judged-running : (s : List ℕ) → (verdictAfter t s ≡ running) ↔ H (start t) s
   judged-running s = (
     λ e. held-some s .1 (subst (Verdicts s) e (verdicts s)),
-    λ h. by (verdictOf t s) (verdicts s) (held-some s .0 h),
+    λ h. by (verdictAfter t s) (verdicts s) (held-some s .0 h),
   )
     where
       by : (v : Verdict) → Verdicts s v → Some (residualsOf t s) → v ≡ running
@@ -77,8 +77,8 @@ module _ (t : Table) (regular : Regular t) (H : Term → TraceSet) (model : Mode
       by (failedAt p) x k = absurd (some-not-none (residualsOf t s) k (x .0))
 
   pub judged-failed : (s : List ℕ) → (H (start t) s → ⊥)
-      → (p : ℕ) × (verdictOf t s ≡ failedAt p) × ShortestOutside (H (start t)) s p
-  judged-failed s h = by (verdictOf t s) (verdicts s)
+      → (p : ℕ) × (verdictAfter t s ≡ failedAt p) × ShortestOutside (H (start t)) s p
+  judged-failed s h = by (verdictAfter t s) (verdicts s)
     where
       by : (v : Verdict) → Verdicts s v → (p : ℕ) × (v ≡ failedAt p) × ShortestOutside (H (start t)) s p
       by running x = absurd (h (held-some s .1 x))
@@ -102,7 +102,7 @@ module _ (t : Table) (regular : Regular t) (H : Term → TraceSet) (model : Mode
       by (no l) (yes g) = absurd (y .outside (x .inside q g))
       by (no l) (no g) = omega arith
 
-  pub fails-exactly : (s : List ℕ) (p : ℕ) → (verdictOf t s ≡ failedAt p) ↔ ShortestOutside (H (start t)) s p
+  pub fails-exactly : (s : List ℕ) (p : ℕ) → (verdictAfter t s ≡ failedAt p) ↔ ShortestOutside (H (start t)) s p
   fails-exactly s p = (
     λ e. (subst (Verdicts s) e (verdicts s)) .1,
     λ o. let (q, e, x) = judged-failed s (outside-not s p o) in e ∙ ap failedAt (shortest-one s q p x o),

@@ -1,6 +1,6 @@
 -- Open, case by case.
 --     open-shut, open-admits                          by what stands before it
---     OpenWay, open-way                               which of the four cases it is
+--     OpenCase, open-case                             which of the four cases it is
 --     open-unmeasured, open-declined, open-exceeded, open-runs      the whole outcome in each
 --     empty-never                                     Open of an empty list gives no number with a record
 -- Assumes nothing.
@@ -76,23 +76,23 @@ module _ (l a b es w : List ℕ) where
 
   -- ---- one of the four
 
-  pub data OpenWay : Type 0 where
-    unmeasured : lent a b w ≡ false → OpenWay
-    declines : lent a b w ≡ true → (n p : ℕ) → judgeList l ≡ declined n p → OpenWay
+  pub data OpenCase : Type 0 where
+    unmeasured : lent a b w ≡ false → OpenCase
+    declines : lent a b w ≡ true → (n p : ℕ) → judgeList l ≡ declined n p → OpenCase
     exceeds : lent a b w ≡ true → (ns : List ℕ) (t : Table) → judgeList l ≡ accepted ns t
-        → slotCount a < residualCount t [] → OpenWay
+        → slotCount a < residualCount t [] → OpenCase
     runs : lent a b w ≡ true → (ns : List ℕ) (t : Table) → judgeList l ≡ accepted ns t
-        → residualCount t [] ≤ slotCount a → OpenWay
+        → residualCount t [] ≤ slotCount a → OpenCase
 
-  pub open-way : OpenWay
-  open-way = by (lent a b w) refl (judgeList l) refl
+  pub open-case : OpenCase
+  open-case = by (lent a b w) refl (judgeList l) refl
     where
       room : lent a b w ≡ true → (ns : List ℕ) (t : Table) → judgeList l ≡ accepted ns t → (c : Bool)
-          → ltb (slotCount a) (residualCount t []) ≡ c → OpenWay
+          → ltb (slotCount a) (residualCount t []) ≡ c → OpenCase
       room e ns t d true c = exceeds e ns t d (ltb-true (slotCount a) (residualCount t []) c)
       room e ns t d false c = runs e ns t d (ltb-false (slotCount a) (residualCount t []) c)
 
-      by : (x : Bool) → lent a b w ≡ x → (j : Judgement) → judgeList l ≡ j → OpenWay
+      by : (x : Bool) → lent a b w ≡ x → (j : Judgement) → judgeList l ≡ j → OpenCase
       by false e j d = unmeasured e
       by true e (declined n p) d = declines e n p d
       by true e (accepted ns t) d = room e ns t d (ltb (slotCount a) (residualCount t [])) refl
@@ -101,7 +101,7 @@ module _ (l a b es w : List ℕ) where
 
 pub empty-never : (l a b w : List ℕ) (n p : ℕ) (s : State) → openOf l a b [] w .answer ≡ stopped n p s → ⊥
 unfolding refusing exceededOf endingOf through
-empty-never l a b w n p s h = by (open-way l a b [] w)
+empty-never l a b w n p s h = by (open-case l a b [] w)
   where
     says : (o : Outcome) → openOf l a b [] w ≡ o → o .answer ≡ stopped n p s
     says o e = sym (ap (λ (z : Outcome). z .answer) e) ∙ h
@@ -112,7 +112,7 @@ empty-never l a b w n p s h = by (open-way l a b [] w)
     not-both : (r : State) → given r ≡ stopped n p s → ⊥
     not-both r e = let z : _≡_ {A = ℕ} 0 1 = cc in omega arith
 
-    by : OpenWay l a b [] w → ⊥
+    by : OpenCase l a b [] w → ⊥
     by (unmeasured e) = no 1 0 (says _ (open-unmeasured l a b [] w e))
     by (declines e k q d) = no k q (says _ (open-declined l a b [] w e k q d))
     by (exceeds e ns t d g) = no 13 0 (says _ (open-exceeded l a b [] w e ns t d g))

@@ -2,7 +2,7 @@
 -- for, and the first that meets one stops the fold there.
 --     pass-went, meets-stops                  what one event comes to
 --     passes-then, passes-ends, halts-ends    what a fold comes to
---     Course, course                          it comes to one of these
+--     PassOrHalt, pass-or-halt                it comes to one of these
 -- Assumes nothing.
 use Prim.Native.Nat.{ℕ, suc, _+_, _≤_, _<_}
 use native.Mathlib.Omega.{arith}
@@ -131,9 +131,9 @@ module _ (t : Table) (regular : Regular t) (n : ℕ) where
 
   -- ---- one or the other
 
-  pub data Course (k : ℕ) (rs : List Residual) (es : List ℕ) : Type 0 where
-    passed : Passes t n k rs es → Course k rs es
-    halted : (number place : ℕ) → HaltsAt t n k rs es number place → Course k rs es
+  pub data PassOrHalt (k : ℕ) (rs : List Residual) (es : List ℕ) : Type 0 where
+    passed : Passes t n k rs es → PassOrHalt k rs es
+    halted : (number place : ℕ) → HaltsAt t n k rs es number place → PassOrHalt k rs es
 
   halts-first : (k : ℕ) (rs : List Residual) (e number : ℕ) (es : List ℕ) → Meets t n k rs e number
       → HaltsAt t n k rs (e ∷ es) number 0
@@ -151,7 +151,7 @@ module _ (t : Table) (regular : Regular t) (n : ℕ) where
       }
 
   further : (k : ℕ) (rs : List Residual) (e : ℕ) (es : List ℕ) → e < t .alphabet → (k ≡ counterMost → ⊥)
-      → length (slotsOf (afterAll t e rs)) ≤ n → Course (suc k) (afterAll t e rs) es → Course k rs (e ∷ es)
+      → length (slotsOf (afterAll t e rs)) ≤ n → PassOrHalt (suc k) (afterAll t e rs) es → PassOrHalt k rs (e ∷ es)
   unfolding run
   further k rs e es a b c (passed p) = passed (a, b, c, p)
   further k rs e es a b c (halted number place h) =
@@ -166,13 +166,14 @@ module _ (t : Table) (regular : Regular t) (n : ℕ) where
         meets = subst (λ (j : ℕ). Meets t n j (run t (afterAll t e rs) (h .before)) (h .event) number) i (h .meets);
       })
 
-  pub course : (es : List ℕ) (k : ℕ) (rs : List Residual) → Course k rs es
-  course [] k rs = passed tt
-  course (e ∷ es) k rs = by (leb (t .alphabet) e) refl (eqb k counterMost) refl
-      (ltb n (length (slotsOf (afterAll t e rs)))) refl (course es (suc k) (afterAll t e rs))
+  pub pass-or-halt : (es : List ℕ) (k : ℕ) (rs : List Residual) → PassOrHalt k rs es
+  pass-or-halt [] k rs = passed tt
+  pass-or-halt (e ∷ es) k rs = by (leb (t .alphabet) e) refl (eqb k counterMost) refl
+      (ltb n (length (slotsOf (afterAll t e rs)))) refl (pass-or-halt es (suc k) (afterAll t e rs))
     where
       by : (a : Bool) → leb (t .alphabet) e ≡ a → (b : Bool) → eqb k counterMost ≡ b → (c : Bool)
-          → ltb n (length (slotsOf (afterAll t e rs))) ≡ c → Course (suc k) (afterAll t e rs) es → Course k rs (e ∷ es)
+          → ltb n (length (slotsOf (afterAll t e rs))) ≡ c → PassOrHalt (suc k) (afterAll t e rs) es
+          → PassOrHalt k rs (e ∷ es)
       by true p b q c r x = halted 11 0 (halts-first k rs e 11 es (unknown (leb-true (t .alphabet) e p)))
       by false p true q c r x =
           halted 12 0 (halts-first k rs e 12 es (full (leb-false (t .alphabet) e p) (eqb-true k counterMost q)))

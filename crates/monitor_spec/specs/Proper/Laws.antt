@@ -31,7 +31,7 @@ use Rattle.residuals.specs.Residual.Calls.{resolve-at}
 use Rattle.monitor_spec.specs.ResidualMeaning.Resolve.{resolveDef-sound}
 use Rattle.monitor_spec.specs.ResidualMeaning.After.{after-leaf-at, after-pair-at, after-sound}
 use Rattle.monitor_spec.specs.Valid.{reachAt, reachSum}
-use Rattle.monitor_spec.specs.Proper.{Remembers, Fits, Fitting, Proper}
+use Rattle.monitor_spec.specs.Proper.{Remembers, MemoriesFit, Fitting, Proper}
 
 module _ (n : ℕ) (m : Memory) (X Y Z : Residual → Type 0) (f : (l r : Residual) → X l → Y r → Z (pair n m l r)) where
   all-pairs : (ls rs : List Residual) → All X ls → All Y rs → All Z (pairs n m ls rs)
@@ -124,18 +124,18 @@ module _ (t : Table) where
 
   -- ---- the memories of nodes
 
-  resolveIn-fits : (f : ℕ → List Residual) → ((d : ℕ) → All (Fits t) (f d))
+  resolveIn-fits : (f : ℕ → List Residual) → ((d : ℕ) → All (MemoriesFit t) (f d))
       → (p : Term) (m : Memory) {h c n : ℕ} → Stands (t .definitions) h c n p → Remembers (t .alphabet) c m
-      → All (Fits t) (resolveIn f p n m)
+      → All (MemoriesFit t) (resolveIn f p n m)
   unfolding resolveIn
   resolveIn-fits f k stop m s g = (rw (around-number t s) (keep-remembers (t .alphabet) _ stop m g), tt)
   resolveIn-fits f k fail m s g = tt
   resolveIn-fits f k (prefix r p) m s g = (rw (around-number t s) (keep-remembers (t .alphabet) _ (prefix r p) m g), tt)
   resolveIn-fits f k (choice p q) m {n = n} s g =
-      all-append (Fits t) (resolveIn f p (suc n) m) (resolveIn f q (suc (size p + n)) m)
+      all-append (MemoriesFit t) (resolveIn f p (suc n) m) (resolveIn f q (suc (size p + n)) m)
       (resolveIn-fits f k p m (choice-left-stands s) g) (resolveIn-fits f k q m (choice-right-stands s) g)
   resolveIn-fits f k (par r p q) m {n = n} s g =
-      all-pairs n (keep (par r p q) m) (Fits t) (Fits t) (Fits t)
+      all-pairs n (keep (par r p q) m) (MemoriesFit t) (MemoriesFit t) (MemoriesFit t)
       (λ x y a b. (rw (around-number t s) (keep-remembers (t .alphabet) _ (par r p q) m g), a, b))
       (resolveIn f p (suc n) m) (resolveIn f q (suc (size p + n)) m)
       (resolveIn-fits f k p m (par-left-stands s) g) (resolveIn-fits f k q m (par-right-stands s) g)
@@ -173,11 +173,11 @@ module _ (t : Table) where
         (resolveIn (resolveDef t b) (bodyOf t d) (bodyNumber t d) noMemory)
         (resolveIn-reach (resolveDef t b) (resolveDef-reach b) (bodyOf t d) noMemory (body-number t d l)))
 
-    resolveDef-fits : (b d : ℕ) → All (Fits t) (resolveDef t b d)
+    resolveDef-fits : (b d : ℕ) → All (MemoriesFit t) (resolveDef t b d)
     unfolding resolveDef bodyCount
     resolveDef-fits zero d = tt
     resolveDef-fits (suc b) d =
-        by-body (All (Fits t)) tt (resolveDef t b) d
+        by-body (All (MemoriesFit t)) tt (resolveDef t b) d
         (λ l. resolveIn-fits (resolveDef t b) (resolveDef-fits b) (bodyOf t d) noMemory (body-number t d l)
         (none-remembers (t .alphabet) 0 (regular .alphabet-some)))
 
@@ -190,7 +190,7 @@ module _ (t : Table) where
     pub resolve-fitting : (n : ℕ) (m : Memory) (p : Term) {h c : ℕ} → Stands (t .definitions) h c n p
         → Remembers (t .alphabet) c m → All (Fitting t (reach t p)) (resolve t n m)
     resolve-fitting n m p s g =
-        all-and (Fits t) (Within (reach t p)) (resolve t n m)
+        all-and (MemoriesFit t) (Within (reach t p)) (resolve t n m)
         (rw (resolve-at t n m p (at-number t s))
         (resolveIn-fits (resolveDef t (bodyCount t)) (resolveDef-fits (bodyCount t)) p m s g))
         (resolve-reach n m p s)
@@ -216,7 +216,7 @@ module _ (t : Table) where
       leaf-after n m (call d) h g = tt
 
       pair-after : (n : ℕ) (m : Memory) (l r : Residual) (x : Term) → termAt t n ≡ some x
-          → Remembers (t .alphabet) (enclosing t n) m → Fits t l → Fits t r
+          → Remembers (t .alphabet) (enclosing t n) m → MemoriesFit t l → MemoriesFit t r
           → All (Fitting t (reachSum t l)) (after t e l) → All (Fitting t (reachSum t r)) (after t e r)
           → All (Fitting t (reachSum t l + reachSum t r)) (afterPair t e n m l r (after t e l) (after t e r) x)
       unfolding afterPair
@@ -246,7 +246,7 @@ module _ (t : Table) where
           (all-pairs n m (Fitting t x) (Fitting t y) (Fitting t (x + y)) f (l ∷ []) rs ((i, omega arith), tt) b))
       pair-after n m l r (call d) h g i j a b = tt
 
-      pub after-fitting : (R : Residual) → Sound t R → Fits t R → All (Fitting t (reachSum t R)) (after t e R)
+      pub after-fitting : (R : Residual) → Sound t R → MemoriesFit t R → All (Fitting t (reachSum t R)) (after t e R)
       unfolding reachSum
       after-fitting (leaf n m) (x, h, i) g =
           rw (after-leaf-at t regular e n m x h, reachAt-at n x h) (leaf-after n m x h g)
@@ -267,7 +267,7 @@ module _ (t : Table) where
     pub definition-proper : (d : ℕ) → d < bodyCount t → All (Proper t) (resolveDef t (bodyCount t) d)
     definition-proper d l =
         all-and (Sound t) (Fitting t 8) (resolveDef t (bodyCount t) d) (resolveDef-sound t regular (bodyCount t) d)
-        (all-and (Fits t) (Within 8) (resolveDef t (bodyCount t) d) (resolveDef-fits (bodyCount t) d)
+        (all-and (MemoriesFit t) (Within 8) (resolveDef t (bodyCount t) d) (resolveDef-fits (bodyCount t) d)
         (within-more (levelWidth t (levelIn (t .definitions) d)) 8 (regular .width-most (levelIn (t .definitions) d))
         (resolveDef t (bodyCount t) d) (resolveDef-reach (bodyCount t) d)))
 

@@ -1,24 +1,18 @@
 -- A proper residual has at most 15 nodes. Assumes nothing.
-use Prim.Native.Nat.{ℕ, suc, _*_, _≤_, _<_}
+use Prim.Native.Nat.{suc, _*_, _≤_}
 use native.Mathlib.Omega.{arith}
-use mathlib.Core.Path.{_≡_}
-use mathlib.Core.Option.{some}
 use lib.ListN.{length, length-append}
-use Rattle.table.specs.Table.{Table, Term, stop, fail, prefix, choice, par, call, termAt}
-use Rattle.table.specs.Table.{enclosing}
+use Rattle.table.specs.Table.{Table, Term, stop, fail, prefix, choice, par, call}
 use Rattle.meaning.specs.Figure1.{bodyCount, plain, Guarded}
 use Rattle.meaning.specs.Formed.{number-formed}
-use Rattle.numbers.specs.Every.{All, all-append}
-use Rattle.table.specs.Stands.Laws.{number-at, number-below}
-use Rattle.table.specs.Memory.{Memory, digit}
+use Rattle.table.specs.Stands.Laws.{number-at}
 use Rattle.table.specs.Width.{widthWith, reach}
 use Rattle.monitor_spec.specs.Regular.{Regular}
 use Rattle.residuals.specs.Residual.{Residual, leaf, pair}
 use Rattle.monitor_spec.specs.Meaning.{Sound}
-use Rattle.node_word.specs.Word.{pack}
 use Rattle.residuals.specs.Slots.{nodes}
 use Rattle.monitor_spec.specs.Valid.{reachSum}
-use Rattle.monitor_spec.specs.Proper.{Remembers, Fits, Proper}
+use Rattle.monitor_spec.specs.Proper.{Proper}
 use Rattle.monitor_spec.specs.Proper.Laws.{reachAt-at}
 
 module _ (t : Table) (regular : Regular t) where

@@ -23,7 +23,7 @@ use Rattle.table.specs.Memory.{Memory}
 use Rattle.meaning.specs.Formed.{number-formed}
 use Rattle.meaning.specs.Closing.{close}
 use Rattle.meaning.specs.Closing.Laws.{guarded-close}
-use Rattle.residuals.specs.Residual.{Residual, leaf, pair, resolveDef, resolve, run, fromDefinition}
+use Rattle.residuals.specs.Residual.{Residual, leaf, pair, resolveDef, run, fromDefinition}
 use Rattle.residuals.specs.Residual.{residualsOf}
 use Rattle.monitor_spec.specs.Regular.{Regular}
 use Rattle.monitor_spec.specs.Meaning.{joinAt, denote, IsLeaf, IsPar, Sound, Some}

@@ -21,7 +21,7 @@ use Rattle.residuals.specs.Slots.{slotOf}
 use Rattle.slots.specs.Canon.Comparison.{cmp-refl, same-eq}
 use Rattle.monitor_spec.specs.Valid.{joinTrees, plant, plantWord, forest, oneTree, slotResidual, digitFits}
 use Rattle.monitor_spec.specs.Valid.{memoryFits, memoriesFit, reachSum, isSame, validSlot}
-use Rattle.monitor_spec.specs.Proper.{Remembers, Fits, Proper}
+use Rattle.monitor_spec.specs.Proper.{Remembers, MemoriesFit, Proper}
 use Rattle.monitor_spec.specs.Valid.Residuals.{read-back}
 use Rattle.monitor_spec.specs.State.Areas.{both-true}
 
@@ -54,7 +54,7 @@ memory-fits a c m f =
     (both-true (digit-fits a c 2 (m .m2) (z .0) (z .1)) (digit-fits a c 3 (m .m3) (w .0) (w .1))))
 
 module _ (t : Table) where
-  memories-fit : (r : Residual) → Fits t r → memoriesFit t r ≡ true
+  memories-fit : (r : Residual) → MemoriesFit t r → memoriesFit t r ≡ true
   unfolding memoriesFit
   memories-fit (leaf n m) f = memory-fits (t .alphabet) (enclosing t n) m f
   memories-fit (pair n m l r) (f, a, b) =
@@ -108,7 +108,7 @@ pub none-some : {A X : Type 0} (x : A) → none ≡ some x → X
 none-some x p = absurd (let z : _≡_ {A = ℕ} 0 1 = cc in omega arith)
 
 module _ (t : Table) where
-  fits-memories : (r : Residual) → memoriesFit t r ≡ true → Fits t r
+  fits-memories : (r : Residual) → memoriesFit t r ≡ true → MemoriesFit t r
   unfolding memoriesFit
   fits-memories (leaf n m) h = fits-memory (t .alphabet) (enclosing t n) m h
   fits-memories (pair n m l r) h =

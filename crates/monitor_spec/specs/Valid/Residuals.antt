@@ -19,7 +19,7 @@ use Rattle.slots.specs.Canon.{canon, In}
 use Rattle.residuals.specs.Slots.{nodes, slotOf, slotsOf}
 use Rattle.slots.specs.Canon.Canonical.{in-canon, of-all, all-of, canon-members}
 use Rattle.monitor_spec.specs.Valid.{slotResidual, held}
-use Rattle.monitor_spec.specs.Proper.{Remembers, Fits, Proper}
+use Rattle.monitor_spec.specs.Proper.{Remembers, MemoriesFit, Proper}
 use Rattle.monitor_spec.specs.Proper.Nodes.{nodes-most}
 use Rattle.monitor_spec.specs.Valid.Packing.{DigitsAll, slotResidual-slotOf}
 use Rattle.slots.specs.Canon.{Sixteen}
@@ -92,7 +92,7 @@ module _ (t : Table) where
         let g = f 3 (omega arith) .0 in
         record { s0 = omega arith; s1 = omega arith; s2 = omega arith; s3 = omega arith }
 
-    fits-digits : (r : Residual) → Fits t r → DigitsAll r
+    fits-digits : (r : Residual) → MemoriesFit t r → DigitsAll r
     fits-digits (leaf n m) f = digits-fit (enclosing t n) m f
     fits-digits (pair n m l r) (f, a, b) = (digits-fit (enclosing t n) m f, fits-digits l a, fits-digits r b)
 

@@ -1,9 +1,8 @@
 -- `node_word::node` meets its contract. Assumes nothing.
-use native.Mathlib.Omega.{arith}
 use borrow.Author.Needs.{needs}
 use Rattle.node_word.specs.Word.{memoryBound, digitBound, digitBits}
 use Rattle.node_word.specs.Word.Laws.{firstUnit, secondUnit}
-use Rattle.node_word.specs.Word.Laws.{node-word, words-fit}
+use Rattle.node_word.specs.Word.Laws.{node-word}
 use Rattle.node_word.proofs.node.Statement.{statement}
 use Rattle.node_word.proofs.node.Tie as tie
 

@@ -70,13 +70,13 @@ unfolding readNumber bytesOf
 read-written v s h = scan-written 2 3 v s (omega (arith, limit-65536))
 
 -- ---- what is read is what would be written
-pub record Written (s : List ℕ) (v n : ℕ) (rest : List ℕ) : Type 0 where
+pub record WrittenFirst (s : List ℕ) (v n : ℕ) (rest : List ℕ) : Type 0 where
   pub whole : s ≡ bytesOf v ++ rest
   pub small : v ≤ 65535
   pub taken : n ≡ length (bytesOf v)
 
 pub read-is-written : (s : List ℕ) (v n : ℕ) (rest : List ℕ) → Bytes s
-    → readNumber s ≡ value v n rest → Written s v n rest
+    → readNumber s ≡ value v n rest → WrittenFirst s v n rest
 unfolding readNumber bytesOf
 read-is-written s v n rest w e =
     let h = scan-is-written 2 3 s v n rest w e in

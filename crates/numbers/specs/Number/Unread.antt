@@ -14,7 +14,7 @@ use lib.Dec.{ltb, leb, eqb}
 use borrow.Author.Tests.{le-ltb, ltb-false, ne-eqb}
 use Rattle.numbers.specs.Choice.{cond-cases}
 use Rattle.numbers.specs.Number.{Bytes, groups, Scan, value, truncated, malformed, carry, later, scanWith}
-use Rattle.numbers.specs.Number.{readNumber, limitOf, IncompleteWith, IllWrittenWith, Incomplete, IllWritten}
+use Rattle.numbers.specs.Number.{readNumber, IncompleteWith, IllWrittenWith, Incomplete, IllWritten}
 use Rattle.numbers.specs.Number.Groups.{groups-short, groups-long, limit-zero, limit-suc, limit-some}
 use Rattle.numbers.specs.Number.Groups.{scan-written, scan-is-written}
 

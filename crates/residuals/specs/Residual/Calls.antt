@@ -11,7 +11,7 @@ use mathlib.Core.Option.{some}
 use Rattle.table.specs.Table.{Table, Term, stop, fail, prefix, choice, par, call, size, bodyOf, bodyNumber, termAt}
 use Rattle.table.specs.Memory.{Memory, noMemory}
 use Rattle.table.specs.Stands.Laws.{at-number, number-at, body-number}
-use Rattle.meaning.specs.Figure1.{bodyCount, body, plain, Guarded, WellFormed, GuardedTable}
+use Rattle.meaning.specs.Figure1.{bodyCount, body, plain, Guarded, GuardedTable}
 use Rattle.meaning.specs.Formed.{number-formed}
 use Rattle.residuals.specs.Keep.{keep}
 use Rattle.residuals.specs.Residual.{Residual, pairs, resolveIn, resolveDef, resolve}

@@ -5,7 +5,7 @@
 --     choice-next-in, go-left, go-right                a choice
 --     par-next-in, par-room, par-first, par-second     a parallel
 --     beyond                                           a kind that is none of the six
---     Way, way-..                                      where the loop of `term_into` has come to, and from there on
+--     ResolvingWay, way-..                             where the loop of `term_into` has come to, and from there on
 -- Assumes nothing.
 use Prim.Native.Nat.{ℕ, _+_, _-_, _/_, _%_, _<_, _≤_}
 use native.Mathlib.Omega.{arith}
@@ -89,20 +89,21 @@ beyond k f a b c d =
 -- ---- the loop
 
 -- to resolve term n into the slot as it is now gives what term n₀ was to give
-pub record Way (t : Table) (b n₀ : ℕ) (m : Memory) (i₀ : ℕ) (slot₀ : List ℕ) (n i : ℕ) (slot : List ℕ) : Type 0 where
+pub record ResolvingWay (t : Table) (b n₀ : ℕ) (m : Memory) (i₀ : ℕ) (slot₀ : List ℕ) (n i : ℕ) (slot : List ℕ)
+    : Type 0 where
   pub law : Lawful t
   pub lower : depthOf (termOf t n) ≤ depthOf (termOf t n₀)
   pub resolves : Resolves t b n m i slot
   pub same : resolvedInto t n m i slot ≡ resolvedInto t n₀ m i₀ slot₀
 
 pub way-first : {t : Table} {b n : ℕ} {m : Memory} {i : ℕ} {slot : List ℕ} → Lawful t → Resolves t b n m i slot
-    → Way t b n m i slot n i slot
+    → ResolvingWay t b n m i slot n i slot
 way-first a s = record { law = a; lower = omega arith; resolves = s; same = refl }
 
 module _ {t : Table} {b n₀ : ℕ} {m : Memory} {i₀ : ℕ} {slot₀ : List ℕ} {n i : ℕ} {slot : List ℕ}
-    (w : Way t b n₀ m i₀ slot₀ n i slot) where
+    (w : ResolvingWay t b n₀ m i₀ slot₀ n i slot) where
   next : {n' i' : ℕ} {slot' : List ℕ} → Next t b n n' m i i' slot slot'
-      → (depthOf (termOf t n') < depthOf (termOf t n)) × Way t b n₀ m i₀ slot₀ n' i' slot'
+      → (depthOf (termOf t n') < depthOf (termOf t n)) × ResolvingWay t b n₀ m i₀ slot₀ n' i' slot'
   next x = (
     x .lower,
     record {
@@ -130,11 +131,11 @@ module _ {t : Table} {b n₀ : ℕ} {m : Memory} {i₀ : ℕ} {slot₀ : List �
 
     module _ (e : k ≡ 3) (c : ℕ) (ec : c ≡ capped (branches t (termOf t (n + 1)))) where
       pub way-left : i < c
-          → (depthOf (termOf t (n + 1)) < depthOf (termOf t n)) × Way t b n₀ m i₀ slot₀ (n + 1) i slot
+          → (depthOf (termOf t (n + 1)) < depthOf (termOf t n)) × ResolvingWay t b n₀ m i₀ slot₀ (n + 1) i slot
       way-left h = next (go-left (w .law) (w .resolves) k ek _ c refl e ec h)
 
       pub way-right : c ≤ i → (r : ℕ) → r ≡ n + 1 + leftSize (termOf t n)
-          → (depthOf (termOf t r) < depthOf (termOf t n)) × Way t b n₀ m i₀ slot₀ r (i - c) slot
+          → (depthOf (termOf t r) < depthOf (termOf t n)) × ResolvingWay t b n₀ m i₀ slot₀ r (i - c) slot
       way-right h r er = next (go-right (w .law) (w .resolves) k ek r c er e ec h)
 
     module _ (e : k ≡ 4) (r : ℕ) (er : r ≡ n + 1 + leftSize (termOf t n)) where
@@ -152,5 +153,5 @@ module _ {t : Table} {b n₀ : ℕ} {m : Memory} {i₀ : ℕ} {slot₀ : List �
               (omega (arith, q .0, w .lower), q .1)
 
           pub way-other : (s1 : List ℕ) → s1 ≡ resolvedInto t (n + 1) m (i / c) s0
-              → (depthOf (termOf t r) < depthOf (termOf t n)) × Way t b n₀ m i₀ slot₀ r (i % c) s1
+              → (depthOf (termOf t r) < depthOf (termOf t n)) × ResolvingWay t b n₀ m i₀ slot₀ r (i % c) s1
           way-other s1 e1 = next (par-second (w .law) (w .resolves) k ek r c er e ec x ex s0 e0 s1 e1)

@@ -8,18 +8,19 @@ use Rattle.sheet.specs.declared.answer.Sheet.{Sheet}
 use Rattle.sheet.specs.declared.answer.Sheet.the-variants.{Given, Refused}
 use Rattle.sheet.specs.Sheet.{sheetOf}
 use Rattle.sheet.specs.Sheet as operation
-use Rattle.sheet_words.specs.Call.{SheetTold, sheetSaid, numberOf, valueOf, callOf, sheetCall}
+use Rattle.sheet_words.specs.Call.{SheetTold, sheetSaid, sheetNumber, sheetValue, callOf, sheetCall}
 
 pub tell-given : (x : Sheet) (n : ℕ) → x ≡ Given n → SheetTold x 0 n
-unfolding numberOf valueOf
+unfolding sheetNumber sheetValue
 tell-given x n e = rw e (record { number = refl; value = refl })
 
 pub tell-refused : (x : Sheet) (q : Refusal) → x ≡ Refused q → SheetTold x (q .number) (q .place)
-unfolding numberOf valueOf
+unfolding sheetNumber sheetValue
 tell-refused x q e = rw e (record { number = refl; value = refl })
 
-called : (x : Sheet) (out : List ℕ) → sheetSaid (numberOf x) (valueOf x) out ≡ callOf (operation.sheetOutcome x out)
-unfolding callOf numberOf valueOf
+called : (x : Sheet) (out : List ℕ)
+    → sheetSaid (sheetNumber x) (sheetValue x) out ≡ callOf (operation.sheetOutcome x out)
+unfolding callOf sheetNumber sheetValue
 called (Given n) out = refl
 called (Refused q) out = refl
 

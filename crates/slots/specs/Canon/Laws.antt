@@ -17,7 +17,6 @@ use Rattle.numbers.specs.Every.{all-append}
 use Rattle.slots.specs.Insertion.{placeIn, gapped, stored, insertAnswer, insertWords}
 use Rattle.slots.specs.declared.slots.Place.{Place}
 use Rattle.slots.specs.declared.slots.Place.the-variants as place
-use Rattle.slots.specs.declared.slots.Inserted.the-variants as ins
 use Rattle.slots.specs.declared.slots.Held.{Held}
 use Rattle.slots.specs.declared.slots.Held.the-variants.{Count, Exceeded}
 use Rattle.slots.specs.Holding.{Outcome, heldAs, putOne, chain, putAll}

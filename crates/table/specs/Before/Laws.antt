@@ -6,18 +6,17 @@ use Prim.Native.Nat.{ℕ, zero, suc, _+_, _<_, _≤_}
 use native.Mathlib.Omega.{arith}
 use mathlib.Core.Path.{_≡_, refl, ap, _∙_}
 use mathlib.Core.Bool.{Bool, true, false, cond, _&&_}
-use mathlib.Core.List.{List, [], _∷_}
+use mathlib.Core.List.{List, _∷_}
 use lib.ListN.{length}
 use lib.Dec.{leb, ltb}
 use borrow.Author.Tests.{le-leb, lt-leb}
-use Rattle.table.specs.Table.{SetDef}
-use Rattle.table.specs.Rows.{alphabetMost, largeAbove, rowCount, rowsOf, rowsFit}
+use Rattle.table.specs.Rows.{alphabetMost, largeAbove, rowCount, rowsOf}
 use Rattle.table.specs.Rows.Laws.{fits-small}
 use Rattle.table.specs.Tokens.{Tokens, token, ended, broken, placeOf, listTokens, byteTokens}
 use Rattle.table.specs.Parser.{Result, got, refused, Parser, number, pure, next, andThen, times}
 use Rattle.table.specs.Parser.Laws.{number-out}
 use Rattle.table.specs.Parser.Steps.{then-stop}
-use Rattle.table.specs.Grammar.{setOfKind, kindFits, eventSet, eventSets, definitionsOf, table}
+use Rattle.table.specs.Grammar.{setOfKind, kindFits, eventSet, eventSets, table}
 use Rattle.table.specs.Judge.{declined, judgeRead, judge, sized, judgeList, judgeBytes}
 use Rattle.table.specs.Before.{eventSetBefore, tableBefore, judgeBefore, judgeListBefore, judgeBytesBefore}
 use Rattle.table.specs.Before.{FirstMost, FirstOver}

@@ -3,13 +3,13 @@
 --     followers-out, followers-in      of the followers in a term
 --     bodies-out, bodies-in            of the bodies and the followers in them
 -- Assumes nothing.
-use Prim.Native.Nat.{ℕ, zero, suc, _+_, _≤_, _<_}
+use Prim.Native.Nat.{ℕ, suc, _+_, _≤_}
 use mathlib.Core.Path.{_≡_, refl}
 use mathlib.Core.List.{List, [], _∷_}
-use mathlib.Core.Option.{Option, none, some}
+use mathlib.Core.Option.{none}
 use lib.Dec.{leb, leb→le, le→leb}
 use Rattle.numbers.specs.Every.{All}
-use Rattle.table.specs.First.{orElse, unless}
+use Rattle.table.specs.First.{unless}
 use Rattle.table.specs.First.Laws.{orElse-out, orElse-in, unless-out, unless-in}
 use Rattle.table.specs.Table.{Term, stop, fail, prefix, choice, par, call, Definition, size}
 use Rattle.table.specs.Context.{Followers}

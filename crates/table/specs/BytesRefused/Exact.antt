@@ -16,7 +16,7 @@ use Rattle.numbers.specs.Every.{all-right}
 use Rattle.table.specs.First.Laws.{pass-out}
 use Rattle.table.specs.Table.{Table}
 use Rattle.table.specs.Tokens.{listTokens, byteTokens}
-use Rattle.table.specs.Tokens.Laws.{Cut, follows-list}
+use Rattle.table.specs.Tokens.Laws.{follows-list}
 use Rattle.table.specs.Parser.{Result, got, refused}
 use Rattle.table.specs.Grammar.{table}
 use Rattle.table.specs.Grammar.Whole.{table-ok-sound}

@@ -3,7 +3,7 @@
 --     stream-cut, stream-off, stream-got     what the grammar says of the stream, by what it says of the list
 --     judge-no, judge-got                    the judgement of a stream from its reading
 -- Assumes nothing.
-use Prim.Native.Nat.{ℕ, zero, suc, _+_}
+use Prim.Native.Nat.{ℕ, suc, _+_}
 use native.Mathlib.Omega.{arith}
 use mathlib.Core.Path.{_≡_, refl, sym, ap, _∙_, subst}
 use mathlib.Core.Bool.{Bool, false}
@@ -14,7 +14,7 @@ use Rattle.table.specs.Table.{Table}
 use Rattle.table.specs.Tokens.{Tokens, token, ended, broken, listTokens, trailing, placeOf}
 use Rattle.table.specs.Tokens.Laws.{Follows}
 use Rattle.table.specs.Parser.{Result, got, refused}
-use Rattle.table.specs.Parser.Local.{Placed, prepend, prepend-append, values, Parted, parted}
+use Rattle.table.specs.Parser.Local.{Placed, prepend, prepend-append, values, parted}
 use Rattle.table.specs.Parser.Local.{Stuck, refusalOf, Ran, finished, stopped}
 use Rattle.table.specs.Grammar.{table}
 use Rattle.table.specs.Grammar.Whole.{table-ok-complete}
@@ -26,7 +26,7 @@ use Rattle.table.specs.References.{firstWrong}
 use Rattle.table.specs.Width.{tooWide}
 use Rattle.table.specs.Branches.{tooManyBranches}
 use Rattle.table.specs.Judge.{Judgement, accepted, declined, unlessMet, placed, judgeRead, judge}
-use Rattle.table.specs.Refusals.Stops.{Halves, prepend-list, places, list-prepend}
+use Rattle.table.specs.Refusals.Stops.{prepend-list, places, list-prepend}
 use Rattle.table.specs.BytesRefused.Stream.{Ends, short, loose}
 
 -- ---- a stream that ends, and the list of its numbers

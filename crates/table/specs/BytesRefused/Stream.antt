@@ -9,12 +9,12 @@ use native.Mathlib.Omega.{arith}
 use mathlib.Core.Path.{_≡_, refl, sym, ap, _∙_, subst}
 use mathlib.Core.Logic.{_⊎_, inl, inr}
 use mathlib.Core.List.{List, [], _∷_, _++_, append-assoc}
-use mathlib.Core.Option.{Option, none, some}
+use mathlib.Core.Option.{none, some}
 use lib.ListN.{length, take, length-append}
 use borrow.Author.Tests.{eq-eqb, ne-eqb}
 use Rattle.numbers.specs.Every.{All, all-right}
 use Rattle.numbers.specs.Number.{bytesOf, Bytes, Scan, value, truncated, malformed, readNumber, listBytes, scanWith}
-use Rattle.numbers.specs.Number.Laws.{Written, read-written, read-is-written, bytes-some}
+use Rattle.numbers.specs.Number.Laws.{read-written, read-is-written, bytes-some}
 use Rattle.table.specs.Tokens.{Tokens, token, ended, broken, byteToken, byteTokensWith, byteTokens, trailing}
 use Rattle.table.specs.Tokens.{placeOf}
 use Rattle.table.specs.Parser.Local.{Placed, prepend, values}

@@ -4,14 +4,12 @@
 --     setOk-out, setOk-in                 sets
 --     fields-out, fields-in               tables
 -- Assumes nothing.
-use Prim.Native.Nat.{ℕ, zero, suc, _+_, _≤_, _<_}
+use Prim.Native.Nat.{ℕ, suc, _≤_, _<_}
 use native.Mathlib.Omega.{arith}
-use native.Mathlib.Nat.{le-trans}
-use mathlib.Core.Path.{_≡_, refl}
 use mathlib.Core.List.{List, [], _∷_}
 use lib.ListN.{length}
 use Rattle.numbers.specs.Every.{All, all-imp, all-and}
-use Rattle.table.specs.Table.{SetRef, fixed, family, Term, stop, fail, prefix, choice, par, call, SetDef, one}
+use Rattle.table.specs.Table.{SetRef, Term, stop, fail, prefix, choice, par, call, SetDef, one}
 use Rattle.table.specs.Table.{each, Definition, Table}
 use Rattle.table.specs.Context.{Each}
 use Rattle.table.specs.Context.Laws.{each-imp, each-and}

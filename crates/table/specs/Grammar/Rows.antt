@@ -5,7 +5,7 @@
 -- Assumes nothing.
 use Prim.Native.Nat.{ℕ, zero, suc, _+_, _≤_, _<_}
 use native.Mathlib.Omega.{arith}
-use mathlib.Core.Path.{_≡_, refl, sym, ap, _∙_, subst}
+use mathlib.Core.Path.{_≡_, refl, sym, subst}
 use mathlib.Core.Bool.{Bool, true, false, _&&_}
 use mathlib.Core.List.{List, [], _∷_, _++_, flatMap}
 use lib.ListN.{length, length-append}
@@ -14,13 +14,12 @@ use Rattle.numbers.specs.Choice.{both-in}
 use Rattle.numbers.specs.Every.{All}
 use Rattle.table.specs.Table.{SetDef, one, each, Table}
 use Rattle.table.specs.Rows.{alphabetMost, largeAbove, largeRowsMost, rowCount, rowsOf, rowsIn, allRows, RowsFit}
-use Rattle.table.specs.Rows.{rowsFit}
 use Rattle.table.specs.Rows.Laws.{fits-no, fit-less}
 use Rattle.table.specs.Fields.{FamilyRows, Fields}
 use Rattle.table.specs.Fields.Laws.{fields-in}
 use Rattle.table.specs.Tokens.{Tokens, token, listTokens}
-use Rattle.table.specs.Tokens.Laws.{Follows, Between, follows-split, list-follows}
-use Rattle.table.specs.Parser.{Result, got, refused, Parser, number, andThen}
+use Rattle.table.specs.Tokens.Laws.{Follows, follows-split, list-follows}
+use Rattle.table.specs.Parser.{refused, number}
 use Rattle.table.specs.Parser.Laws.{then-in, number-in}
 use Rattle.table.specs.Parser.Steps.{then-stop}
 use Rattle.table.specs.Grammar.{kindFits, eventSet, eventSets, table}

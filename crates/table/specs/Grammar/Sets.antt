@@ -7,21 +7,20 @@
 -- Assumes nothing.
 use Prim.Native.Nat.{ℕ, zero, suc, _+_, _≤_, _<_}
 use native.Mathlib.Omega.{arith}
-use mathlib.Core.Path.{_≡_, refl, sym, ap, _∙_, subst}
-use mathlib.Core.Bool.{Bool, true, false, _&&_}
-use mathlib.Core.List.{List, [], _∷_, _++_, flatMap}
+use mathlib.Core.Path.{_≡_, refl, sym, ap, subst}
+use mathlib.Core.List.{List, [], _∷_, flatMap}
 use lib.ListN.{length}
-use lib.Dec.{T, leb, ltb, leb→le, le→leb, ltb→lt, lt→ltb}
+use lib.Dec.{leb, ltb, leb→le, le→leb, ltb→lt, lt→ltb}
 use Rattle.numbers.specs.Choice.{both, both-in}
 use Rattle.numbers.specs.Every.{All}
 use Rattle.table.specs.Table.{SetDef, one, each}
 use Rattle.table.specs.Rows.{rowCount, rowsOf, rowsIn, RowsFit, rowsFit}
 use Rattle.table.specs.Rows.Laws.{fits-out, fits-in, fit-less}
 use Rattle.table.specs.Tokens.{Tokens}
-use Rattle.table.specs.Tokens.Laws.{Follows, Between, follows-split, follows-join}
-use Rattle.table.specs.Parser.{Result, got, refused, Parser, number, pure, andThen, times}
-use Rattle.table.specs.Parser.Laws.{pure-out, Split, then-out, then-in, number-out, number-in, Sound, Complete}
-use Rattle.table.specs.Parser.Laws.{Read, times-sound, times-complete}
+use Rattle.table.specs.Tokens.Laws.{Follows, follows-split, follows-join}
+use Rattle.table.specs.Parser.{got, pure}
+use Rattle.table.specs.Parser.Laws.{pure-out, then-out, then-in, number-out, number-in, Sound, Complete}
+use Rattle.table.specs.Parser.Laws.{times-sound, times-complete}
 use Rattle.table.specs.Grammar.{events, row, setOfKind, kindFits, eventSet, eventSets}
 use Rattle.table.specs.Writing.{rowNumbers, setNumbers}
 

@@ -3,22 +3,21 @@
 --     ref-sound, ref-complete      a set reference
 --     term-sound, term-complete    a term
 -- Assumes nothing.
-use Prim.Native.Nat.{ℕ, zero, suc, _+_, _≤_, _<_, max}
+use Prim.Native.Nat.{ℕ, zero, suc, _+_, _≤_, _<_}
 use native.Mathlib.Omega.{arith}
-use mathlib.Core.Path.{_≡_, refl, sym, ap, _∙_, subst}
-use mathlib.Core.Bool.{Bool, true, false, _&&_}
+use mathlib.Core.Path.{_≡_, refl, sym, subst}
 use mathlib.Core.List.{List, [], _∷_, _++_}
 use lib.ListN.{length, getD}
-use lib.Dec.{T, leb, ltb, leb→le, le→leb, ltb→lt, lt→ltb}
+use lib.Dec.{leb, ltb, leb→le, le→leb, ltb→lt, lt→ltb}
 use Rattle.numbers.specs.Choice.{both, both-in}
 use Rattle.table.specs.Table.{SetRef, fixed, family, Term, stop, fail, prefix, choice, par, call, SetDef, one}
 use Rattle.table.specs.Table.{each, size}
 use Rattle.table.specs.Context.{Each}
 use Rattle.table.specs.Fields.{IsOne, IsEach, RefExists, ParamSmall, OfRef, depthOf}
 use Rattle.table.specs.Tokens.{Tokens}
-use Rattle.table.specs.Tokens.Laws.{Follows, Between, follows-split, follows-join}
-use Rattle.table.specs.Parser.{Result, got, refused, Parser, number, pure, andThen}
-use Rattle.table.specs.Parser.Laws.{pure-out, Split, then-out, then-in, number-out, number-in, Sound, Complete}
+use Rattle.table.specs.Tokens.Laws.{Follows, follows-split, follows-join}
+use Rattle.table.specs.Parser.{Result, got, Parser, pure}
+use Rattle.table.specs.Parser.Laws.{pure-out, then-out, then-in, number-out, number-in, Sound, Complete}
 use Rattle.table.specs.Grammar.{refOfKind, setRef, termOfKind, termWith}
 use Rattle.table.specs.Writing.{refNumbers, termNumbers}
 

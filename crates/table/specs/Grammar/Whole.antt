@@ -2,28 +2,26 @@
 --     DefinitionOk, TableOk               a definition, a table within the bounds
 --     table-ok-sound, table-ok-complete   a table
 -- Assumes nothing.
-use Prim.Native.Nat.{ℕ, zero, suc, _+_, _≤_, _<_}
+use Prim.Native.Nat.{ℕ, zero, suc, _+_, _≤_}
 use native.Mathlib.Omega.{arith}
-use mathlib.Core.Path.{_≡_, refl, sym, ap, _∙_, subst}
-use mathlib.Core.Bool.{Bool, true, false, _&&_}
+use mathlib.Core.Path.{_≡_, refl, sym, ap, subst}
 use mathlib.Core.List.{List, [], _∷_, _++_, flatMap}
 use lib.ListN.{length}
-use lib.Dec.{T, leb, ltb, leb→le, le→leb, ltb→lt, lt→ltb}
+use lib.Dec.{leb, leb→le, le→leb}
 use Rattle.numbers.specs.Choice.{both, both-in}
-use Rattle.numbers.specs.Every.{All, all-imp, all-and}
-use Rattle.table.specs.Table.{Term, SetDef, one, each, Definition, Table, size, sizes, termCount}
+use Rattle.numbers.specs.Every.{All}
+use Rattle.table.specs.Table.{SetDef, one, Definition, Table, size, sizes, termCount}
 use Rattle.table.specs.Rows.{alphabetMost, rowsIn, RowsFit}
 use Rattle.table.specs.Rows.Laws.{fit-less}
 use Rattle.table.specs.Context.{Each}
-use Rattle.table.specs.Context.Laws.{each-imp, each-and}
-use Rattle.table.specs.Fields.{RefExists, ParamSmall, OfRef, depthOf, Ascending, EachRow, FamilyRows, Fields}
+use Rattle.table.specs.Fields.{OfRef, depthOf}
 use Rattle.table.specs.Tokens.{Tokens}
-use Rattle.table.specs.Tokens.Laws.{Follows, Between, follows-split, follows-join}
-use Rattle.table.specs.Parser.{Result, got, refused, Parser, number, pure, andThen, times}
-use Rattle.table.specs.Parser.Laws.{pure-out, Split, then-out, then-in, number-out, number-in, Sound, Complete}
-use Rattle.table.specs.Grammar.{eventSets, termWith, definition, definitionsOf, table}
-use Rattle.table.specs.Grammar.Sets.{SetOk, ReadSets, sets-sound, sets-complete}
-use Rattle.table.specs.Grammar.Terms.{RefOk, ReadTerm, term-sound, term-complete}
+use Rattle.table.specs.Tokens.Laws.{Follows, follows-split, follows-join}
+use Rattle.table.specs.Parser.{got, pure}
+use Rattle.table.specs.Parser.Laws.{pure-out, then-out, then-in, number-out, number-in, Sound, Complete}
+use Rattle.table.specs.Grammar.{definition, definitionsOf, table}
+use Rattle.table.specs.Grammar.Sets.{SetOk, sets-sound, sets-complete}
+use Rattle.table.specs.Grammar.Terms.{RefOk, term-sound, term-complete}
 use Rattle.table.specs.Writing.{setNumbers, termNumbers, definitionNumbers, numbersOf}
 
 -- ---- definitions

@@ -3,24 +3,23 @@
 --     AcceptedList, list-out, list-in          a number list
 --     AcceptedBytes, bytes-out, bytes-in       bytes
 -- Assumes nothing.
-use Prim.Native.Nat.{ℕ, zero, suc, _+_, _≤_, _<_}
+use Prim.Native.Nat.{ℕ, _+_, _≤_}
 use native.Mathlib.Omega.{arith}
 use mathlib.Core.Path.{_≡_, refl, sym, ap, _∙_, subst}
 use mathlib.Core.Bool.{Bool, true, false, cond}
-use mathlib.Core.List.{List, [], _∷_}
+use mathlib.Core.List.{List}
 use mathlib.Core.Option.{Option, none, some}
 use lib.ListN.{length}
 use lib.Dec.{ltb}
-use borrow.Author.Tests.{le-ltb, lt-ltb, ltb-false}
+use borrow.Author.Tests.{le-ltb, ltb-false}
 use Rattle.table.specs.Table.{Table}
 use Rattle.numbers.specs.Number.{listBytes}
 use Rattle.numbers.specs.Number.{Bytes}
-use Rattle.table.specs.Tokens.{Tokens, ended, byteTokensWith, byteTokens, listTokens, trailing, placeOf}
+use Rattle.table.specs.Tokens.{Tokens, ended, byteTokensWith, byteTokens, listTokens, trailing}
 use Rattle.table.specs.Tokens.Laws.{Follows, list-whole, whole-list, nothing-left, bytes-whole, whole-bytes}
 use Rattle.table.specs.Parser.{Result, got, refused}
 use Rattle.table.specs.Grammar.{table}
-use Rattle.table.specs.Grammar.Whole.{TableOk, table-ok-sound, table-ok-complete}
-use Rattle.table.specs.Fields.{Fields}
+use Rattle.table.specs.Grammar.Whole.{table-ok-sound, table-ok-complete}
 use Rattle.table.specs.Fields.Laws.{fields-in, fields-out}
 use Rattle.table.specs.Writing.{numbersOf}
 use Rattle.table.specs.Writing.Laws.{numbers-small}

@@ -6,7 +6,7 @@ use Prim.Native.Nat.{ℕ, zero, suc, _+_}
 use native.Mathlib.Omega.{arith}
 use mathlib.Core.Path.{_≡_, refl, sym, ap, _∙_, subst}
 use mathlib.Core.Bool.{Bool}
-use mathlib.Core.List.{List, [], _∷_, _++_}
+use mathlib.Core.List.{List, [], _∷_}
 use lib.ListN.{length}
 use lib.Dec.{leb}
 use Rattle.numbers.specs.Every.{All}
@@ -17,7 +17,7 @@ use Rattle.table.specs.Parser.Sees.{Sees, sees-iff, NumberR, PureR, sees
 use Rattle.table.specs.Parser.SeesThen.{ThenR, sees-then}
 use Rattle.table.specs.Grammar.{definition, definitionsOf}
 use Rattle.table.specs.Marks.{termMarks, definitionMarks, definitionsMarks, BodyShape}
-use Rattle.table.specs.Marks.Sequence.{join, last, Any, any-number, then-pure}
+use Rattle.table.specs.Marks.Sequence.{join, last, AnyForm, any-number, then-pure}
 use Rattle.table.specs.Marks.TooDeep.{TermR}
 use Rattle.table.specs.Marks.Terms.{sees-term}
 
@@ -32,7 +32,7 @@ module _ (sets : List SetDef) where
   DefinitionR n d M = BodyShape sets d × (M ≡ definitionMarks sets n d)
 
   abbrev DefinitionT : ℕ → Definition → List Mark → Type 0
-  DefinitionT n = ThenR (NumberR levelOk Any) (λ l. ThenR (TermR sets 32 n) (λ p. PureR (defined l p)))
+  DefinitionT n = ThenR (NumberR levelOk AnyForm) (λ l. ThenR (TermR sets 32 n) (λ p. PureR (defined l p)))
 
   definition-to : (n : ℕ) (d : Definition) (M : List Mark) → DefinitionT n d M → DefinitionR n d M
   unfolding definitionMarks
@@ -64,7 +64,7 @@ module _ (sets : List SetDef) where
   unfolding definition
   sees-definition n =
       sees-iff (DefinitionT n) (DefinitionR n) _ (definition-to n) (definition-from n)
-      (sees-then (NumberR levelOk Any) (λ l. ThenR (TermR sets 32 n) (λ p. PureR (defined l p))) _ _
+      (sees-then (NumberR levelOk AnyForm) (λ l. ThenR (TermR sets 32 n) (λ p. PureR (defined l p))) _ _
       (any-number levelOk)
       (λ l M r. sees-then (TermR sets 32 n) (λ p. PureR (defined l p)) _ _ (sees-term sets 32 n)
       (λ p N q. sees-pure (defined l p))))

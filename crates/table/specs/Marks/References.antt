@@ -15,7 +15,7 @@ use Rattle.table.specs.Parser.Sees.{Sees, sees-iff, NumberR, PureR, sees
 use Rattle.table.specs.Parser.SeesThen.{ThenR, sees-then}
 use Rattle.table.specs.Grammar.{refOfKind, setRef}
 use Rattle.table.specs.Marks.{refMarks, RefShape}
-use Rattle.table.specs.Marks.Sequence.{join, last, Any, any-number, then-pure}
+use Rattle.table.specs.Marks.Sequence.{join, last, AnyForm, any-number, then-pure}
 
 module _ (sets : List SetDef) where
   abbrev pub RefR : SetRef → List Mark → Type 0
@@ -29,10 +29,10 @@ module _ (sets : List SetDef) where
 
   abbrev RefKindR : ℕ → SetDef → SetRef → List Mark → Type 0
   RefKindR s (one r) = PureR (fixed s)
-  RefKindR s (each rs) = ThenR (NumberR paramOk Any) (λ k. PureR (family s k))
+  RefKindR s (each rs) = ThenR (NumberR paramOk AnyForm) (λ k. PureR (family s k))
 
   abbrev RefT : SetRef → List Mark → Type 0
-  RefT = ThenR (NumberR setOk Any) (λ s. RefKindR s (getD sets s (one [])))
+  RefT = ThenR (NumberR setOk AnyForm) (λ s. RefKindR s (getD sets s (one [])))
 
   ref-kind-to : (s : ℕ) (d : SetDef) → getD sets s (one []) ≡ d → (r : SetRef) (M N : List Mark) → RefKindR s d r N
       → M ≡ mark s (setOk s) ∷ N → RefR r M
@@ -60,7 +60,7 @@ module _ (sets : List SetDef) where
   kind-each : (s k : ℕ) (d : SetDef) → IsEach d → RefKindR s d (family s k) (mark k (paramOk k) ∷ [])
   kind-each s k (one r) h = absurd h
   kind-each s k (each rs) h =
-      then-pure (NumberR paramOk Any) (family s) k (mark k (paramOk k) ∷ []) (tt, refl)
+      then-pure (NumberR paramOk AnyForm) (family s) k (mark k (paramOk k) ∷ []) (tt, refl)
 
   ref-from : (r : SetRef) (M : List Mark) → RefR r M → RefT r M
   unfolding refMarks
@@ -87,12 +87,12 @@ module _ (sets : List SetDef) where
   unfolding refOfKind
   sees-ref-kind s (one r) = sees-pure (fixed s)
   sees-ref-kind s (each rs) =
-      sees-then (NumberR paramOk Any) (λ k. PureR (family s k)) _ _ (any-number paramOk)
+      sees-then (NumberR paramOk AnyForm) (λ k. PureR (family s k)) _ _ (any-number paramOk)
       (λ k M r. sees-pure (family s k))
 
   pub sees-ref : Sees RefR (setRef sets)
   unfolding setRef
   sees-ref =
       sees-iff RefT RefR _ ref-to ref-from
-      (sees-then (NumberR setOk Any) (λ s. RefKindR s (getD sets s (one []))) _ _ (any-number setOk)
+      (sees-then (NumberR setOk AnyForm) (λ s. RefKindR s (getD sets s (one []))) _ _ (any-number setOk)
       (λ s M r. sees-ref-kind s (getD sets s (one []))))

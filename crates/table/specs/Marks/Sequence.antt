@@ -1,6 +1,6 @@
 -- Marked writings put together: one after another, and so many of one kind.
 --     join, last           a list of marks in two parts, each known; the second of them empty
---     Any, any-number      one number of any form
+--     AnyForm, any-number  one number of any form
 --     then-pure            a writing and nothing after it
 --     ItemR, SeqR          the marked writings of one thing, of so many things
 --     sees-times           `Sees` is kept by `times`
@@ -24,11 +24,11 @@ join M a b a' b' e p q = cc
 pub last : (M a b : List Mark) → M ≡ a ++ b → b ≡ [] → M ≡ a
 last M a b e p = e ∙ ap (λ (x : List Mark). a ++ x) p ∙ append-nil a
 
-abbrev pub Any : ℕ → Type 0
-Any v = Unit
+abbrev pub AnyForm : ℕ → Type 0
+AnyForm v = Unit
 
-pub any-number : (ok : ℕ → Bool) → Sees (NumberR ok Any) (number ok)
-any-number ok = sees-number ok Any 0 tt (λ v e. tt)
+pub any-number : (ok : ℕ → Bool) → Sees (NumberR ok AnyForm) (number ok)
+any-number ok = sees-number ok AnyForm 0 tt (λ v e. tt)
 
 module _ {A B : Type 0} (R : A → List Mark → Type 0) (f : A → B) where
   pub then-pure : (a : A) (M : List Mark) → R a M → ThenR R (λ x. PureR (f x)) (f a) M

@@ -6,7 +6,7 @@ use Prim.Native.Nat.{ℕ, zero, suc, _+_, _≤_}
 use native.Mathlib.Omega.{arith}
 use mathlib.Core.Path.{_≡_, refl, sym, ap, _∙_, subst}
 use mathlib.Core.Bool.{Bool, true, _&&_}
-use mathlib.Core.List.{List, [], _∷_, _++_, flatMap}
+use mathlib.Core.List.{List, [], _∷_, flatMap}
 use lib.ListN.{length}
 use lib.Dec.{ltb, leb}
 use borrow.Author.Tests.{leb-true}
@@ -21,7 +21,7 @@ use Rattle.table.specs.Parser.Sees.{Sees, sees-iff, NumberR, sees-number
 use Rattle.table.specs.Parser.SeesThen.{ThenR, sees-then}
 use Rattle.table.specs.Grammar.{events, row, setOfKind, kindFits, eventSet, eventSets}
 use Rattle.table.specs.Marks.{eventMarks, rowMarks, setMarks, setsMarks}
-use Rattle.table.specs.Marks.Sequence.{join, last, Any, any-number, then-pure, SeqR, sees-times}
+use Rattle.table.specs.Marks.Sequence.{join, last, AnyForm, any-number, then-pure, SeqR, sees-times}
 
 -- ---- rows
 abbrev EventsR : ℕ → ℕ → ℕ → List ℕ → List Mark → Type 0
@@ -31,7 +31,7 @@ abbrev eventOk : ℕ → ℕ → ℕ → Bool
 eventOk A low e = leb low e && ltb e A
 
 abbrev EventsT : ℕ → ℕ → ℕ → List ℕ → List Mark → Type 0
-EventsT A n low = ThenR (NumberR (eventOk A low) Any) (λ e. ThenR (EventsR A n (suc e)) (λ es. PureR (e ∷ es)))
+EventsT A n low = ThenR (NumberR (eventOk A low) AnyForm) (λ e. ThenR (EventsR A n (suc e)) (λ es. PureR (e ∷ es)))
 
 events-to : (A n low : ℕ) (es : List ℕ) (M : List Mark) → EventsT A n low es M → EventsR A (suc n) low es M
 unfolding eventMarks
@@ -74,7 +74,7 @@ sees-events A zero low =
     (λ es M x. let e = empty-is es (x .0) in (e, x .1 ∙ ap (eventMarks A low) e)) (sees-pure [])
 sees-events A (suc n) low =
     sees-iff (EventsT A n low) (EventsR A (suc n) low) _ (events-to A n low) (events-from A n low)
-    (sees-then (NumberR (eventOk A low) Any) (λ e. ThenR (EventsR A n (suc e)) (λ es. PureR (e ∷ es))) _ _
+    (sees-then (NumberR (eventOk A low) AnyForm) (λ e. ThenR (EventsR A n (suc e)) (λ es. PureR (e ∷ es))) _ _
     (any-number (eventOk A low))
     (λ e M r. sees-then (EventsR A n (suc e)) (λ es. PureR (e ∷ es)) _ _ (sees-events A n (suc e))
     (λ es N q. sees-pure (e ∷ es))))
@@ -83,7 +83,7 @@ abbrev RowR : ℕ → List ℕ → List Mark → Type 0
 RowR A r M = Unit {0} × (M ≡ rowMarks A r)
 
 abbrev RowT : ℕ → List ℕ → List Mark → Type 0
-RowT A = ThenR (NumberR (λ c. leb c A) Any) (λ c. EventsR A c 0)
+RowT A = ThenR (NumberR (λ c. leb c A) AnyForm) (λ c. EventsR A c 0)
 
 row-to : (A : ℕ) (r : List ℕ) (M : List Mark) → RowT A r M → RowR A r M
 unfolding rowMarks
@@ -112,7 +112,7 @@ sees-row : (A : ℕ) → Sees (RowR A) (row A)
 unfolding row
 sees-row A =
     sees-iff (RowT A) (RowR A) _ (row-to A) (row-from A)
-    (sees-then (NumberR (λ c. leb c A) Any) (λ c. EventsR A c 0) _ _ (any-number (λ c. leb c A))
+    (sees-then (NumberR (λ c. leb c A) AnyForm) (λ c. EventsR A c 0) _ _ (any-number (λ c. leb c A))
     (λ c M r. sees-events A c 0))
 
 -- ---- sets

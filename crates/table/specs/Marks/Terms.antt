@@ -15,7 +15,7 @@ use Rattle.table.specs.Parser.Sees.{Sees, sees-iff, NumberR, sees-number
 use Rattle.table.specs.Parser.SeesThen.{ThenR, sees-then}
 use Rattle.table.specs.Grammar.{termOfKind, termWith}
 use Rattle.table.specs.Marks.{refMarks, kindOk, oneLess, termMarks}
-use Rattle.table.specs.Marks.Sequence.{join, last, Any, any-number, then-pure}
+use Rattle.table.specs.Marks.Sequence.{join, last, AnyForm, any-number, then-pure}
 use Rattle.table.specs.Marks.References.{RefR, sees-ref}
 use Rattle.table.specs.Marks.TooDeep.{TermR, sees-deep}
 
@@ -37,7 +37,7 @@ module _ (sets : List SetDef) where
     ParR = ThenR (RefR sets) (λ r. ThenR (Sub (suc n)) (λ p. ThenR (Sub (suc n + size p)) (λ q. PureR (par r p q))))
 
     abbrev CallR : Term → List Mark → Type 0
-    CallR = ThenR (NumberR (λ d. true) Any) (λ d. PureR (call d))
+    CallR = ThenR (NumberR (λ d. true) AnyForm) (λ d. PureR (call d))
 
     abbrev KindR : ℕ → Term → List Mark → Type 0
     KindR zero = PureR stop
@@ -194,7 +194,7 @@ module _ (sets : List SetDef) where
           one = mark 5 (ltb n 1024) ∷ [];
           two = mark d true ∷ [];
           writes-one = (omega arith, refl);
-          writes-two = then-pure (NumberR (λ c. true) Any) call d (mark d true ∷ []) (tt, refl);
+          writes-two = then-pure (NumberR (λ c. true) AnyForm) call d (mark d true ∷ []) (tt, refl);
           whole = x .1;
         }
 
@@ -218,7 +218,7 @@ module _ (sets : List SetDef) where
           (λ p N y. sees-then (Sub (suc n + size p)) (λ q. PureR (par r p q)) _ _ (s (suc n + size p))
           (λ q L z. sees-pure (par r p q))))
       sees-kind (suc (suc (suc (suc (suc k))))) =
-          sees-then (NumberR (λ d. true) Any) (λ d. PureR (call d)) _ _ (any-number (λ d. true))
+          sees-then (NumberR (λ d. true) AnyForm) (λ d. PureR (call d)) _ _ (any-number (λ d. true))
           (λ d M x. sees-pure (call d))
 
     kind-form : (v : ℕ) → kindTest v ≡ true → v < 6

@@ -13,9 +13,9 @@ use Rattle.table.specs.Table.{Term, stop, fail, prefix, choice, par, cal
 use Rattle.table.specs.Context.{Each}
 use Rattle.table.specs.Fields.{OfRef}
 use Rattle.table.specs.Tokens.{Tokens, listTokens}
-use Rattle.table.specs.Parser.{Result, got, refused, number, next, andThen}
+use Rattle.table.specs.Parser.{got, refused, number, next, andThen}
 use Rattle.table.specs.Parser.Mark.{Mark, mark, numbers, Pass}
-use Rattle.table.specs.Parser.Sees.{Whole, Part, Sees}
+use Rattle.table.specs.Parser.Sees.{Whole, Partial, Sees}
 use Rattle.table.specs.Grammar.{termWith}
 use Rattle.table.specs.Marks.{kindOk, termMarks, RefShape}
 
@@ -72,7 +72,7 @@ module _ (sets : List SetDef) where
       out i (v ∷ l) a rest e = let x = deep-off n i v l in let z : _≡_ {A = ℕ} 0 1 = cc in absurd (omega arith)
 
       cutting : (i : ℕ) (l : List ℕ) (k : ℕ) → termWith sets zero n (listTokens i l) ≡ refused 3 k
-          → Part (TermR zero n) l
+          → Partial (TermR zero n) l
       cutting i [] k e =
           record {
             what = stop;

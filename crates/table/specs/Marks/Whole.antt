@@ -15,7 +15,7 @@ use Rattle.table.specs.Parser.Sees.{Sees, sees-iff, NumberR, PureR, sees
 use Rattle.table.specs.Parser.SeesThen.{ThenR, sees-then}
 use Rattle.table.specs.Grammar.{table}
 use Rattle.table.specs.Marks.{setsMarks, definitionsMarks, tableMarks, Shape}
-use Rattle.table.specs.Marks.Sequence.{join, last, Any, any-number, then-pure}
+use Rattle.table.specs.Marks.Sequence.{join, last, AnyForm, any-number, then-pure}
 use Rattle.table.specs.Marks.Sets.{SetsR, sees-sets}
 use Rattle.table.specs.Marks.Definitions.{DefinitionsR, sees-definitions}
 
@@ -38,16 +38,16 @@ abbrev T5 : ℕ → List SetDef → ℕ → Table → List Mark → Type 0
 T5 a ss c = ThenR (DefinitionsR ss c 0) (λ ds. PureR (made a ss ds))
 
 abbrev T4 : ℕ → List SetDef → Table → List Mark → Type 0
-T4 a ss = ThenR (NumberR definitionsOk Any) (λ c. T5 a ss c)
+T4 a ss = ThenR (NumberR definitionsOk AnyForm) (λ c. T5 a ss c)
 
 abbrev T3 : ℕ → ℕ → Table → List Mark → Type 0
 T3 a c = ThenR (SetsR a c 0) (λ ss. T4 a ss)
 
 abbrev T2 : ℕ → Table → List Mark → Type 0
-T2 a = ThenR (NumberR setsOk Any) (λ c. T3 a c)
+T2 a = ThenR (NumberR setsOk AnyForm) (λ c. T3 a c)
 
 abbrev TableT : Table → List Mark → Type 0
-TableT = ThenR (NumberR alphabetOk Any) (λ a. T2 a)
+TableT = ThenR (NumberR alphabetOk AnyForm) (λ a. T2 a)
 
 -- a table's marks, with its two counts by themselves
 abbrev laid : ℕ → List SetDef → List Definition → ℕ → ℕ → List Mark
@@ -124,10 +124,10 @@ pub sees-table : Sees TableR table
 unfolding table
 sees-table =
     sees-iff TableT TableR _ table-to table-from
-    (sees-then (NumberR alphabetOk Any) (λ a. T2 a) _ _ (any-number alphabetOk) (λ a M r.
-    sees-then (NumberR setsOk Any) (λ c. T3 a c) _ _ (any-number setsOk) (λ c M r.
+    (sees-then (NumberR alphabetOk AnyForm) (λ a. T2 a) _ _ (any-number alphabetOk) (λ a M r.
+    sees-then (NumberR setsOk AnyForm) (λ c. T3 a c) _ _ (any-number setsOk) (λ c M r.
     sees-then (SetsR a c 0) (λ ss. T4 a ss) _ _
     (sees-sets a c 0) (λ ss M r.
-    sees-then (NumberR definitionsOk Any) (λ c. T5 a ss c) _ _ (any-number definitionsOk) (λ c M r.
+    sees-then (NumberR definitionsOk AnyForm) (λ c. T5 a ss c) _ _ (any-number definitionsOk) (λ c M r.
     sees-then (DefinitionsR ss c 0) (λ ds. PureR (made a ss ds)) _ _ (sees-definitions ss c 0) (λ ds M r.
     sees-pure (made a ss ds)))))))

@@ -1,7 +1,7 @@
 -- The marked writing of a table is its writing: without the marks it is `numbersOf`.
 --     table-numbers    the law
 -- Assumes nothing.
-use Prim.Native.Nat.{ℕ, zero, suc, _+_}
+use Prim.Native.Nat.{ℕ, suc, _+_}
 use mathlib.Core.Path.{_≡_, refl, ap, ap₂, _∙_}
 use mathlib.Core.Bool.{_&&_}
 use mathlib.Core.List.{List, [], _∷_, _++_, flatMap}
@@ -12,7 +12,7 @@ use Rattle.table.specs.Table.{each}
 use Rattle.table.specs.Table.{Definition, Table, size}
 use Rattle.table.specs.Writing.{rowNumbers, setNumbers, refNumbers, termNumbers, definitionNumbers, numbersOf}
 use Rattle.table.specs.Parser.Mark.{Mark, mark, numbers, numbers-append}
-use Rattle.table.specs.Rows.{alphabetMost, rowsOf}
+use Rattle.table.specs.Rows.{rowsOf}
 use Rattle.table.specs.Marks.{eventMarks, rowMarks, setMarks, setsMarks, refMarks, oneLess, termMarks}
 use Rattle.table.specs.Marks.{definitionMarks, definitionsMarks, tableMarks}
 

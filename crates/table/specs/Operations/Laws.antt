@@ -4,7 +4,7 @@
 --     writes-back, reads-back            the round trips
 --     read-fills                         Read's output keeps its length
 -- Assumes nothing.
-use Prim.Native.Nat.{ℕ, zero, suc, _+_, _-_, _≤_, _<_}
+use Prim.Native.Nat.{ℕ, zero, suc, _+_, _-_, _≤_}
 use native.Mathlib.Omega.{arith}
 use mathlib.Core.Path.{_≡_, refl, sym, ap, _∙_, subst}
 use mathlib.Core.Bool.{Bool, true, false, cond, _&&_}
@@ -12,16 +12,14 @@ use mathlib.Core.List.{List, [], _∷_, _++_}
 use lib.ListN.{length, take, drop, length-append}
 use lib.Seq.{take-append-seam}
 use lib.Dec.{eqb, leb}
-use borrow.Author.Tests.{eq-eqb, eqb-true, le-leb, leb-true}
+use borrow.Author.Tests.{eq-eqb, eqb-true, le-leb}
 use Rattle.table.specs.Table.{Table}
 use Rattle.numbers.specs.Number.{bytesOf, listBytes}
 use Rattle.numbers.specs.Number.{Bytes}
 use Rattle.numbers.specs.Number.Laws.{bytes-some}
-use Rattle.table.specs.Writing.{numbersOf}
-use Rattle.table.specs.Rules.{Rules}
 use Rattle.table.specs.Judge.{Judgement, accepted, declined, judgeList, judgeBytes}
-use Rattle.table.specs.Judge.Laws.{AcceptedList, list-out, list-in, AcceptedBytes, bytes-out, bytes-in}
-use Rattle.table.specs.Operations.{Answer, done, refusal, Outcome, zeros, measured, readJudged, readOf}
+use Rattle.table.specs.Judge.Laws.{list-out, list-in, bytes-out, bytes-in}
+use Rattle.table.specs.Operations.{done, refusal, Outcome, zeros, measured, readJudged, readOf}
 use Rattle.table.specs.Operations.{writeJudged, writeOf}
 
 -- ---- Read that gave a count

@@ -13,7 +13,7 @@ use borrow.Author.Tests.{eq-eqb, ne-eqb, eqb-true, eqb-false, lt-leb}
 use Rattle.numbers.specs.Number.{listBytes}
 use Rattle.table.specs.Table.{Table}
 use Rattle.table.specs.Judge.{Judgement, accepted, declined, judgeBytes, judgeList}
-use Rattle.table.specs.Operations.{done, refusal, Outcome, zeros, measured, readJudged, readOf, writeJudged}
+use Rattle.table.specs.Operations.{refusal, zeros, measured, readJudged, readOf, writeJudged}
 use Rattle.table.specs.Operations.{writeOf, ReadWay, readUnfit, readDeclined, readAccepted, WriteWay, writeUnfit}
 use Rattle.table.specs.Operations.{writeDeclined, writeShort, writeAccepted}
 use Rattle.table.specs.Operations.Laws.{read-accepted, write-accepted}

@@ -4,17 +4,17 @@
 --     Sound, Complete                   a parser reads just what is written, within its bounds; and reads all of that
 --     times-sound, times-complete       so many things of one kind
 -- Assumes nothing.
-use Prim.Native.Nat.{ℕ, zero, suc, _+_}
+use Prim.Native.Nat.{ℕ, zero, suc}
 use native.Mathlib.Omega.{arith}
-use mathlib.Core.Path.{_≡_, refl, sym, ap, _∙_, subst}
+use mathlib.Core.Path.{_≡_, refl, ap}
 use mathlib.Core.Bool.{Bool, true, false, cond}
-use mathlib.Core.List.{List, [], _∷_, _++_, flatMap}
+use mathlib.Core.List.{List, [], _∷_, flatMap}
 use lib.ListN.{length}
 use lib.Dec.{T}
 use Rattle.numbers.specs.Choice.{T-true, true-T}
 use Rattle.numbers.specs.Every.{All}
 use Rattle.table.specs.Tokens.{Tokens, token, ended, broken}
-use Rattle.table.specs.Tokens.Laws.{Follows, Between, follows-split, follows-join}
+use Rattle.table.specs.Tokens.Laws.{Follows, follows-split, follows-join}
 use Rattle.table.specs.Parser.{Result, got, refused, Parser, number, pure, next, andThen, times}
 
 -- ---- pure and andThen

@@ -1,5 +1,5 @@
 -- A parser against the marked writings of what it reads.
---     Whole, Part               a number list is a writing and then more; or the beginning of one, and its numbers pass
+--     Whole, Partial            a number list is a writing and then more; or the beginning of one, and its numbers pass
 --     Sees R p                  on a number list p reads, ends early or refuses just as R's marked writings say
 --     sees-number, sees-pure    one number; nothing
 -- One thing and then another is in `SeesThen`. Assumes nothing.
@@ -24,7 +24,7 @@ module _ {A : Type 0} (R : A → List Mark → Type 0) where
     pub stream : rest ≡ listTokens (i + length marks) more
 
   -- l is a beginning of a writing, and its numbers pass
-  pub record Part (l : List ℕ) : Type 0 where
+  pub record Partial (l : List ℕ) : Type 0 where
     pub what : A
     pub front : List Mark
     pub at : Mark
@@ -38,7 +38,7 @@ module _ {A : Type 0} (R : A → List Mark → Type 0) where
     pub marks : List Mark
     pub writes : R value marks
     pub got-out : (i : ℕ) (l : List ℕ) (a : A) (rest : Tokens) → p (listTokens i l) ≡ got a rest → Whole i l a rest
-    pub cut-out : (i : ℕ) (l : List ℕ) (k : ℕ) → p (listTokens i l) ≡ refused 3 k → Part l
+    pub cut-out : (i : ℕ) (l : List ℕ) (k : ℕ) → p (listTokens i l) ≡ refused 3 k → Partial l
     pub got-in : (i : ℕ) (a : A) (M : List Mark) (more : List ℕ) → R a M → Pass M
         → p (listTokens i (numbers M ++ more)) ≡ got a (listTokens (i + length M) more)
     pub cut-in : (i : ℕ) (a : A) (M : List Mark) (m : Mark) (N : List Mark) → R a (M ++ (m ∷ N)) → Pass M
@@ -133,12 +133,12 @@ module _ (ok : ℕ → Bool) (form : ℕ → Type 0) where
       go false k = let x = number-off i v l k in let z : _≡_ {A = ℕ} 0 1 = cc in absurd (omega arith)
 
   n-cut-out : (v : ℕ) → form v → (i : ℕ) (l : List ℕ) (k : ℕ) → number ok (listTokens i l) ≡ refused 3 k
-      → Part (NumberR ok form) l
+      → Partial (NumberR ok form) l
   n-cut-out v f i [] k e =
       record { what = v; front = []; at = mark v (ok v); back = []; writes = (f, refl); pass = tt; list = refl }
   n-cut-out v f i (x ∷ l) k e = go (ok x) refl
     where
-      go : (b : Bool) → ok x ≡ b → Part (NumberR ok form) (x ∷ l)
+      go : (b : Bool) → ok x ≡ b → Partial (NumberR ok form) (x ∷ l)
       go true q = let y = number-got i x l q in let z : _≡_ {A = ℕ} 0 1 = cc in absurd (omega arith)
       go false q =
           let y = sym (number-off i x l q) ∙ e in

@@ -6,14 +6,14 @@ use Prim.Native.Nat.{ℕ, _+_}
 use native.Mathlib.Omega.{arith}
 use mathlib.Core.Path.{_≡_, refl, sym, ap, _∙_, subst}
 use mathlib.Core.Bool.{false, true}
-use mathlib.Core.List.{List, [], _∷_, _++_, append-assoc}
+use mathlib.Core.List.{List, _∷_, _++_, append-assoc}
 use lib.ListN.{length, length-append}
 use Rattle.numbers.specs.Every.{all-append}
 use Rattle.table.specs.Tokens.{Tokens, listTokens}
 use Rattle.table.specs.Parser.{Result, got, refused, Parser, next, andThen}
 use Rattle.table.specs.Parser.Mark.{Mark, numbers, Pass, numbers-append, pass-left, pass-right}
 use Rattle.table.specs.Parser.Mark.{Cuts, in-front, in-back, cuts}
-use Rattle.table.specs.Parser.Sees.{Whole, Part, Sees}
+use Rattle.table.specs.Parser.Sees.{Whole, Partial, Sees}
 
 module _ {A B : Type 0} (R : A → List Mark → Type 0) (S : A → B → List Mark → Type 0) where
   pub record ThenR (b : B) (M : List Mark) : Type 0 where
@@ -63,7 +63,7 @@ module _ {A B : Type 0} (R : A → List Mark → Type 0) (S : A → B → List M
             }
 
     -- the first thing ends early: any second thing completes the writing
-    t-early : (l : List ℕ) → Part R l → Part ThenR l
+    t-early : (l : List ℕ) → Partial R l → Partial ThenR l
     t-early l w =
         let x = u (w .what) _ (w .writes) in
         record {
@@ -83,11 +83,11 @@ module _ {A B : Type 0} (R : A → List Mark → Type 0) (S : A → B → List M
           list = w .list;
         }
 
-    t-cut-out : (i : ℕ) (l : List ℕ) (k : ℕ) → andThen p f (listTokens i l) ≡ refused 3 k → Part ThenR l
+    t-cut-out : (i : ℕ) (l : List ℕ) (k : ℕ) → andThen p f (listTokens i l) ≡ refused 3 k → Partial ThenR l
     unfolding andThen
     t-cut-out i l k e = go (p (listTokens i l)) refl e
       where
-        go : (r : Result A) → p (listTokens i l) ≡ r → next r f ≡ refused 3 k → Part ThenR l
+        go : (r : Result A) → p (listTokens i l) ≡ r → next r f ≡ refused 3 k → Partial ThenR l
         go (refused n at) q h =
             let h' : _≡_ {A = Result B} (refused n at) (refused 3 k) = unfold next in h in
             let z : n ≡ 3 = cc in

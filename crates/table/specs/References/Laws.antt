@@ -4,20 +4,17 @@
 -- Assumes nothing.
 use Prim.Native.Nat.{ℕ, zero, suc, _+_, _≤_, _<_}
 use native.Mathlib.Omega.{arith}
-use native.Mathlib.Decide.{decLt}
 use mathlib.Core.Path.{_≡_, refl}
-use mathlib.Core.Bool.{Bool, true, false, _&&_, _||_, not}
-use mathlib.Core.List.{List, [], _∷_, flatMap}
+use mathlib.Core.Bool.{Bool, true, false, _||_, not}
+use mathlib.Core.List.{List, [], _∷_}
 use mathlib.Core.Logic.{⊎-elim}
-use mathlib.Core.Option.{Option, none, some}
+use mathlib.Core.Option.{none}
 use lib.ListN.{length}
 use lib.Dec.{T, ltb, leb, leb→le, le→leb, ltb→lt, lt→ltb}
 use Rattle.numbers.specs.Choice.{both, both-in, either, either-left, either-right}
 use Rattle.numbers.specs.Every.{AllFrom}
-use Rattle.table.specs.First.{orElse, unless}
 use Rattle.table.specs.First.Laws.{orElse-out, orElse-in, unless-out, unless-in}
 use Rattle.table.specs.Table.{SetRef, fixed, family, Term, stop, fail, prefix, choice, par, call, Definition}
-use Rattle.table.specs.Table.{Table}
 use Rattle.table.specs.Context.{Context, outermost, underPrefix, underParallel, Enclosed, Throughout}
 use Rattle.table.specs.Fields.{OfRef, OfCall}
 use Rattle.table.specs.Writing.{refNumbers, termNumbers, definitionNumbers}

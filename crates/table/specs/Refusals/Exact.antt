@@ -17,9 +17,9 @@ use Rattle.table.specs.First.{firstFalse, FirstAt}
 use Rattle.table.specs.First.Laws.{first-in, first-out, pass-in, pass-out, first-short}
 use Rattle.table.specs.Table.{Table}
 use Rattle.table.specs.Tokens.{Tokens, ended, listTokens, trailing, placeOf}
-use Rattle.table.specs.Tokens.Laws.{Follows, Cut, list-follows, follows-list, whole-list, list-whole}
+use Rattle.table.specs.Tokens.Laws.{Follows, list-follows, follows-list, whole-list, list-whole}
 use Rattle.table.specs.Tokens.Laws.{nothing-left}
-use Rattle.table.specs.Parser.{Result, got, refused}
+use Rattle.table.specs.Parser.{got, refused}
 use Rattle.table.specs.Grammar.{table}
 use Rattle.table.specs.Grammar.Whole.{table-ok-sound, table-ok-complete}
 use Rattle.table.specs.Fields.{Fields}
@@ -27,11 +27,11 @@ use Rattle.table.specs.Fields.Laws.{fields-in, fields-out}
 use Rattle.table.specs.Writing.{numbersOf}
 use Rattle.table.specs.Judge.{Judgement, accepted, declined, unlessMet, placed, judgeRead, judge, sized}
 use Rattle.table.specs.Judge.{judgeList}
-use Rattle.table.specs.Judge.Laws.{Accepts, judge-out, judge-in}
+use Rattle.table.specs.Judge.Laws.{judge-out, judge-in}
 use Rattle.table.specs.Refusals.{links, narrowLevels, fewTerms, TrailingInput, BadReference, TooWide}
 use Rattle.table.specs.Refusals.{TooManyBranches, TooLong}
 use Rattle.table.specs.Refusals.Laws.{length-links, wrong-first, width-first, branches-first}
-use Rattle.table.specs.Refusals.Judged.{Judged, unparsed, over, wrong, wide, many, good, judged}
+use Rattle.table.specs.Refusals.Judged.{JudgedWay, unparsed, over, wrong, wide, many, good, judged}
 
 pub data Declined (l : List ℕ) (n at : ℕ) : Type 0 where
   unread : table (listTokens 0 l) ≡ refused n at → Declined l n at
@@ -97,7 +97,7 @@ module _ (l : List ℕ) where
       let z : r .0 ≡ k = omega arith in
       subst (λ (j : ℕ). FirstAt j bs) z (r .2)
 
-  judged-out : (n at : ℕ) (j : Judgement) → Judged ts j → j ≡ declined n at → Declined l n at
+  judged-out : (n at : ℕ) (j : Judgement) → JudgedWay ts j → j ≡ declined n at → Declined l n at
   judged-out n at j (unparsed m bt e q) d =
       let r = declined-same m bt n at (sym q ∙ d) in
       unread (subst (λ (k : ℕ). table ts ≡ refused k at) (r .0) (subst (λ (k : ℕ). table ts ≡ refused m k) (r .1) e))

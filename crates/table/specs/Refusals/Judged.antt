@@ -1,6 +1,6 @@
 -- Every way in which a stream is judged, in the order of the refusals (01, "When the monitor declines": "Order").
---     Judged    not read; read, and the first of 6, 7, 8, 9 that is met; accepted
---     judged    each stream is judged in one of these ways
+--     JudgedWay    not read; read, and the first of 6, 7, 8, 9 that is met; accepted
+--     judged       each stream is judged in one of these ways
 -- Assumes nothing.
 use Prim.Native.Nat.{ℕ}
 use mathlib.Core.Path.{_≡_, refl}
@@ -16,19 +16,19 @@ use Rattle.table.specs.Width.{tooWide}
 use Rattle.table.specs.Branches.{tooManyBranches}
 use Rattle.table.specs.Judge.{Judgement, accepted, declined, unlessMet, placed, judgeRead, judge}
 
-pub data Judged (ts : Tokens) (j : Judgement) : Type 0 where
-  unparsed : (n at : ℕ) → table ts ≡ refused n at → j ≡ declined n at → Judged ts j
+pub data JudgedWay (ts : Tokens) (j : Judgement) : Type 0 where
+  unparsed : (n at : ℕ) → table ts ≡ refused n at → j ≡ declined n at → JudgedWay ts j
   over : (t : Table) (rest : Tokens) (at : ℕ) → table ts ≡ got t rest → trailing rest ≡ some at → j ≡ declined 6 at
-      → Judged ts j
+      → JudgedWay ts j
   wrong : (t : Table) (rest : Tokens) (i : ℕ) → table ts ≡ got t rest → trailing rest ≡ none → firstWrong t ≡ some i
-      → j ≡ declined 7 (placeOf ts i) → Judged ts j
+      → j ≡ declined 7 (placeOf ts i) → JudgedWay ts j
   wide : (t : Table) (rest : Tokens) (at : ℕ) → table ts ≡ got t rest → trailing rest ≡ none → firstWrong t ≡ none
-      → tooWide t ≡ some at → j ≡ declined 8 at → Judged ts j
+      → tooWide t ≡ some at → j ≡ declined 8 at → JudgedWay ts j
   many : (t : Table) (rest : Tokens) (at : ℕ) → table ts ≡ got t rest → trailing rest ≡ none → firstWrong t ≡ none
-      → tooWide t ≡ none → tooManyBranches t ≡ some at → j ≡ declined 9 at → Judged ts j
-  good : (ns : List ℕ) (t : Table) → j ≡ accepted ns t → Judged ts j
+      → tooWide t ≡ none → tooManyBranches t ≡ some at → j ≡ declined 9 at → JudgedWay ts j
+  good : (ns : List ℕ) (t : Table) → j ≡ accepted ns t → JudgedWay ts j
 
-judged-read : (ts : Tokens) (r : Result Table) → table ts ≡ r → Judged ts (judgeRead ts r)
+judged-read : (ts : Tokens) (r : Result Table) → table ts ≡ r → JudgedWay ts (judgeRead ts r)
 unfolding judgeRead
 judged-read ts (refused n at) e = unparsed n at e refl
 judged-read ts (got t rest) e = six (trailing rest) refl
@@ -37,26 +37,26 @@ judged-read ts (got t rest) e = six (trailing rest) refl
     last = accepted (numbersOf t) t
 
     nine : trailing rest ≡ none → firstWrong t ≡ none → tooWide t ≡ none → (o : Option ℕ) → tooManyBranches t ≡ o
-        → Judged ts (unlessMet 9 o last)
+        → JudgedWay ts (unlessMet 9 o last)
     nine a b c none d = good (numbersOf t) t (unfold unlessMet in refl)
     nine a b c (some at) d = many t rest at e a b c d (unfold unlessMet in refl)
 
     eight : trailing rest ≡ none → firstWrong t ≡ none → (o : Option ℕ) → tooWide t ≡ o
-        → Judged ts (unlessMet 8 o (unlessMet 9 (tooManyBranches t) last))
+        → JudgedWay ts (unlessMet 8 o (unlessMet 9 (tooManyBranches t) last))
     eight a b none c = unfold unlessMet in nine a b c (tooManyBranches t) refl
     eight a b (some at) c = wide t rest at e a b c (unfold unlessMet in refl)
 
     seven : trailing rest ≡ none → (o : Option ℕ) → firstWrong t ≡ o
-        → Judged ts (unlessMet 7 (placed ts o) (unlessMet 8 (tooWide t) (unlessMet 9 (tooManyBranches t) last)))
+        → JudgedWay ts (unlessMet 7 (placed ts o) (unlessMet 8 (tooWide t) (unlessMet 9 (tooManyBranches t) last)))
     seven a none b = unfold unlessMet placed in eight a b (tooWide t) refl
     seven a (some i) b = wrong t rest i e a b (unfold unlessMet placed in refl)
 
     six : (o : Option ℕ) → trailing rest ≡ o
-        → Judged ts (unlessMet 6 o
+        → JudgedWay ts (unlessMet 6 o
         (unlessMet 7 (placed ts (firstWrong t)) (unlessMet 8 (tooWide t) (unlessMet 9 (tooManyBranches t) last))))
     six none a = unfold unlessMet in seven a (firstWrong t) refl
     six (some at) a = over t rest at e a (unfold unlessMet in refl)
 
-pub judged : (ts : Tokens) → Judged ts (judge ts)
+pub judged : (ts : Tokens) → JudgedWay ts (judge ts)
 unfolding judge
 judged ts = judged-read ts (table ts) refl

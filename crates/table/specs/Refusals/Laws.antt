@@ -2,16 +2,16 @@
 --     length-links, length-few                      as many tests as numbers, as terms
 --     wrong-first, width-first, branches-first      `firstWrong`, `tooWide`, `tooManyBranches`
 -- Assumes nothing.
-use Prim.Native.Nat.{ℕ, zero, suc, _+_, _≤_, _<_}
+use Prim.Native.Nat.{ℕ, zero, suc, _+_}
 use native.Mathlib.Omega.{arith}
-use mathlib.Core.Path.{_≡_, refl, sym, ap, ap₂, _∙_, subst}
+use mathlib.Core.Path.{_≡_, refl, sym, ap, ap₂, _∙_}
 use mathlib.Core.Bool.{Bool, true, false}
 use mathlib.Core.List.{List, [], _∷_, _++_, flatMap, map}
-use mathlib.Core.Option.{Option, none, some}
+use mathlib.Core.Option.{none}
 use lib.ListN.{length, replicate, length-append, length-replicate}
 use lib.Dec.{leb}
 use Rattle.table.specs.First.{orElse, unless, firstFalse}
-use Rattle.table.specs.First.Laws.{firstFalse-append, orElse-assoc}
+use Rattle.table.specs.First.Laws.{firstFalse-append}
 use Rattle.table.specs.Table.{SetRef, fixed, family, Term, stop, fail, prefix, choice, par, call, Definition}
 use Rattle.table.specs.Table.{Table, size}
 use Rattle.table.specs.Context.{Context, outermost, underPrefix, underParallel}

@@ -8,8 +8,8 @@ use Prim.Native.Nat.{ℕ, _<_, _≤_}
 use native.Mathlib.Omega.{arith}
 use native.Mathlib.Decide.{decLt}
 use mathlib.Core.Path.{_≡_, refl}
-use mathlib.Core.Bool.{Bool, true, false, _||_}
-use lib.Dec.{T, leb, leb→le, le→leb}
+use mathlib.Core.Bool.{true, false}
+use lib.Dec.{T, leb, leb→le}
 use borrow.Author.Tests.{le-leb, lt-leb}
 use Rattle.table.specs.Rows.{largeAbove, largeRowsMost, RowsFit, rowsFit}
 

@@ -5,23 +5,22 @@
 --     rules-in                                        none is met, so the rules hold
 --     no-wrong, no-wide-level, no-many-branches       the rules hold, so none is met
 -- Assumes nothing.
-use Prim.Native.Nat.{ℕ, zero, suc, _+_, _≤_, _<_}
-use mathlib.Core.Path.{_≡_, refl}
-use mathlib.Core.List.{List, [], _∷_, flatMap}
-use mathlib.Core.Option.{Option, none, some}
-use lib.ListN.{length, getD}
+use Prim.Native.Nat.{ℕ, _≤_, _<_}
+use mathlib.Core.Path.{_≡_}
+use mathlib.Core.Option.{none}
+use lib.ListN.{length}
 use lib.Dec.{T}
-use Rattle.numbers.specs.Every.{All, AllFrom, all-imp, all-and, from-imp, from-and}
-use Rattle.table.specs.Table.{SetRef, Term, stop, fail, prefix, choice, par, call, Definition, Table}
+use Rattle.numbers.specs.Every.{all-imp, all-and, from-imp, from-and}
+use Rattle.table.specs.Table.{Term, stop, fail, prefix, choice, par, call, Definition, Table}
 use Rattle.table.specs.Context.{Context, outermost, Enclosed, Throughout, Followers}
 use Rattle.table.specs.Context.Laws.{throughout-imp, throughout-and}
 use Rattle.table.specs.Fields.{OfRef, OfCall, Fields}
 use Rattle.table.specs.Fields.Laws.{ofCall-imp}
-use Rattle.table.specs.References.{levelIn, wrongFrom, firstWrong}
-use Rattle.table.specs.References.Laws.{CallOk, Linked, BodyLinked, from-out, from-in}
-use Rattle.table.specs.Width.{allWidths, levelWidth, firstAbove, tooWide}
+use Rattle.table.specs.References.{levelIn, firstWrong}
+use Rattle.table.specs.References.Laws.{CallOk, Linked, from-out, from-in}
+use Rattle.table.specs.Width.{allWidths, levelWidth, tooWide}
 use Rattle.table.specs.Width.Laws.{above-out, above-in}
-use Rattle.table.specs.Branches.{branchesAt, allBranches, branches, branchesWith, tooManyBranches}
+use Rattle.table.specs.Branches.{branchesAt, allBranches, branches, tooManyBranches}
 use Rattle.table.specs.Branches.Laws.{Few, bodies-out, bodies-in}
 use Rattle.table.specs.Rules.{InBodies, Rules}
 

@@ -8,16 +8,15 @@ use native.Mathlib.Omega.{arith}
 use mathlib.Core.Path.{_≡_, refl, sym, ap, _∙_, subst}
 use mathlib.Core.Bool.{Bool, true, false, cond}
 use mathlib.Core.List.{List, [], _∷_, _++_}
-use mathlib.Core.Option.{Option, none, some}
+use mathlib.Core.Option.{none, some}
 use lib.ListN.{length, length-append}
 use lib.Dec.{eqb}
 use borrow.Author.Tests.{eq-eqb, eqb-true}
-use Rattle.numbers.specs.Choice.{cond-cases}
 use Rattle.numbers.specs.Every.{All, all-right}
 use Rattle.numbers.specs.Number.{bytesOf, Scan, value, truncated, malformed, readNumber, listBytes, scanWith}
 use Rattle.numbers.specs.Number.{Bytes}
-use Rattle.numbers.specs.Number.Laws.{Written, read-written, read-is-written, bytes-some}
-use Rattle.table.specs.Tokens.{Tokens, token, ended, broken, listTokens, byteToken, byteTokensWith, byteTokens}
+use Rattle.numbers.specs.Number.Laws.{read-written, read-is-written, bytes-some}
+use Rattle.table.specs.Tokens.{Tokens, token, ended, broken, listTokens, byteToken, byteTokensWith}
 use Rattle.table.specs.Tokens.{trailing}
 
 -- ---- Follows

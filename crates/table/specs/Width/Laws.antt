@@ -1,14 +1,13 @@
 -- No number of a list is found above a bound exactly where each is at most that; so of the widths of levels and 8.
 --     above-out, above-in
 -- Assumes nothing.
-use Prim.Native.Nat.{ℕ, zero, suc, _+_, _≤_, _<_}
+use Prim.Native.Nat.{ℕ, zero, suc, _≤_}
 use native.Mathlib.Omega.{arith}
 use mathlib.Core.Path.{_≡_, refl}
 use mathlib.Core.List.{List, [], _∷_}
-use mathlib.Core.Option.{Option, none, some}
-use lib.ListN.{length, getD}
+use mathlib.Core.Option.{none}
+use lib.ListN.{getD}
 use lib.Dec.{leb, leb→le, le→leb}
-use Rattle.table.specs.First.{orElse, unless}
 use Rattle.table.specs.First.Laws.{orElse-out, orElse-in, unless-out, unless-in}
 use Rattle.table.specs.Width.{firstAbove}
 

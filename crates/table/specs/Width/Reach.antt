@@ -7,10 +7,10 @@
 --     bodies-all                what holds of each body by its number holds of all
 --     level-small               levels are at most 7
 -- Assumes nothing.
-use Prim.Native.Nat.{ℕ, zero, suc, _+_, _≤_, _<_, max}
+use Prim.Native.Nat.{ℕ, zero, suc, _≤_, _<_, max}
 use native.Mathlib.Omega.{arith}
 use native.Mathlib.Decide.{decLt}
-use mathlib.Core.Path.{_≡_, refl, sym, ap, _∙_, subst}
+use mathlib.Core.Path.{_≡_, refl, ap, _∙_}
 use mathlib.Core.List.{List, [], _∷_}
 use lib.ListN.{length, getD}
 use lib.Dec.{T, eqb}
@@ -19,14 +19,14 @@ use Rattle.numbers.specs.Choice.{cond-cases}
 use Rattle.numbers.specs.Every.{All, AllFrom, from-at}
 use Rattle.table.specs.Grow.{grow}
 use Rattle.table.specs.Grow.Laws.{length-grow, getD-grow, grow-stable}
-use Rattle.table.specs.Table.{SetRef, Term, stop, fail, prefix, choice, par, call, Definition, Table}
+use Rattle.table.specs.Table.{Term, stop, fail, prefix, choice, par, call, Definition, Table}
 use Rattle.table.specs.Context.{Context, outermost, underPrefix, underParallel, Throughout, Each}
 use Rattle.table.specs.Context.Laws.{each-imp}
 use Rattle.table.specs.References.{levelIn}
-use Rattle.table.specs.References.Laws.{CallOk, Linked}
+use Rattle.table.specs.References.Laws.{Linked}
 use Rattle.table.specs.Width.{widthWith, widest, callWidth, nextWidth, allWidths, levelWidth, reach}
 use Rattle.table.specs.Branches.{bodyIn}
-use Rattle.table.specs.Rules.{InBodies, Rules}
+use Rattle.table.specs.Rules.{Rules}
 use Rattle.table.specs.Rules.Laws.{linked}
 
 -- a level is at least as wide as each of its bodies

@@ -2,9 +2,8 @@
 -- 65,535").
 --     numbers-small    the law
 -- Assumes nothing.
-use Prim.Native.Nat.{ℕ, zero, suc, _+_, _≤_, _<_}
+use Prim.Native.Nat.{ℕ, suc, _+_, _≤_, _<_}
 use native.Mathlib.Omega.{arith}
-use mathlib.Core.Path.{_≡_, refl}
 use mathlib.Core.List.{List, [], _∷_, _++_, flatMap}
 use lib.ListN.{length}
 use Rattle.numbers.specs.Every.{All, AllFrom, all-imp, all-append}
@@ -12,13 +11,13 @@ use Rattle.table.specs.Table.{SetRef, fixed, family, Term, stop, fail, p
 use Rattle.table.specs.Table.{each, Definition, Table}
 use Rattle.table.specs.Rows.{alphabetMost}
 use Rattle.table.specs.Context.{Context, outermost, underPrefix, underParallel, Each, Throughout}
-use Rattle.table.specs.Fields.{OfRef, OfCall, Fields}
-use Rattle.table.specs.Fields.Laws.{fields-in, RunIs, run-out}
+use Rattle.table.specs.Fields.{OfRef, OfCall}
+use Rattle.table.specs.Fields.Laws.{fields-in, run-out}
 use Rattle.table.specs.Grammar.Sets.{RowOk, SetOk}
 use Rattle.table.specs.Grammar.Terms.{RefOk}
-use Rattle.table.specs.Grammar.Whole.{DefinitionOk, TableOk}
+use Rattle.table.specs.Grammar.Whole.{DefinitionOk}
 use Rattle.table.specs.Writing.{rowNumbers, setNumbers, refNumbers, termNumbers, definitionNumbers, numbersOf}
-use Rattle.table.specs.Rules.{InBodies, Rules}
+use Rattle.table.specs.Rules.{Rules}
 
 abbrev pub Small : ℕ → Type 0
 Small n = n ≤ 65535

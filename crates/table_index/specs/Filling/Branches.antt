@@ -18,7 +18,7 @@ use Rattle.table.specs.Node.Laws.{choice-nodes, par-nodes, body-node}
 use Rattle.table_index.specs.Layout.{termsAt, bodiesAt, branchCounts, kindDigit, rightDigit, targetDigit}
 use Rattle.table_index.specs.Layout.{branchesDigit}
 use Rattle.table_index.specs.Index.{targetOf}
-use Rattle.table_index.specs.Index.Laws.{Digits, digits}
+use Rattle.table_index.specs.Index.Laws.{WordDigits, digits}
 use Rattle.table_index.specs.Filling.{BranchesKnown, prefixesAt, BranchesAsked, BranchesGiven}
 use Rattle.table_index.specs.Filling.Kinds.{kind-at, kind-small, size-some}
 use Rattle.table_index.specs.Filling.Kinds.{stop-is, fail-is, prefix-is, choice-is, par-is, call-is}
@@ -28,7 +28,7 @@ module _ (t : Table) (w : List ℕ) (n : ℕ) (a : BranchesAsked t w n) where
   abbrev Word : ℕ
   Word = getD w (termsAt + n) 0
 
-  abbrev D : Digits t n Word
+  abbrev D : WordDigits t n Word
   D = digits t w (a .fields) (a .structure) n (a .inside)
 
   kind-of : (k : ℕ) → kindDigit Word ≡ k → kindOf (termOf t n) ≡ k

@@ -19,7 +19,7 @@ use Rattle.table.specs.Node.{termOf, kindOf, leftSize}
 use Rattle.table.specs.Node.Laws.{follower-node, choice-nodes, par-nodes, node-fits}
 use Rattle.table_index.specs.Layout.{termsAt, levelsAt, widthsAt, kindDigit, rightDigit, targetDigit, widthDigit}
 use Rattle.table_index.specs.Index.{targetOf, Structured}
-use Rattle.table_index.specs.Index.Laws.{Digits, digits}
+use Rattle.table_index.specs.Index.Laws.{WordDigits, digits}
 use Rattle.table_index.specs.Filling.{storedCall, WidthAsked, WidthGiven}
 use Rattle.table_index.specs.Filling.Kinds.{kind-at, kind-small, size-some}
 use Rattle.table_index.specs.Filling.Kinds.{stop-is, fail-is, prefix-is, choice-is, par-is, call-is}
@@ -55,7 +55,7 @@ module _ (t : Table) (w : List ℕ) (n level : ℕ) (a : WidthAsked t w n level)
   abbrev Word : ℕ
   Word = getD w (termsAt + n) 0
 
-  abbrev D : Digits t n Word
+  abbrev D : WordDigits t n Word
   D = digits t w (a .fields) (a .structure) n (a .inside)
 
   -- the term's kind, by its word

@@ -31,7 +31,7 @@ use Rattle.table.specs.Node.Laws.{body-node, home-node, own-node, node-fits}
 use Rattle.table_index.specs.Layout.{termsAt, bodiesAt, levelsAt, structureOf}
 use Rattle.table_index.specs.Index.{Structured}
 use Rattle.table_index.specs.Index.Laws.{structured-kept}
-use Rattle.table_index.specs.Filling.{Whole}
+use Rattle.table_index.specs.Filling.{WholeTerms}
 use Rattle.table_index.specs.Filling.Kinds.{size-some}
 
 pub level-most : (t : Table) → Fields t → (d : ℕ) → levelIn (t .definitions) d ≤ 7
@@ -99,14 +99,15 @@ body-inside t d h =
     let s = size-some (bodyIn (t .definitions) d) in
     record { ends = omega arith; inside = b .inside; bare = ap (λ x. x .prefixes) (b .spot) }
 
-pub body-whole : (t : Table) (d : ℕ) → d < length (t .definitions) → Whole t (bodyNumber t d) (bodyNumber t (suc d))
+pub body-whole : (t : Table) (d : ℕ) → d < length (t .definitions)
+    → WholeTerms t (bodyNumber t d) (bodyNumber t (suc d))
 body-whole t d h n a b =
     let i = body-node t d h .inside in
     let u = home-node t n (omega arith) .until in
     let o = own-node t d n h a b in
     rw o at u
 
-pub all-whole : (t : Table) → Whole t 0 (termCount t)
+pub all-whole : (t : Table) → WholeTerms t 0 (termCount t)
 all-whole t n a b = node-fits t n b
 
 module _ (t : Table) (h : firstWrong t ≡ none) where

@@ -1,5 +1,5 @@
 -- The digits of a term's word, and what a write elsewhere keeps of the index.
---     Digits, digits           the digits of the word of term n in a structured work area
+--     WordDigits, digits       the digits of the word of term n in a structured work area
 --     structured-kept          a work area that agrees with a structured one apart from the widths of levels and what
 --                              stands above the structure of terms is structured
 -- Assumes nothing.
@@ -20,7 +20,7 @@ use Rattle.table_index.specs.Layout.{entryDigit, prefixesDigit, ownDigit
 use Rattle.table_index.specs.Index.{targetOf, packed, wordOf, Structured}
 use Rattle.table_index.specs.Index.Sets.{indexed-kept}
 
-pub record Digits (t : Table) (n x : ℕ) : Type 0 where
+pub record WordDigits (t : Table) (n x : ℕ) : Type 0 where
   pub kind : kindDigit x ≡ kindOf (termOf t n)
   pub parameter : parameterDigit x ≡ parameterOf (refOf (termOf t n))
   pub parallel : parallelDigit x ≡ nodeAt t n .spot .parallel
@@ -74,7 +74,7 @@ module _ (a b c d e f g h x : ℕ)
       (omega arith, omega arith, omega arith, omega arith, omega arith, omega arith, omega arith, omega arith)
 
 pub digits : (t : Table) (w : List ℕ) → Fields t → Structured t w → (n : ℕ) → n < termCount t
-    → Digits t n (getD w (termsAt + n) 0)
+    → WordDigits t n (getD w (termsAt + n) 0)
 unfolding wordOf packed termOf
 digits t w f s n h =
     let p = termOf t n in

@@ -10,7 +10,7 @@ use native.Mathlib.Omega.{arith}
 use mathlib.Core.Path.{_≡_, refl, sym, ap, _∙_, subst}
 use mathlib.Core.List.{List, [], _∷_}
 use mathlib.Core.Option.{Option, none, some}
-use lib.ListN.{length, take, replicate}
+use lib.ListN.{length, replicate}
 use lib.Seq.{take-length}
 use borrow.Author.Tests.{le-ltb, lt-ltb}
 use Rattle.numbers.specs.Number.{listBytes}
@@ -20,7 +20,7 @@ use Rattle.table.specs.declared.answer.Refusal.{Refusal}
 use Rattle.table.specs.declared.answer.Judged.{Judged}
 use Rattle.table.specs.declared.answer.Judged.the-variants.{Accepted, Declined}
 use Rattle.table.specs.First.Laws.{first-out, first-short}
-use Rattle.table.specs.Tokens.{Tokens, ended, listTokens, trailing, placeOf}
+use Rattle.table.specs.Tokens.{listTokens, trailing, placeOf}
 use Rattle.table.specs.Tokens.Laws.{Follows, list-whole, nothing-left}
 use Rattle.table.specs.Grammar.Whole.{TableOk, table-ok-sound}
 use Rattle.table.specs.Fields.{Fields}
@@ -29,14 +29,14 @@ use Rattle.table.specs.Writing.{numbersOf}
 use Rattle.table.specs.References.{firstWrong}
 use Rattle.table.specs.Width.{tooWide}
 use Rattle.table.specs.Branches.{tooManyBranches}
-use Rattle.table.specs.Judge.{Judgement, accepted, declined, unlessMet, placed, judgeRead, judge, sized}
+use Rattle.table.specs.Judge.{accepted, declined, unlessMet, placed, judgeRead, judge, sized}
 use Rattle.table.specs.Judge.{judgeList}
 use Rattle.table.specs.Refusals.{links}
 use Rattle.table.specs.Refusals.Laws.{length-links, wrong-first}
 use Rattle.table.specs.BytesRefused.{bytePlace}
-use Rattle.table_index.specs.Index.{Structured, Reaching, Branching, Indexed, tableIn}
+use Rattle.table_index.specs.Index.{Indexed, tableIn}
 use Rattle.table_index.specs.Parse.{Whole}
-use Rattle.table_index.specs.Judging.{Judging, firstOf, Filled, CheckDone, CheckSaid, Checked}
+use Rattle.table_index.specs.Judging.{Judging, firstOf, Filled, CheckDone, Checked}
 
 -- ---- the code's answers
 

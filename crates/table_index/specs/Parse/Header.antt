@@ -5,19 +5,19 @@
 --     stop-1 .. stop-5, more-left, whole          the judgement where a part is refused, where input is left over, and
 --                                                 the table where all were read
 -- Assumes nothing.
-use Prim.Native.Nat.{ℕ, zero, suc, _+_, _<_, _≤_}
+use Prim.Native.Nat.{ℕ, _+_, _<_, _≤_}
 use native.Mathlib.Omega.{arith}
 use mathlib.Core.Path.{_≡_, refl, sym, ap, _∙_}
 use mathlib.Core.Bool.{Bool, true, false, _&&_}
-use mathlib.Core.List.{List, [], _∷_}
+use mathlib.Core.List.{List, []}
 use mathlib.Core.Option.{some}
-use lib.ListN.{length, getD, drop}
+use lib.ListN.{length, getD}
 use lib.Seq.{drop-length}
 use lib.Dec.{leb}
 use Rattle.table.specs.Table.{SetDef, Definition, Table}
-use Rattle.table.specs.Tokens.{Tokens, token, listTokens, tokensAt, trailing}
+use Rattle.table.specs.Tokens.{Tokens, listTokens, tokensAt, trailing}
 use Rattle.table.specs.Rows.{alphabetMost}
-use Rattle.table.specs.Parser.{Result, got, refused, number, pure, andThen}
+use Rattle.table.specs.Parser.{got, refused, number, pure}
 use borrow.Author.Tests.{le-leb, lt-leb}
 use Rattle.table.specs.Parser.Steps.{tokens-in, number-got, number-off, number-short, then-got, then-stop}
 use Rattle.table.specs.Grammar.{eventSets, definitionsOf, table}

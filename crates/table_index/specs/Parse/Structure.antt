@@ -2,16 +2,16 @@
 --     counted     the counts stored, where the definitions start, and the number after the last body
 --     structured  then the table of the list stands in the work area
 -- Assumes nothing.
-use Prim.Native.Nat.{ℕ, zero, suc, _+_, _<_, _≤_}
+use Prim.Native.Nat.{ℕ, _+_, _<_, _≤_}
 use native.Mathlib.Omega.{arith}
 use native.Mathlib.Decide.{decLt}
-use mathlib.Core.Path.{_≡_, refl, sym, ap, _∙_, subst}
+use mathlib.Core.Path.{_≡_, refl, sym, ap, _∙_}
 use mathlib.Core.List.{List, [], _∷_, flatMap}
 use lib.ListN.{length, getD, set, drop, length-set}
 use lib.Seq.{getD-set-same, getD-set-other, take-all}
-use Rattle.table.specs.Table.{SetDef, Definition, Table, sizes, termCount, bodyNumber}
-use Rattle.table.specs.Tokens.{Tokens, token, ended, listTokens, tokensAt}
-use Rattle.table.specs.Tokens.Laws.{Cut, follows-list}
+use Rattle.table.specs.Table.{SetDef, Table, sizes, termCount, bodyNumber}
+use Rattle.table.specs.Tokens.{listTokens, tokensAt}
+use Rattle.table.specs.Tokens.Laws.{follows-list}
 use Rattle.table.specs.Parser.{got, number}
 use Rattle.table.specs.Grammar.{eventSets, table}
 use Rattle.table.specs.Grammar.Sets.{sets-sound}
@@ -21,7 +21,7 @@ use Rattle.table_index.specs.Layout.{termsAt, setsAt, bodiesAt, levelsAt
 use Rattle.table_index.specs.Layout.{startAt, structureOf}
 use Rattle.table_index.specs.Index.{SetsIndexed, Structured, setsIn, tableIn}
 use Rattle.table_index.specs.Index.Sets.{indexed-kept}
-use Rattle.table_index.specs.Parse.{SetsReady, DefinitionsFound, Whole}
+use Rattle.table_index.specs.Parse.{DefinitionsFound, Whole}
 use Rattle.table_index.specs.Parse.Header.{Header, bodyCountOk, whole, table-in, ended-tokens}
 
 -- the words with one store more each: the number after the last body, the alphabet size, the number of definitions,

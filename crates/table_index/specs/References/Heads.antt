@@ -12,7 +12,7 @@ use Rattle.table.specs.Table.{Table, termCount}
 use Rattle.table.specs.Node.{nodeAt, termOf}
 use Rattle.table_index.specs.Layout.{termsAt, kindDigit, parameterDigit, ownDigit}
 use Rattle.table_index.specs.Index.{tableIn}
-use Rattle.table_index.specs.Index.Laws.{Digits, digits}
+use Rattle.table_index.specs.Index.Laws.{WordDigits, digits}
 use Rattle.table_index.specs.Index.Places.{place-in-list}
 use Rattle.table_index.specs.Index.Heads.{headLength, headsBefore, place-is, length-family, length-leaf, length-choice}
 use Rattle.table_index.specs.Index.Heads.{length-two, head-inside}
@@ -25,7 +25,7 @@ module _ (l work : List ℕ) (j : Judging l work) (n : ℕ) (h : n < termCount (
   abbrev w : ℕ
   w = getD work (termsAt + n) 0
 
-  word : Digits t n w
+  word : WordDigits t n w
   word = digits t work (j .fields) (j .structure) n h
 
   pub place-known : (q : ℕ) → q ≡ headsBefore t n → q + ownDigit w + 1 ≡ nodeAt t n .place

@@ -1,5 +1,5 @@
 -- The rules on references by a term's word and place, as the code tests them.
---     wordFits                                            whether the call with this word keeps the rules
+--     callWordFits                                        whether the call with this word keeps the rules
 --     badReference                                        where the term of a number breaks a rule
 --     fits-..                                             one law for each way out of its tests
 --     call-kept, call-broken, param-kept, param-broken    what the term of a number breaks
@@ -29,7 +29,7 @@ use Rattle.table_index.specs.Layout.{termsAt, levelsAt, definitionCountA
 use Rattle.table_index.specs.Layout.{prefixesDigit, ownDigit, targetDigit}
 use Rattle.table_index.specs.Index.{targetOf, Structured, tableIn}
 use Rattle.table.specs.Node.Laws.{home-node}
-use Rattle.table_index.specs.Index.Laws.{Digits, digits}
+use Rattle.table_index.specs.Index.Laws.{WordDigits, digits}
 use Rattle.table_index.specs.Index.Places.{place-in-list, some-numbers, long-numbers}
 use Rattle.table_index.specs.Judging.{Judging, firstOf}
 
@@ -37,8 +37,8 @@ use Rattle.table_index.specs.Judging.{Judging, firstOf}
 abbrev pub wordContext : ℕ → Context
 wordContext w = record { prefixes = prefixesDigit w; inParallel = eqb (parallelDigit w) 1 }
 
-unfoldable pub wordFits : List Definition → ℕ → Bool
-wordFits ds w =
+unfoldable pub callWordFits : List Definition → ℕ → Bool
+callWordFits ds w =
     callFits ds (levelIn ds (ownDigit w)) (ownDigit w) (wordContext w) (targetDigit w)
 
 -- the first number of term n that breaks a rule
@@ -67,15 +67,15 @@ module _ (t : Table) (work : List ℕ) (s : Structured t work)
       → getD work (levelsAt + targetDigit w) 0 ≡ levelIn (t .definitions) (targetDigit w)
   level a = s .levels (targetDigit w) (named a)
 
-  pub fits-unknown : getD work definitionCountAt 0 ≤ targetDigit w → false ≡ wordFits (t .definitions) w
-  unfolding wordFits callFits
+  pub fits-unknown : getD work definitionCountAt 0 ≤ targetDigit w → false ≡ callWordFits (t .definitions) w
+  unfolding callWordFits callFits
   fits-unknown a =
       let k : length (t .definitions) ≤ targetDigit w = omega (arith, s .definitions) in rw (le-ltb _ _ k)
 
   module _ (a : targetDigit w < getD work definitionCountAt 0) where
     pub fits-higher : getD work (levelsAt + ownDigit w) 0 < getD work (levelsAt + targetDigit w) 0
-        → false ≡ wordFits (t .definitions) w
-    unfolding wordFits callFits
+        → false ≡ callWordFits (t .definitions) w
+    unfolding callWordFits callFits
     fits-higher b =
         let k : levelIn (t .definitions) (ownDigit w) < levelIn (t .definitions) (targetDigit w)
         = omega (arith, home, level a) in
@@ -87,8 +87,8 @@ module _ (t : Table) (work : List ℕ) (s : Structured t work)
 
       pub fits-beside : parallelDigit w ≡ 1
           → getD work (levelsAt + ownDigit w) 0 ≤ getD work (levelsAt + targetDigit w) 0
-          → false ≡ wordFits (t .definitions) w
-      unfolding wordFits callFits
+          → false ≡ callWordFits (t .definitions) w
+      unfolding callWordFits callFits
       fits-beside c d =
           let k : levelIn (t .definitions) (ownDigit w) ≤ levelIn (t .definitions) (targetDigit w)
           = omega (arith, home, level a) in
@@ -99,12 +99,12 @@ module _ (t : Table) (work : List ℕ) (s : Structured t work)
         strict : parallelDigit w ≡ 1 → levelIn (t .definitions) (targetDigit w) < levelIn (t .definitions) (ownDigit w)
         strict x = omega (arith, home, level a, c x)
 
-        pub fits-bare : prefixesDigit w ≡ 0 → ltb (targetDigit w) (ownDigit w) ≡ wordFits (t .definitions) w
-        unfolding wordFits callFits
+        pub fits-bare : prefixesDigit w ≡ 0 → ltb (targetDigit w) (ownDigit w) ≡ callWordFits (t .definitions) w
+        unfolding callWordFits callFits
         fits-bare d = rw (lt-ltb _ _ (named a), le-leb _ _ lower, beside-holds _ _ _ strict, d)
 
-        pub fits-under : (prefixesDigit w ≡ 0 → ⊥) → true ≡ wordFits (t .definitions) w
-        unfolding wordFits callFits
+        pub fits-under : (prefixesDigit w ≡ 0 → ⊥) → true ≡ callWordFits (t .definitions) w
+        unfolding callWordFits callFits
         fits-under d =
             let z : 0 < prefixesDigit w = omega arith in
             rw (lt-ltb _ _ (named a), le-leb _ _ lower, beside-holds _ _ _ strict, lt-ltb _ _ z)
@@ -112,11 +112,11 @@ module _ (t : Table) (work : List ℕ) (s : Structured t work)
 -- ---- what a node breaks
 
 -- the word of a call fits where the call does
-call-word : (t : Table) (n w : ℕ) → Digits t n w → (d : ℕ) → termOf t n ≡ call d
-    → wordFits (t .definitions) w
+call-word : (t : Table) (n w : ℕ) → WordDigits t n w → (d : ℕ) → termOf t n ≡ call d
+    → callWordFits (t .definitions) w
     ≡ callFits (t .definitions) (levelIn (t .definitions) (nodeAt t n .spot .own)) (nodeAt t n .spot .own)
     (contextOf (nodeAt t n .spot)) d
-unfolding wordFits targetOf
+unfolding callWordFits targetOf
 call-word t n w g d e =
     let k : targetDigit w ≡ d = g .target ∙ ap (targetOf (t .sets)) e in
     rw (g .own, g .parallel, g .prefixes, k)
@@ -175,20 +175,20 @@ module _ (l work : List ℕ) (j : Judging l work) (n : ℕ) (h : n < termCount (
   abbrev w : ℕ
   w = getD work (termsAt + n) 0
 
-  word : Digits t n w
+  word : WordDigits t n w
   word = digits t work (j .fields) (j .structure) n h
 
   pub word-own : ownDigit w < length (t .definitions)
   word-own = omega (arith, word .own, home-node t n h .known)
 
-  call-answer : (b : Bool) → kindDigit w ≡ 5 → b ≡ wordFits (t .definitions) w
+  call-answer : (b : Bool) → kindDigit w ≡ 5 → b ≡ callWordFits (t .definitions) w
       → wrongAt (t .definitions) (nodeAt t n) ≡ unless b (suc (nodeAt t n .place))
   unfolding wrongAt termOf
   call-answer b k f =
       here-call (t .definitions) (nodeAt t n .spot) (nodeAt t n .place) (termOf t n) b (sym (word .kind) ∙ k)
       (λ d x. f ∙ call-word t n w word d x)
 
-  pub call-kept : kindDigit w ≡ 5 → true ≡ wordFits (t .definitions) w
+  pub call-kept : kindDigit w ≡ 5 → true ≡ callWordFits (t .definitions) w
       → Nowhere ≡ badReference t n
   unfolding unless
   call-kept k f = rw (call-answer true k f)
@@ -210,7 +210,7 @@ module _ (l work : List ℕ) (j : Judging l work) (n : ℕ) (h : n < termCount (
         let k = long-numbers (termOf t n) (omega (arith, word .parameter)) in
         omega (arith, placed, place-in-list l (j .fields) n h)
 
-    pub call-broken : kindDigit w ≡ 5 → false ≡ wordFits (t .definitions) w
+    pub call-broken : kindDigit w ≡ 5 → false ≡ callWordFits (t .definitions) w
         → Broken (p + 1) ≡ badReference t n
     unfolding unless
     call-broken k f =

@@ -10,16 +10,16 @@ use native.Mathlib.Omega.{arith}
 use native.Mathlib.Decide.{decLt}
 use native.Mathlib.Nat.{mod-lt}
 use mathlib.Core.Path.{_≡_, refl, sym, ap, subst, _∙_}
-use mathlib.Core.Bool.{Bool, true, false, not, cond, _&&_, _||_, Bool-discrete}
+use mathlib.Core.Bool.{Bool, true, false, not, cond, _||_, Bool-discrete}
 use mathlib.Core.List.{List, [], _∷_}
 use mathlib.Core.Logic.{_≢_, inl, inr, _⊎_}
 use lib.Dec.{T, ltb, leb, ltb→lt, leb→le, lt→ltb, le→leb}
-use Rattle.numbers.specs.Choice.{both, both-in, either, either-left, either-right, T-true, true-T}
+use Rattle.numbers.specs.Choice.{both, both-in, either, either-left, either-right, true-T}
 use Rattle.timetable.specs.Timetable.{week, goodTimetable, someWindow, holds, washAt, inForce}
 use Rattle.timetable.specs.Timetable.{Changes, distance, beginsBy, begins, gapsFrom, changes}
 use Rattle.timetable.specs.Timetable.Laws.{distance-above, distance-below, distance-some, distance-reaches}
 use Rattle.timetable.specs.Timetable.Laws.{distance-near, distance-week, gaps-hold, Fits, good-fits, gaps-fit}
-use Rattle.timetable.specs.Timetable.Laws.{wash-in, wash-before, wash-after, wash-none, wash-odd}
+use Rattle.timetable.specs.Timetable.Laws.{wash-in}
 
 -- ---- a window that begins
 -- the minute of the week at which a window begins

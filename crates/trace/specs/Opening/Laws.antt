@@ -44,7 +44,7 @@ use Rattle.line_spec.specs.Opening.Laws.{all-measured, zeros-length}
 use Rattle.line.specs.declared.answer.TableRead.{TableRead}
 use Rattle.line.specs.declared.answer.TableRead.the-variants.{Numbers}
 use Rattle.line.specs.declared.answer.TableRead.the-variants as table
-use Rattle.line.specs.TableRead.{NumbersRead, TableRefused, lengthsWrong, headWrong, tableDeclined, TableSaid}
+use Rattle.line.specs.TableRead.{NumbersRead, TableRefused, refusedLengths, refusedHead, refusedTable, TableSaid}
 use Rattle.line.specs.TableRead.Laws.{numbers-front, numbers-few, said-numbers, said-refused}
 use Rattle.trace_spec.specs.TraceLine.{starts, refuses}
 use Rattle.trace_spec.specs.Trace.{begins, declines, beginList, beginTable, beginHead, beginningOf}
@@ -176,14 +176,14 @@ module _ (s l a b w : List ℕ) (r : TableRead) (l' v : List ℕ) (said : TableS
     where
       by : (n p : ℕ) (m u : List ℕ) → TableRefused s l a b w n p m u → n ≡ q .number → p ≡ q .place
           → TraceOpened s l a b w (Refused q) l″ a' b' w'
-      by n p m u (lengthsWrong e) i j =
+      by n p m u (refusedLengths e) i j =
           record {
             fit = λ f. absurd (let z : _≡_ {A = ℕ} 0 1 = cc in omega arith);
             unfit = λ _. λ d. Refused (record { number = sym i d; place = sym j d });
           }
-      by n p m u (headWrong _ _ e h) i j =
+      by n p m u (refusedHead _ _ e h) i j =
           fitting e (Refused q) l″ a' b' w' (ap beginHead h ∙ (λ d. declines (i d) (j d)))
-      by n p m u (tableDeclined bs es _ _ _ _ e h g _ _) i j =
+      by n p m u (refusedTable bs es _ _ _ _ e h g _ _) i j =
           fitting e (Refused q) l″ a' b' w'
           (ap beginHead h ∙ ap (beginTable es) g ∙ (λ d. declines (i d) (j d)))
 

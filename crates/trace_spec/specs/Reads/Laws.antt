@@ -14,7 +14,7 @@ use mathlib.Core.Logic.{_⊎_, inl, inr}
 use Rattle.table.specs.Table.{Table}
 use Rattle.table.specs.Judge.{Judgement, accepted, declined, judgeBytes, judgeList}
 use Rattle.monitor_spec.specs.State.{Monitor, Answer, given, refused, stopped, Outcome}
-use Rattle.monitor_spec.specs.Fold.{Step, went, stops, through}
+use Rattle.monitor_spec.specs.Fold.{StepEnd, went, stops, through}
 use Rattle.monitor_spec.specs.Fold.Laws.{through-went, through-stops, through-at}
 use Rattle.monitor_spec.specs.Feed.{takeEvent}
 use Rattle.line_spec.specs.Line.{Head, parts, wrong, headOf, fresh}
@@ -31,7 +31,7 @@ use Rattle.trace_spec.specs.Reads.{lengthLoose}
 -- ---- one event
 
 module _ (t : Table) (m : Monitor) (e : ℕ) where
-  abbrev S : Monitor → ℕ → Step Monitor
+  abbrev S : Monitor → ℕ → StepEnd Monitor
   S = takeEvent t
 
   after-went : (d : Monitor) (es : List ℕ) → takeEvent t m e ≡ went d
@@ -52,7 +52,7 @@ unfolding reachedAfter through reachedAt reachedIn
 after-more ended es fs = refl
 after-more (at t m) es fs = from es m
   where
-    by : (m : Monitor) (e : ℕ) (es : List ℕ) (y : Step Monitor) → takeEvent t m e ≡ y
+    by : (m : Monitor) (e : ℕ) (es : List ℕ) (y : StepEnd Monitor) → takeEvent t m e ≡ y
         → ((d : Monitor) → reachedAfter (reachedAfter (at t d) es) fs ≡ reachedAfter (at t d) (es ++ fs))
         → reachedAfter (reachedAfter (at t m) (e ∷ es)) fs ≡ reachedAfter (at t m) (e ∷ (es ++ fs))
     by m e es (went d) h ih =
@@ -72,7 +72,7 @@ unfolding readLines eventLines reachedAfter through reachedAt reachedIn
 read-more ended es fs = refl
 read-more (at t m) es fs = from es m
   where
-    by : (m : Monitor) (e : ℕ) (es : List ℕ) (y : Step Monitor) → takeEvent t m e ≡ y
+    by : (m : Monitor) (e : ℕ) (es : List ℕ) (y : StepEnd Monitor) → takeEvent t m e ≡ y
         → ((d : Monitor) → eventLines t d (es ++ fs) ≡ eventLines t d es ++ readLines (reachedAfter (at t d) es) fs)
         → eventLines t m (e ∷ (es ++ fs)) ≡ eventLines t m (e ∷ es) ++ readLines (reachedAfter (at t m) (e ∷ es)) fs
     by m e es (went d) h ih =

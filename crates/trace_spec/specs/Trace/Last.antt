@@ -11,7 +11,7 @@ use Rattle.table.specs.Table.{Table}
 use Rattle.table.specs.Judge.{accepted, declined, judgeBytes, judgeList}
 use Rattle.table.specs.Operations.{zeros}
 use Rattle.monitor_spec.specs.State.{freshState, holding, Monitor, Outcome}
-use Rattle.monitor_spec.specs.Fold.{Step, went, stops, Ended, through}
+use Rattle.monitor_spec.specs.Fold.{StepEnd, went, stops, Ended, through}
 use Rattle.monitor_spec.specs.Fold.Laws.{through-went, through-stops}
 use Rattle.monitor_spec.specs.Entering.{refusing}
 use Rattle.monitor_spec.specs.Feed.{takeEvent, endingOf}
@@ -65,10 +65,10 @@ events-last t (e ∷ es) m k x i s =
     by (takeEvent t m e) refl
     (λ d j. events-last t es d (suc k) (takes e (d .state) (permittedBy t d)) j refl)
   where
-    S : Monitor → ℕ → Step Monitor
+    S : Monitor → ℕ → StepEnd Monitor
     S = takeEvent t
 
-    by : (y : Step Monitor) → takeEvent t m e ≡ y
+    by : (y : StepEnd Monitor) → takeEvent t m e ≡ y
         → ((d : Monitor) → suc k ≡ d .state .taken
         → Ends (takes e (d .state) (permittedBy t d) ∷ eventLines t d es) (endLine (through S d (suc k) es)))
         → Ends (x ∷ eventLines t m (e ∷ es)) (endLine (through S m k (e ∷ es)))

@@ -12,7 +12,7 @@ use mathlib.Core.Option.{none}
 use lib.ListN.{length}
 use Rattle.table.specs.Table.{Table}
 use Rattle.monitor_spec.specs.State.{Monitor}
-use Rattle.monitor_spec.specs.Fold.{Step, went, stops, Ended, through, took}
+use Rattle.monitor_spec.specs.Fold.{StepEnd, went, stops, Ended, through, took}
 use Rattle.monitor_spec.specs.Fold.Laws.{through-went, through-stops, took-went, took-stops}
 use Rattle.monitor_spec.specs.Feed.{takeEvent}
 use Rattle.line_spec.specs.Judged.Taken.{event-took}
@@ -43,7 +43,7 @@ unfolding eventLines
 lines-last t m [] = tt
 lines-last t m (e ∷ es) = by (takeEvent t m e) refl (λ d. lines-last t d es)
   where
-    by : (x : Step Monitor) → takeEvent t m e ≡ x → ((d : Monitor) → OnlyLast (eventLines t d es))
+    by : (x : StepEnd Monitor) → takeEvent t m e ≡ x → ((d : Monitor) → OnlyLast (eventLines t d es))
         → OnlyLast (eventLines t m (e ∷ es))
     by (went d) h ih = subst OnlyLast (sym (lines-went t m e d es h)) (ih d)
     by (stops n) h ih = subst OnlyLast (sym (lines-stops t m e n es h)) refl
@@ -66,10 +66,10 @@ lines-to t (e ∷ fs) m k x s h =
     by (takeEvent t m e) refl
     (λ d. lines-to t fs d (suc k) (takes e (d .state) (permittedBy t d)) (refl, refl))
   where
-    S : Monitor → ℕ → Step Monitor
+    S : Monitor → ℕ → StepEnd Monitor
     S = takeEvent t
 
-    by : (y : Step Monitor) → takeEvent t m e ≡ y
+    by : (y : StepEnd Monitor) → takeEvent t m e ≡ y
         → ((d : Monitor) → (through S d (suc k) fs) .why ≡ none
         → LinesTo t (takes e (d .state) (permittedBy t d)) d fs ((through S d (suc k) fs) .at))
         → LinesTo t x m (e ∷ fs) ((through S m k (e ∷ fs)) .at)
@@ -102,7 +102,7 @@ unfolding eventLines took
 each t [] m = allTaken [] refl tt
 each t (e ∷ es) m = by (takeEvent t m e) refl (λ d. each t es d)
   where
-    S : Monitor → ℕ → Step Monitor
+    S : Monitor → ℕ → StepEnd Monitor
     S = takeEvent t
 
     more : (d : Monitor) → takeEvent t m e ≡ went d → (ys : List TraceLine) → Each t d es ys
@@ -118,7 +118,7 @@ each t (e ∷ es) m = by (takeEvent t m e) refl (λ d. each t es d)
         (stopsAt (e ∷ fs) f rest (takes e (d .state) (permittedBy t d) ∷ zs) n (ap (e ∷_) a)
         (took-went S m d e es g ∙ ap (e ∷_) b) (refl, c))
 
-    by : (y : Step Monitor) → takeEvent t m e ≡ y → ((d : Monitor) → Each t d es (eventLines t d es))
+    by : (y : StepEnd Monitor) → takeEvent t m e ≡ y → ((d : Monitor) → Each t d es (eventLines t d es))
         → Each t m (e ∷ es) (eventLines t m (e ∷ es))
     by (went d) g ih = subst (Each t m (e ∷ es)) (sym (lines-went t m e d es g)) (more d g (eventLines t d es) (ih d))
     by (stops n) g ih =

@@ -17,7 +17,7 @@ use Rattle.monitor_spec.specs.Regular.{Regular}
 use Rattle.monitor_spec.specs.Regular.Laws.{regular}
 use Rattle.monitor_spec.specs.State.{State, Monitor, given, Outcome}
 use Rattle.monitor_spec.specs.State.Areas.{both-true}
-use Rattle.monitor_spec.specs.Fold.{Step, went, stops, Ended, through}
+use Rattle.monitor_spec.specs.Fold.{StepEnd, went, stops, Ended, through}
 use Rattle.monitor_spec.specs.Fold.Laws.{through-went}
 use Rattle.monitor_spec.specs.Entering.Laws.{entrance-accepted, on-consistent}
 use Rattle.monitor_spec.specs.Feed.{takeEvent, endingOf}
@@ -28,7 +28,7 @@ use Rattle.monitor_spec.specs.Offer.Laws.{offer-admits}
 use Rattle.monitor_spec.specs.Joined.{residualCount, extend}
 use Rattle.monitor_spec.specs.Expected.{monitorAfter}
 use Rattle.monitor_spec.specs.Expected.Steps.{Fed}
-use Rattle.monitor_spec.specs.History.Laws.{extends, measured, after-consistent}
+use Rattle.monitor_spec.specs.History.Laws.{extends, after-measured, after-consistent}
 use Rattle.monitor_spec.specs.History.Begun.{fresh-after, fresh-fed}
 use Rattle.line_spec.specs.Line.{monitorLeft}
 use Rattle.line_spec.specs.Line.Laws.{slots-256}
@@ -55,7 +55,7 @@ module _ (ns ks : List ℕ) (t : Table) (says : judgeList ns ≡ accepted ks t) 
       (offer-admits ns m (zeros 8192) t
       (on-consistent ns m (zeros 8192) t
       (entrance-accepted _ ns (zeros 8192) ks t
-      (both-true (measured t sound 256 ns ks says (omega arith) (omega arith) fs f) pieces.measured) says)
+      (both-true (after-measured t sound 256 ns ks says (omega arith) (omega arith) fs f) pieces.zeros-measured) says)
       (after-consistent t sound 256 ns ks says (omega arith) (omega arith) fs f)))
 
   -- of the monitor after events, from the settled one on
@@ -118,7 +118,7 @@ module _ (t : Table) (st : State) (bits : EventBits) (y : TraceLine) (after : Li
         by (takeEvent t m e) refl (cons-tail x z (eventLines t m (e ∷ es)) (before ++ y ∷ after) q)
         (λ d. shown es d (takes e (d .state) (permittedBy t d)) (refl, refl) before)
       where
-        S : Monitor → ℕ → Step Monitor
+        S : Monitor → ℕ → StepEnd Monitor
         S = takeEvent t
 
         refusal : (n p : ℕ) (before : List TraceLine) → refuses n p ∷ [] ≡ before ++ y ∷ after
@@ -127,7 +127,7 @@ module _ (t : Table) (st : State) (bits : EventBits) (y : TraceLine) (after : Li
             absurd (subst (λ (z : TraceLine). Reports z st bits) (sym (cons-head (refuses n p) y [] after g)) sh)
         refusal n p (z ∷ before) g = nothing-there before y after (cons-tail (refuses n p) z [] (before ++ y ∷ after) g)
 
-        by : (v : Step Monitor) → takeEvent t m e ≡ v → eventLines t m (e ∷ es) ≡ before ++ y ∷ after
+        by : (v : StepEnd Monitor) → takeEvent t m e ≡ v → eventLines t m (e ∷ es) ≡ before ++ y ∷ after
             → ((d : Monitor) → takes e (d .state) (permittedBy t d) ∷ eventLines t d es ≡ before ++ y ∷ after
             → Shown t d es (length before) st bits)
             → Shown t m (e ∷ es) (suc (length before)) st bits

@@ -24,7 +24,7 @@ use Rattle.tree_walk.specs.Forest.Words.{kind-of-node, nodes-positive}
 use Rattle.tree_walk.specs.Course.Turns.{head-is, tail-is, no-cons}
 use Rattle.tree_moves.specs.Only.{marksOf, leafWay, wayOf, Rooted, WayIn}
 use Rattle.tree_moves.specs.Takes.Laws.{first-word}
-use Rattle.tree_moves.specs.Code.{wayCode, codeBound, pairCode, Decoded, CodeIn, Stacked, Codes}
+use Rattle.tree_moves.specs.Code.{wayCode, codeBound, pairCode, DecodedWay, CodeIn, Stacked, Codes}
 use Rattle.tree_moves.specs.Code.Laws.{code-small, code-pair, marks-one, marks-fit}
 use Rattle.tree_moves.specs.Code.Suffix.{forest-known, none-spelt, root-inside, whole, node, words-from}
 
@@ -217,7 +217,7 @@ module _ {t : Table} {area : List ℕ} {k n : ℕ} (s : Rooted t area k n) (e v 
           ev ∙ ap (λ (x : ℕ). wayCode (leafWay t e x) 0) (first-word k (s .short .at) g .0)
       told (pair i m l r) ws g u h = absurd (omega (arith, nodes-positive l, length-append (nodes l) (nodes r)))
 
-  pub way-told : (c : Way) → CodeIn t e area k n v → Decoded v c → WayIn t e area k n c
+  pub way-told : (c : Way) → CodeIn t e area k n v → DecodedWay v c → WayIn t e area k n c
   way-told c i d = record {
     of = λ r ws g u h.
         d .of (wayOf t e r) (marks-one t e r (omega (arith, h, root-inside s .1))) (i .of r ws g u h);

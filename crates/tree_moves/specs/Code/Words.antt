@@ -21,7 +21,7 @@ use Rattle.node_word.specs.Word.{termOfWord}
 use Rattle.resolving.specs.Words.{kindAt, holdsAt}
 use Rattle.tree_moves.specs.Only.{marksOf, leafMoves, countWay, leafWay}
 use Rattle.tree_moves.specs.Only.Laws.{way-held}
-use Rattle.tree_moves.specs.Code.{manyCode, codeBy, wayCode, eachIn, alsoIn, Decoded}
+use Rattle.tree_moves.specs.Code.{manyCode, codeBy, wayCode, eachIn, alsoIn, DecodedWay}
 use Rattle.tree_moves.specs.Code.Laws.{parts-in, below-many, not-none}
 
 -- ---- leaf_code
@@ -90,7 +90,7 @@ at-root m =
     rw (x, u)
 
 module _ (v : ℕ) where
-  pub decode-still : v ≡ 0 → Decoded v Still
+  pub decode-still : v ≡ 0 → DecodedWay v Still
   decode-still z = record { of = told }
     where
       told : (w : Way) → marksOf w < 65536 → v ≡ wayCode w 0 → Still ≡ w
@@ -98,7 +98,7 @@ module _ (v : ℕ) where
       told (Moving m) h g = absurd (not-none _ _ (m .lone) (sym g ∙ z))
       told Many h g = absurd (omega arith)
 
-  pub decode-many : manyCode ≤ v → Decoded v Many
+  pub decode-many : manyCode ≤ v → DecodedWay v Many
   decode-many z = record { of = told }
     where
       told : (w : Way) → marksOf w < 65536 → v ≡ wayCode w 0 → Many ≡ w
@@ -108,7 +108,7 @@ module _ (v : ℕ) where
       told Many h g = refl
 
   pub decode-moving : (v ≡ 0 → ⊥) → v < manyCode
-      → Decoded v (Moving (record { each = eachIn v; also = alsoIn v; lone = ltb v 8589934592 }))
+      → DecodedWay v (Moving (record { each = eachIn v; also = alsoIn v; lone = ltb v 8589934592 }))
   decode-moving z y = record { of = told }
     where
       told : (w : Way) → marksOf w < 65536 → v ≡ wayCode w 0

@@ -8,7 +8,7 @@ use lib.ListN.{length}
 use Rattle.table.specs.Table.{Table}
 use Rattle.table.specs.Judge.{Judgement, accepted, declined, judgeList}
 use Rattle.table.specs.Operations.{zeros}
-use Rattle.monitor_spec.specs.Entering.{judging, entrance, entering}
+use Rattle.monitor_spec.specs.Entering.{judging, entering}
 use Rattle.monitor_spec.specs.Entering.Laws.{entrance-unmeasured, entrance-declined, entrance-accepted}
 use Rattle.timetable.specs.Timetable.{goodTimetable}
 use Rattle.wash_spec.specs.Timed.{TimedMonitor}

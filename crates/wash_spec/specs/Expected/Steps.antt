@@ -3,7 +3,7 @@
 --     FedAt, TimedFed    what is kept along a joined list
 --     stepped, follows   one event;  so the fold is told by the joined list alone
 -- Assumes nothing.
-use Prim.Native.Nat.{ℕ, _*_, _≤_}
+use Prim.Native.Nat.{ℕ, _*_}
 use native.Mathlib.Omega.{arith}
 use mathlib.Core.Path.{_≡_, refl, ap, sym, subst, _∙_}
 use mathlib.Core.Bool.{Bool, true, false}
@@ -17,7 +17,7 @@ use Rattle.table.specs.Operations.{zeros}
 use Rattle.residuals.specs.Residual.{residualsOf}
 use Rattle.monitor_spec.specs.Regular.{Regular}
 use Rattle.monitor_spec.specs.State.{Monitor, slotCount}
-use Rattle.monitor_spec.specs.Fold.{Step, went, stops}
+use Rattle.monitor_spec.specs.Fold.{StepEnd, went, stops}
 use Rattle.monitor_spec.specs.Fold.Joined.{Follows}
 use Rattle.monitor_spec.specs.Feed.{takeEvent}
 use Rattle.monitor_spec.specs.Joined.{residualCount, halts}
@@ -26,7 +26,7 @@ use Rattle.monitor_spec.specs.Expected.Laid.{laid-count}
 use Rattle.monitor_spec.specs.Expected.Steps.{Fed, fed-sensible, take-went, take-stops, fed-next}
 use Rattle.monitor_spec.specs.Refusals.Laws.{clash}
 use Rattle.timetable.specs.Timetable.{goodTimetable}
-use Rattle.wash_spec.specs.Timed.{TimedMonitor, started, stamped}
+use Rattle.wash_spec.specs.Timed.{TimedMonitor, stamped}
 use Rattle.wash_spec.specs.Taking.{drawingAt, clockBack, startDue, takeFresh, atMinute, takeTimed}
 use Rattle.wash_spec.specs.Taking.Laws.{drawing-regular, drawing-same, take-back, take-afresh, take-onward}
 use Rattle.wash_spec.specs.Joined.{Stretch, startsAt, heldAt, grown, stretch, backward, haltsAfter, timedHalts}
@@ -97,7 +97,7 @@ module _ (t u : Table) (regular-t : Regular t) (regular-u : Regular u) (windows 
 
   -- ---- what the event is taken on: the monitor of the events since the start that it counts from
 
-  abbrev on : Stretch → ℕ × ℕ → Step Monitor
+  abbrev on : Stretch → ℕ × ℕ → StepEnd Monitor
   on x p = takeEvent (D (p .1)) (monitorAfter (D (p .1)) n (heldAt windows x (p .1))) (p .0)
 
   record Reached (x : Stretch) (p : ℕ × ℕ) : Type 0 where

@@ -5,7 +5,6 @@
 --     halts-back, halts-exceeded, halts-room, halts-on    where it stops;  in-order: where not, minutes do not descend
 -- Assumes nothing.
 use Prim.Native.Nat.{ℕ, _≤_}
-use native.Mathlib.Omega.{arith}
 use mathlib.Core.Path.{_≡_, refl}
 use mathlib.Core.Bool.{Bool, true, false, _&&_, _||_}
 use mathlib.Core.List.{List, [], _∷_, _++_}

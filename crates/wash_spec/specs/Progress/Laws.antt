@@ -2,12 +2,11 @@
 --     takes-went, meets-stops, takes-laid    what an event comes to, from its condition
 --     Onward, onward-one                     it comes to one of these
 -- Assumes nothing.
-use Prim.Native.Nat.{ℕ, suc, _+_, _≤_, _<_}
-use native.Mathlib.Omega.{arith}
-use mathlib.Core.Path.{_≡_, refl, ap, ap₂, sym, subst, _∙_}
+use Prim.Native.Nat.{ℕ, _≤_}
+use mathlib.Core.Path.{_≡_, refl, ap, sym, subst, _∙_}
 use mathlib.Core.Bool.{Bool, true, false}
-use mathlib.Core.List.{List, [], _∷_, _++_, append-nil}
-use mathlib.Core.Option.{Option, none, some}
+use mathlib.Core.List.{List, [], _∷_}
+use mathlib.Core.Option.{Option}
 use lib.ListN.{length}
 use lib.Dec.{T, ltb}
 use borrow.Author.Tests.{ltb-true, ltb-false, lt-ltb, le-ltb}
@@ -17,19 +16,18 @@ use Rattle.residuals.specs.Residual.{Residual, afterAll, run, residualsOf}
 use Rattle.residuals.specs.Slots.{slotsOf}
 use Rattle.monitor_spec.specs.Regular.{Regular}
 use Rattle.monitor_spec.specs.State.{State, holding, freshState, stateAfter, Monitor, slotCount, even, choose, laid}
-use Rattle.monitor_spec.specs.Fold.{Step, went, stops, Ended, through}
-use Rattle.monitor_spec.specs.Fold.Laws.{through-went, through-stops}
+use Rattle.monitor_spec.specs.Fold.{StepEnd, went, stops}
 use Rattle.monitor_spec.specs.Feed.{takeEvent, eventRefused}
 use Rattle.monitor_spec.specs.Feed.Laws.{EventCase, meets, passes, event-case}
 use Rattle.monitor_spec.specs.Open.{freshMonitor}
 use Rattle.monitor_spec.specs.Joined.{residualCount}
 use Rattle.monitor_spec.specs.Sensible.{Sensible, Laid}
 use Rattle.monitor_spec.specs.Consistent.Laws.{next-sensible}
-use Rattle.monitor_spec.specs.Expected.{recordOf, recordOnward, monitorOnward}
+use Rattle.monitor_spec.specs.Expected.{recordOnward, monitorOnward}
 use Rattle.monitor_spec.specs.Expected.Records.{record-first}
 use Rattle.monitor_spec.specs.Expected.Laid.{laid-count}
 use Rattle.monitor_spec.specs.Expected.Steps.{fed-sensible}
-use Rattle.monitor_spec.specs.Progress.{Meets, Passes}
+use Rattle.monitor_spec.specs.Progress.{Passes}
 use Rattle.monitor_spec.specs.Progress.Laws as single
 use Rattle.timetable.specs.Timetable.{goodTimetable, Changes, changes}
 use Rattle.timetable.specs.Timetable.Exact.{changes-out}
@@ -52,7 +50,7 @@ module _ (t u : Table) (regular-t : Regular t) (regular-u : Regular u) (windows 
   regular-at : (now : ℕ) → Regular (D now)
   regular-at now = drawing-regular t u regular-t regular-u windows now
 
-  abbrev step : TimedMonitor → ℕ × ℕ → Step TimedMonitor
+  abbrev step : TimedMonitor → ℕ × ℕ → StepEnd TimedMonitor
   step m p = takeTimed t u windows m p
 
   module _ (m : TimedMonitor) (e now : ℕ) where

@@ -10,7 +10,7 @@ use mathlib.Core.Path.{_≡_, refl, ap, sym, subst, _∙_}
 use mathlib.Core.Bool.{Bool, true, false}
 use mathlib.Core.List.{List, []}
 use mathlib.Core.Logic.{_⊎_, inl, inr}
-use mathlib.Core.Option.{Option, none, some}
+use mathlib.Core.Option.{Option}
 use lib.ListN.{length}
 use lib.Dec.{T, ltb}
 use Rattle.table.specs.Table.{Table}
@@ -18,7 +18,7 @@ use Rattle.residuals.specs.Residual.{residualsOf}
 use Rattle.residuals.specs.Slots.{slotsOf}
 use Rattle.monitor_spec.specs.Regular.{Regular}
 use Rattle.monitor_spec.specs.State.{State, Monitor, slotCount, choose}
-use Rattle.monitor_spec.specs.Fold.{Step, went, stops}
+use Rattle.monitor_spec.specs.Fold.{StepEnd, went, stops}
 use Rattle.monitor_spec.specs.Valid.{held}
 use Rattle.monitor_spec.specs.Feed.{presentSlots, nextSlots, taking, takeEvent}
 use Rattle.monitor_spec.specs.Feed.Laws.{EventCase, meets, passes, event-case, metBy, take-refused, take-passes}
@@ -66,7 +66,7 @@ module _ (everyday wash : Table) (windows : List ℕ) (m : TimedMonitor) (p : �
   abbrev t : Table
   t = drawingAt everyday wash windows (p .1)
 
-  abbrev took : Step TimedMonitor
+  abbrev took : StepEnd TimedMonitor
   took = takeTimed everyday wash windows m p
 
   pub take-back : clockBack (m .state) (p .1) ≡ true → took ≡ stops 17
@@ -99,10 +99,10 @@ module _ (everyday wash : Table) (windows : List ℕ) (m : TimedMonitor) (p : �
 
 -- ---- the numbers
 
-stops-same : {C : Type 0} (i j : ℕ) → _≡_ {A = Step C} (stops i) (stops j) → i ≡ j
+stops-same : {C : Type 0} (i j : ℕ) → _≡_ {A = StepEnd C} (stops i) (stops j) → i ≡ j
 stops-same i j e = cc
 
-went-stops : {C X : Type 0} {x : Step C} (c : C) (k : ℕ) → x ≡ went c → x ≡ stops k → X
+went-stops : {C X : Type 0} {x : StepEnd C} (c : C) (k : ℕ) → x ≡ went c → x ≡ stops k → X
 went-stops c k e f = absurd (let z : _≡_ {A = ℕ} 0 1 = cc in omega arith)
 
 abbrev pub Numbered : ℕ → Type 0
@@ -125,7 +125,7 @@ event-range t m e k h =
     by o p (meets n x) = subst Numbered (stops-same n k (sym (take-refused t m e n p) ∙ h)) (low n x)
     by o p (passes a b c) = went-stops (taking m (nextSlots t m e)) k (take-passes t m e p) h
 
-at-stops : (now : ℕ) (x : Step Monitor) (k : ℕ) → atMinute now x ≡ stops k → x ≡ stops k
+at-stops : (now : ℕ) (x : StepEnd Monitor) (k : ℕ) → atMinute now x ≡ stops k → x ≡ stops k
 unfolding atMinute
 at-stops now (went m) k e = went-stops (stamped now m) k refl e
 at-stops now (stops j) k e = ap stops (stops-same j k e)

@@ -12,27 +12,27 @@ use Rattle.wash_state.specs.declared.answer.TimedState as kept
 use Rattle.wash_state.specs.declared.answer.TimedAnswer as code
 use Rattle.wash_state.specs.declared.answer.TimedAnswer.the-variants.{Given, Refused, Stopped}
 use Rattle.wash_state.specs.Answers.{timedStateOf, timedMonitorOf, timedAnswerOf, timedOutcome}
-use Rattle.wash_spec.specs.Timed.{TimedState, TimedMonitor, TimedAnswer, given, refused, stopped, TimedOutcome}
+use Rattle.wash_spec.specs.Timed.{TimedState, TimedAnswer, given, refused, stopped, TimedOutcome}
 use Rattle.wash_spec.specs.Feed.{timedOf}
 use Rattle.wash_words.specs.Words.{timedRecordMeasured, timedIn, timedWords}
-use Rattle.wash_words.specs.Call.{timedNumber, timedPlace, timedAfter, TimedTold, callOf, monitorIn, timedCall}
-use Rattle.wash_words.specs.Call.{TimedWay, timedUnfit, timedGiven, timedRefused, timedStopped}
+use Rattle.wash_words.specs.Call.{timedNumber, timedPlace, timedRecordAfter, TimedTold, callOf, timedMonitorIn}
+use Rattle.wash_words.specs.Call.{timedCall, TimedWay, timedUnfit, timedGiven, timedRefused, timedStopped}
 
 -- ---- what `tell_timed` promises of each answer
 
 pub tell-given : (x : code.TimedAnswer) (s : kept.TimedState) (r r' : List ℕ) → x ≡ Given s
     → r' ≡ timedWords (timedStateOf s) → TimedTold (timedAnswerOf x) r 0 0 r'
-unfolding timedNumber timedPlace timedAfter
+unfolding timedNumber timedPlace timedRecordAfter
 tell-given x s r r' e h = rw e (record { number = refl; place = refl; words = h })
 
 pub tell-refused : (x : code.TimedAnswer) (q : Refusal) (r : List ℕ) → x ≡ Refused q
     → TimedTold (timedAnswerOf x) r (q .number) (q .place) r
-unfolding timedNumber timedPlace timedAfter
+unfolding timedNumber timedPlace timedRecordAfter
 tell-refused x q r e = rw e (record { number = refl; place = refl; words = refl })
 
 pub tell-stopped : (x : code.TimedAnswer) (q : Refusal) (s : kept.TimedState) (r r' : List ℕ) → x ≡ Stopped q s
     → r' ≡ timedWords (timedStateOf s) → TimedTold (timedAnswerOf x) r (q .number) (q .place) r'
-unfolding timedNumber timedPlace timedAfter
+unfolding timedNumber timedPlace timedRecordAfter
 tell-stopped x q s r r' e h = rw e (record { number = refl; place = refl; words = h })
 
 -- ---- the call
@@ -54,7 +54,7 @@ module _ (x : code.TimedAnswer) (n p : ℕ) (r r' a b w : List ℕ) (t : TimedTo
       → timedStateOf s ≡ timedIn r
       → timedOutcome x a b w ≡ timedOf everyday wash windows (timedMonitorOf s a₀ b₀) es ms w₀
       → monitorSaid n p r' a b w ≡ timedCall everyday wash windows r a₀ b₀ es ms w₀
-  unfolding timedCall timedRecordMeasured monitorIn
+  unfolding timedCall timedRecordMeasured timedMonitorIn
   timed-told everyday wash windows a₀ b₀ es ms w₀ s h k e =
       rw (eq-eqb (length r) 7 h, timedCall)
       (told _ (e ∙ ap (λ (y : TimedState).
@@ -69,14 +69,14 @@ module _ (r a b w : List ℕ) (o : TimedOutcome) where
       record {
         number = timedNumber x;
         place = timedPlace x;
-        words = timedAfter r x;
+        words = timedRecordAfter r x;
         area0 = o .area0;
         area1 = o .area1;
         work = o .work;
       }
 
   goes : (x : TimedAnswer) → o .answer ≡ x → length r ≡ 7 → TimedWay r a b w o (callOf r o)
-  unfolding callOf timedNumber timedPlace timedAfter
+  unfolding callOf timedNumber timedPlace timedRecordAfter
   goes (given s) e h = subst (TimedWay r a b w o) (sym (ap by e)) (timedGiven s h e)
   goes (refused n p) e h = subst (TimedWay r a b w o) (sym (ap by e)) (timedRefused n p h e)
   goes (stopped n p s) e h = subst (TimedWay r a b w o) (sym (ap by e)) (timedStopped n p s h e)
@@ -88,9 +88,9 @@ module _ (r a b w : List ℕ) (o : TimedOutcome) where
   measured c false e k = subst (TimedWay r a b w o) (sym k) (timedUnfit (eqb-false _ _ e))
 
 pub timed-way : (everyday wash windows r a b es ms w : List ℕ)
-    → TimedWay r a b w (timedOf everyday wash windows (monitorIn r a b) es ms w)
+    → TimedWay r a b w (timedOf everyday wash windows (timedMonitorIn r a b) es ms w)
     (timedCall everyday wash windows r a b es ms w)
 unfolding timedCall timedRecordMeasured
 timed-way everyday wash windows r a b es ms w =
-    measured r a b w (timedOf everyday wash windows (monitorIn r a b) es ms w)
+    measured r a b w (timedOf everyday wash windows (timedMonitorIn r a b) es ms w)
     (timedCall everyday wash windows r a b es ms w) (eqb (length r) 7) refl refl

@@ -1,5 +1,5 @@
 -- Records of wash hours and their words, case by case. Assumes nothing.
-use Prim.Native.Nat.{ℕ, _<_, _≤_}
+use Prim.Native.Nat.{ℕ, _<_}
 use native.Mathlib.Omega.{arith}
 use mathlib.Core.Path.{_≡_, refl, ap, sym, _∙_}
 use mathlib.Core.List.{List, [], _∷_, _++_}
@@ -12,7 +12,7 @@ use Rattle.wash_state.specs.declared.answer.TimedState.the-variants.{NotStarted
 use Rattle.wash_state.specs.Answers.{timedStateOf}
 use Rattle.state.specs.Record.{stateOf}
 use Rattle.monitor_spec.specs.State.{Verdict, running, failedAt, State}
-use Rattle.words.specs.Words.{verdictIn, stateIn, failureWords, wordsOf}
+use Rattle.words.specs.Words.{stateIn, failureWords, wordsOf}
 use Rattle.words.specs.Words.Laws.{read-back}
 use Rattle.wash_spec.specs.Timed.{TimedState, notStarted, started}
 use Rattle.wash_words.specs.Words.{timedIn, timedWords}

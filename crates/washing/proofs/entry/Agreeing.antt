@@ -3,20 +3,19 @@
 --     agreed-none, agreed-started      `agrees`: before the first event, and after it
 --     agreed-stands                    where they agree, all stands for the events
 -- Assumes nothing.
-use Prim.Native.Nat.{ℕ, _*_, _≤_}
+use Prim.Native.Nat.{ℕ}
 use native.Mathlib.Omega.{arith}
 use mathlib.Core.Path.{_≡_, refl, ap, sym, subst, _∙_}
-use mathlib.Core.Bool.{Bool, true, false, not, _&&_}
+use mathlib.Core.Bool.{Bool, true, false, _&&_}
 use mathlib.Core.List.{List, []}
-use lib.ListN.{length, drop}
-use lib.Dec.{ltb, eqb}
+use lib.ListN.{length}
 use borrow.Author.Tests.{le-ltb}
 use Rattle.table.specs.Table.{Table}
 use Rattle.table.specs.Operations.{zeros}
 use Rattle.table_index.specs.Index.{tableIn, Indexed}
 use Rattle.index.specs.Facts.{indexed-rules}
 use Rattle.monitor_spec.specs.Regular.Laws.{regular}
-use Rattle.monitor_spec.specs.State.{State, holding, nextVerdict, freshState, Monitor, areasMeasured, slotCount, even}
+use Rattle.monitor_spec.specs.State.{State, holding, nextVerdict, freshState, areasMeasured, slotCount, even}
 use Rattle.monitor_spec.specs.State.{choose, chunks, fill}
 use Rattle.monitor_spec.specs.Valid.Laws.{and-split}
 use Rattle.monitor_spec.specs.Consistent.{every, ascends, allZero, verdictFits, peakFits, recordFits, areaFits}
@@ -25,13 +24,12 @@ use Rattle.monitor_spec.specs.Consistent.Reading.{zero-split, consistent-laid}
 use Rattle.state.specs.declared.record.State as code
 use Rattle.state.specs.Record.{stateOf, monitorOf}
 use Rattle.opening.specs.Opening.Laws.{areas-cleared}
-use Rattle.feeding.specs.Feeding.{Empty, Standing}
+use Rattle.feeding.specs.Feeding.{Empty}
 use Rattle.timetable.specs.Timetable.{inForce}
 use Rattle.wash_spec.specs.Entering.{agreesBy}
 use Rattle.wash_state.specs.declared.answer.TimedState.{TimedState}
 use Rattle.wash_state.specs.declared.answer.TimedState.the-variants.{NotStarted, Started}
-use Rattle.wash_state.specs.Answers.{timedStateOf}
-use Rattle.washing.specs.Washing.{listAt, TimedStanding, AgreedAt, IndexAt, Agreed}
+use Rattle.washing.specs.Washing.{listAt, TimedStanding, AgreedAt, Agreed}
 use Rattle.washing.proofs.fresh.Areas.{measured-same}
 use Rattle.washing.proofs.event.Standing.{list-wash, list-everyday, list-drawing}
 

@@ -9,11 +9,11 @@ use mathlib.Core.Path.{_≡_, refl, ap, sym, subst, _∙_}
 use mathlib.Core.Bool.{Bool, true, false, _&&_}
 use mathlib.Core.List.{List}
 use lib.ListN.{length}
-use lib.Dec.{T, eqb}
+use lib.Dec.{eqb}
 use borrow.Author.Tests.{eqb-true, eq-eqb}
 use Rattle.numbers.specs.Choice.{true-T}
 use Rattle.table.specs.Table.{Table}
-use Rattle.table.specs.Judge.{accepted, judgeList}
+use Rattle.table.specs.Judge.{judgeList}
 use Rattle.table.specs.Operations.{zeros}
 use Rattle.table.specs.declared.answer.Refusal.{Refusal}
 use Rattle.table.specs.declared.answer.Judged.{Judged}
@@ -21,7 +21,7 @@ use Rattle.table.specs.declared.answer.Judged.the-variants.{Accepted, Declined}
 use Rattle.table_index.specs.Index.{tableIn, Indexed}
 use Rattle.monitor_spec.specs.State.{lengthsFit, areasMeasured, workMeasured}
 use Rattle.monitor_spec.specs.Valid.Laws.{and-split}
-use Rattle.monitor_spec.specs.Entering.{Entrance, judging, entrance, entering}
+use Rattle.monitor_spec.specs.Entering.{judging, entrance, entering}
 use Rattle.monitor_spec.specs.Entering as before
 use Rattle.monitor_spec.specs.Entering.Laws.{entrance-judged, entrance-admits}
 use Rattle.state.specs.Record.Laws.{lengths-measured}
@@ -29,10 +29,10 @@ use Rattle.entering.specs.Entered.{Entered}
 use Rattle.entering.specs.Entered.Laws.{entered-shut, entered-open}
 use Rattle.timetable.specs.Timetable.{goodTimetable}
 use Rattle.wash_spec.specs.Timed.{TimedMonitor}
-use Rattle.wash_spec.specs.Entering.{agreesBy, timedConsistent, TimedEntrance, shut, admits, scheduling, timedEntrance}
+use Rattle.wash_spec.specs.Entering.{timedConsistent, TimedEntrance, shut, admits, scheduling, timedEntrance}
 use Rattle.wash_state.specs.declared.answer.TimedState.{TimedState}
-use Rattle.wash_state.specs.Answers.{timedStateOf, timedMonitorOf}
-use Rattle.washing.specs.Washing.{IsTable, Agreed, Ready, TimedEntered, afterEveryday}
+use Rattle.wash_state.specs.Answers.{timedMonitorOf}
+use Rattle.washing.specs.Washing.{ListAccepted, Agreed, TimedEntered, afterEveryday}
 use Rattle.washing.proofs.entry.Agreeing.{agreed-stands}
 
 module _ (everyday wash windows : List ℕ) (x : TimedState) (a b : List ℕ) where
@@ -60,7 +60,8 @@ module _ (everyday wash windows : List ℕ) (x : TimedState) (a b : List ℕ) wh
         let c = sym (h .answer) ∙ q in
         rw (g, c, scheduling) (ap (shut 10 0) (ap zeros (sym k) ∙ sym z))
 
-    pub scheduled-yes : r ≡ true → IsTable everyday → IsTable wash → areasMeasured a b ≡ true → of next Accepted w
+    pub scheduled-yes : r ≡ true → ListAccepted everyday → ListAccepted wash → areasMeasured a b ≡ true
+        → of next Accepted w
     unfolding TimedEntered scheduling timedConsistent
     scheduled-yes q f s ok =
         let c = sym (h .answer) ∙ q in
@@ -150,8 +151,8 @@ module _ (everyday wash windows : List ℕ) (x : TimedState) (a b : List ℕ) wh
         lent-right : fits ≡ true
         lent-right = entrance-admits fits everyday w (tableIn everyday) (open-everyday .0) .measured
 
-        pub timed-table : IsTable everyday
-        unfolding IsTable
+        pub timed-table : ListAccepted everyday
+        unfolding ListAccepted
         timed-table = open-everyday .1 .taken
 
         pub timed-measured : areasMeasured a b ≡ true

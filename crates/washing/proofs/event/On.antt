@@ -3,18 +3,17 @@
 --     parity-free                    the test of the code says which area is zero
 -- Assumes nothing.
 use Prim.Native.Nat.{ℕ, _%_}
-use mathlib.Core.Path.{_≡_, refl, ap, sym, _∙_}
+use mathlib.Core.Path.{_≡_, _∙_}
 use mathlib.Core.Bool.{Bool, true, false}
 use mathlib.Core.List.{List}
 use lib.Dec.{eqb}
 use Rattle.table_index.specs.Index.{tableIn, Indexed}
 use Rattle.monitor_spec.specs.State.{slotCount, even, choose}
-use Rattle.monitor_spec.specs.Fold.{went, stops}
 use Rattle.state.specs.declared.record.State.{State}
 use Rattle.state.specs.Record.{monitorOf}
 use Rattle.feeding.specs.declared.event.Taken.{Taken}
 use Rattle.feeding.specs.declared.event.Taken.the-variants.{Went, Stopped}
-use Rattle.feeding.specs.Feeding.{Empty, Standing, TakenBy}
+use Rattle.feeding.specs.Feeding.{Standing, TakenBy}
 use Rattle.wash_spec.specs.Taking.{takeFresh, takeOn}
 use Rattle.wash_state.specs.declared.answer.TimedState.{TimedState}
 use Rattle.wash_state.specs.declared.answer.TimedState.the-variants.{NotStarted, Started}

@@ -3,9 +3,9 @@
 --     standing-free                a monitor that is laid out of residuals has an area of zeros
 --     on-standing                  what an event leaves is laid out of residuals
 -- Assumes nothing.
-use Prim.Native.Nat.{ℕ, _<_}
+use Prim.Native.Nat.{ℕ}
 use native.Mathlib.Omega.{arith}
-use mathlib.Core.Path.{_≡_, refl, ap, ap₂, sym, subst, _∙_}
+use mathlib.Core.Path.{_≡_, refl, ap, ap₂, sym, _∙_}
 use mathlib.Core.Bool.{Bool, true, false}
 use mathlib.Core.List.{List, []}
 use lib.ListN.{length}
@@ -18,14 +18,13 @@ use Rattle.residuals.specs.Slots.{slotsOf}
 use Rattle.monitor_spec.specs.Regular.{Regular}
 use Rattle.monitor_spec.specs.State.{Monitor, slotCount, even, choose, fill, laid}
 use Rattle.monitor_spec.specs.State.Areas.{choose-twice, choose-ap, slotCount-fill}
-use Rattle.monitor_spec.specs.Fold.{went, stops}
+use Rattle.monitor_spec.specs.Fold.{went}
 use Rattle.monitor_spec.specs.Consistent.Laws.{take-laid}
-use Rattle.monitor_spec.specs.Sensible.{Laid}
 use Rattle.monitor_spec.specs.Open.{freshMonitor}
 use Rattle.monitor_spec.specs.Joined.{residualCount}
 use Rattle.monitor_spec.specs.History.Begun.{fresh-laid}
 use Rattle.state.specs.declared.record.State.{State}
-use Rattle.state.specs.Record.{stateOf, monitorOf}
+use Rattle.state.specs.Record.{monitorOf}
 use Rattle.feeding.specs.Feeding.{Empty, Standing}
 use Rattle.timetable.specs.Timetable.{inForce}
 use Rattle.wash_spec.specs.Taking.{drawingAt, takeFresh, takeOn}

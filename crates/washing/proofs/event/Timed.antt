@@ -5,32 +5,28 @@
 -- Assumes nothing.
 use Prim.Native.Nat.{ℕ, _≤_}
 use native.Mathlib.Omega.{arith}
-use native.Mathlib.Decide.{decLt}
 use mathlib.Core.Path.{_≡_, refl, ap, sym, subst, _∙_}
 use mathlib.Core.Bool.{Bool, true, false, _||_}
 use mathlib.Core.List.{List}
-use lib.Dec.{T, ltb, leb}
+use lib.Dec.{ltb, leb}
 use borrow.Author.Tests.{ltb-false}
-use Rattle.table.specs.Table.{Table}
 use Rattle.table_index.specs.Index.{tableIn, Indexed}
 use Rattle.index.specs.Facts.{indexed-rules}
 use Rattle.monitor_spec.specs.Regular.Laws.{regular}
-use Rattle.monitor_spec.specs.State.{even}
-use Rattle.monitor_spec.specs.Fold.{went, stops}
 use Rattle.state.specs.declared.record.State.{State}
 use Rattle.state.specs.Record.{monitorOf}
 use Rattle.feeding.specs.declared.event.Taken.{Taken}
 use Rattle.feeding.specs.declared.event.Taken.the-variants.{Went, Stopped}
 use Rattle.feeding.specs.Feeding.{Standing}
-use Rattle.timetable.specs.Timetable.{minuteBound, inForce, goodTimetable, changes}
+use Rattle.timetable.specs.Timetable.{minuteBound, changes}
 use Rattle.timetable.specs.Timetable.Exact.{unchanged-same}
-use Rattle.wash_spec.specs.Taking.{drawingAt, clockBack, startDue, takeOn, atMinute, takeTimed}
+use Rattle.wash_spec.specs.Taking.{clockBack, startDue, takeOn, atMinute, takeTimed}
 use Rattle.wash_spec.specs.Taking.Laws.{take-back}
 use Rattle.wash_state.specs.declared.answer.TimedState.{TimedState}
 use Rattle.wash_state.specs.declared.answer.TimedState.the-variants.{NotStarted, Started}
 use Rattle.wash_state.specs.Answers.{timedStateOf, timedMonitorOf}
-use Rattle.washing.specs.Washing.{IsTable, listAt, OnReady, AreasOn, OnBy, TimedStanding, Ready, TimedBy}
-use Rattle.washing.proofs.event.Standing.{list-wash, list-everyday, list-drawing, standing-free, on-standing}
+use Rattle.washing.specs.Washing.{listAt, OnReady, AreasOn, OnBy, TimedStanding, Ready, TimedBy}
+use Rattle.washing.proofs.event.Standing.{list-drawing, standing-free, on-standing}
 
 or-false-left : (x y : Bool) → (x || y) ≡ false → x ≡ false
 or-false-left true y e = absurd (let z : _≡_ {A = ℕ} 0 1 = cc in omega arith)

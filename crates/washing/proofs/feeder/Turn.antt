@@ -13,11 +13,10 @@ use mathlib.Core.Path.{_≡_, refl, ap, sym, _∙_}
 use mathlib.Core.Bool.{true}
 use mathlib.Core.List.{List, [], _∷_}
 use lib.ListN.{length, getD, drop, drop-of-length-le}
-use lib.Seq.{drop-cons, drop-nil}
-use Rattle.table.specs.Table.{Table}
+use lib.Seq.{drop-cons}
 use Rattle.table_index.specs.Index.{tableIn}
 use Rattle.monitor_spec.specs.State.{areasMeasured}
-use Rattle.monitor_spec.specs.Fold.{Ended, went, stops, through}
+use Rattle.monitor_spec.specs.Fold.{Ended, through}
 use Rattle.monitor_spec.specs.Fold.Laws.{through-went, through-stops}
 use Rattle.state.specs.declared.record.State.{State}
 use Rattle.feeding.specs.declared.event.Taken.{Taken}

@@ -14,7 +14,6 @@ use lib.ListN.{length, take, replicate, length-replicate}
 use lib.Seq.{length-take-le}
 use borrow.Author.Tests.{lt-ltb, le-ltb, eq-eqb}
 use Rattle.table.specs.Table.{Table}
-use Rattle.table.specs.Judge.{accepted, judgeList}
 use Rattle.table.specs.declared.answer.Judged.{Judged}
 use Rattle.table.specs.declared.answer.Judged.the-variants.{Accepted, Declined}
 use Rattle.table_index.specs.Index.{tableIn, Indexed}
@@ -24,7 +23,7 @@ use Rattle.monitor_spec.specs.Regular.{Regular}
 use Rattle.monitor_spec.specs.Regular.Laws.{regular}
 use Rattle.monitor_spec.specs.State.{holding, freshState, Monitor, areasMeasured, workMeasured, slotCount, even}
 use Rattle.monitor_spec.specs.State.{choose, fill}
-use Rattle.monitor_spec.specs.Fold.{went, stops}
+use Rattle.monitor_spec.specs.Fold.{went}
 use Rattle.monitor_spec.specs.Feed.{nextSlots, taking, takeEvent}
 use Rattle.monitor_spec.specs.Feed.Laws.{metBy, take-refused, take-passes}
 use Rattle.monitor_spec.specs.Entering.{entrance}
@@ -42,13 +41,13 @@ use Rattle.feeding.specs.declared.event.Taken.{Taken}
 use Rattle.feeding.specs.declared.event.Taken.the-variants.{Went, Stopped}
 use Rattle.feeding.specs.Feeding.{TakenBy}
 use Rattle.wash_spec.specs.Taking.Laws.{fresh-crowded, fresh-room}
-use Rattle.washing.specs.Washing.{IsTable, FirstBy}
+use Rattle.washing.specs.Washing.{ListAccepted, FirstBy}
 use Rattle.washing.proofs.fresh.Areas.{measured-same}
 
 -- ---- the index
-pub indexed-again : (l w : List ℕ) → IsTable l → length w ≡ 8192 → (j : Judged) (w' : List ℕ)
+pub indexed-again : (l w : List ℕ) → ListAccepted l → length w ≡ 8192 → (j : Judged) (w' : List ℕ)
     → Entered (entrance (true && workMeasured w) l w) l j w' → Indexed l w'
-unfolding Entered IsTable workMeasured
+unfolding Entered ListAccepted workMeasured
 indexed-again l w x k Accepted w' h = h .1
 indexed-again l w x k (Declined r) w' h =
     shut-admits (r .number) (r .place) w' (tableIn l) h

@@ -21,10 +21,10 @@ use Rattle.monitor_spec.specs.View.Laws.{part-parity, view-length}
 use Rattle.state.specs.Record.{stateOf, monitorOf}
 use Rattle.state.specs.Answers.{answerOf, outcome, offeredOf, offerOutcome}
 use Rattle.words.specs.Words.{recordMeasured, stateIn, wordsOf}
-use Rattle.words.specs.Calls.{numberOf, placeOf, recordAfter, MonitorTold, monitorSaid, monitorCall, monitorIn}
-use Rattle.words.specs.Calls.{unmeasured}
+use Rattle.words.specs.Calls.{answerNumber, answerPlace, recordAfter, MonitorTold, monitorSaid, monitorCall}
+use Rattle.words.specs.Calls.{monitorIn, unmeasured}
 use Rattle.words.specs.Calls.{openedOf, openSaid, openCall, feedCall, tryCall}
-use Rattle.words.specs.Calls.{offerNumber, offerValue, offerSecond, OfferTold, offerSaid, offering, offerCall}
+use Rattle.words.specs.Calls.{offerNumber, offerValue, offerSecond, OfferTold, offerSaid, offeringCall, offerCall}
 use Rattle.words.specs.Calls.{viewSaid, viewing, viewCall}
 
 -- ---- a record that is not of five words
@@ -60,17 +60,17 @@ view-unmeasured r a b h = rw (ne-eqb (length r) 5 h, viewCall) refl
 -- what `tell` promises of each answer
 pub tell-given : (x : code.Answer) (s : StateCode) (r r' : List ℕ) → x ≡ Given s → r' ≡ wordsOf (stateOf s)
     → MonitorTold (answerOf x) r 0 0 r'
-unfolding numberOf placeOf recordAfter
+unfolding answerNumber answerPlace recordAfter
 tell-given x s r r' e h = rw e (record { number = refl; place = refl; words = h })
 
 pub tell-refused : (x : code.Answer) (q : Refusal) (r : List ℕ) → x ≡ Refused q
     → MonitorTold (answerOf x) r (q .number) (q .place) r
-unfolding numberOf placeOf recordAfter
+unfolding answerNumber answerPlace recordAfter
 tell-refused x q r e = rw e (record { number = refl; place = refl; words = refl })
 
 pub tell-stopped : (x : code.Answer) (q : Refusal) (s : StateCode) (r r' : List ℕ) → x ≡ Stopped q s
     → r' ≡ wordsOf (stateOf s) → MonitorTold (answerOf x) r (q .number) (q .place) r'
-unfolding numberOf placeOf recordAfter
+unfolding answerNumber answerPlace recordAfter
 tell-stopped x q s r r' e h = rw e (record { number = refl; place = refl; words = h })
 
 -- what `has_record` promises of each answer
@@ -133,7 +133,7 @@ tell-declined x q e = rw e (record { number = refl; value = refl; second = refl 
 pub offer-told : (x : offer.Offered) (n v u : ℕ) (l r a b w w₀ : List ℕ) (s : StateCode)
     → OfferTold (offeredOf x) n v u → length r ≡ 5 → stateOf s ≡ stateIn r
     → offerOutcome x a b w ≡ offerOf l (monitorOf s a b) w₀ → offerSaid n v u a b w ≡ offerCall l r a b w₀
-unfolding offerCall offering recordMeasured monitorIn
+unfolding offerCall offeringCall recordMeasured monitorIn
 offer-told x n v u l r a b w w₀ s t h k e =
     rw (eq-eqb (length r) 5 h, offerCall)
     ((λ i. record {
@@ -144,7 +144,7 @@ offer-told x n v u l r a b w w₀ s t h k e =
       area1 = b;
       work = w;
     })
-    ∙ ap offering (e ∙ ap (λ (y : State). offerOf l (record { state = y; area0 = a; area1 = b }) w₀) k))
+    ∙ ap offeringCall (e ∙ ap (λ (y : State). offerOf l (record { state = y; area0 = a; area1 = b }) w₀) k))
 
 -- ---- View
 

@@ -8,14 +8,14 @@ use Rattle.table.specs.declared.answer.Answer as code
 use Rattle.table.specs.declared.answer.Answer.the-variants.{Count, Refused}
 use Rattle.table.specs.Operations.{Outcome, readOf, writeOf}
 use Rattle.table.specs.Answers.{answerOf, outcome}
-use Rattle.words.specs.Tables.{TableTold, tableSaid, numberOf, valueOf, tableCall, readCall, writeCall}
+use Rattle.words.specs.Tables.{TableTold, tableSaid, tableNumber, tableValue, tableCall, readCall, writeCall}
 
 pub tell-count : (x : code.Answer) (n : ℕ) → x ≡ Count n → TableTold (answerOf x) 0 n
-unfolding numberOf valueOf
+unfolding tableNumber tableValue
 tell-count x n e = rw e (record { number = refl; value = refl })
 
 pub tell-refused : (x : code.Answer) (q : Refusal) → x ≡ Refused q → TableTold (answerOf x) (q .number) (q .place)
-unfolding numberOf valueOf
+unfolding tableNumber tableValue
 tell-refused x q e = rw e (record { number = refl; value = refl })
 
 told : (x : code.Answer) (n v : ℕ) (out work : List ℕ) (o : Outcome) → TableTold (answerOf x) n v

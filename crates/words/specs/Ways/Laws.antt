@@ -2,7 +2,7 @@
 use Prim.Native.Nat.{ℕ, zero, suc, _%_, _<_}
 use native.Mathlib.Omega.{arith}
 use mathlib.Core.Path.{_≡_, refl, sym, ap, subst, _∙_}
-use mathlib.Core.Bool.{Bool, true, false, _&&_}
+use mathlib.Core.Bool.{Bool, true, false}
 use mathlib.Core.List.{List}
 use mathlib.Core.Option.{none, some}
 use lib.ListN.{length}
@@ -19,16 +19,16 @@ use Rattle.monitor_spec.specs.Offer.{Offered, offers, OfferOutcome, offerOf}
 use Rattle.monitor_spec.specs.Offer as operation
 use Rattle.monitor_spec.specs.View.{Part, viewPart, viewOf}
 use Rattle.monitor_spec.specs.View.Laws.{part-parity, view-length}
-use Rattle.words.specs.Words.{recordMeasured, stateIn, wordsOf}
-use Rattle.words.specs.Tables.{TableCall, tableCall, readCall, writeCall}
+use Rattle.words.specs.Words.{recordMeasured, stateIn}
+use Rattle.words.specs.Tables.{tableCall, readCall, writeCall}
 use Rattle.words.specs.Tables as tables
-use Rattle.words.specs.Calls.{MonitorCall, numberOf, placeOf, recordAfter, monitorCall, unmeasured, monitorIn}
-use Rattle.words.specs.Calls.{openedOf, OpenCall, openCall, feedCall, tryCall, OfferCall, offerNumber, offerValue}
-use Rattle.words.specs.Calls.{offering, offerSecond, offerCall}
-use Rattle.words.specs.Calls.{ViewCall, viewing, viewCall}
+use Rattle.words.specs.Calls.{MonitorCall, answerNumber, answerPlace, recordAfter, monitorCall, unmeasured}
+use Rattle.words.specs.Calls.{monitorIn, openedOf, openCall, feedCall, tryCall, OfferCall, offerNumber}
+use Rattle.words.specs.Calls.{offerValue, offeringCall, offerSecond, offerCall}
+use Rattle.words.specs.Calls.{viewing, viewCall}
 use Rattle.words.specs.Calls.Laws.{view-empty, view-words}
 use Rattle.words.specs.Ways.{CallWay, recordUnfit, callGiven, callRefused, callStopped, OfferWay, offerUnfit}
-use Rattle.words.specs.Ways.{OpenWay, TryWay, readUnfit, furtherWay}
+use Rattle.words.specs.Ways.{OpenCallWay, TryWay, recordUnfit, furtherWay}
 use Rattle.words.specs.Ways.{offerGiven, offerRefused, ViewWay, viewUnfit, viewNone, viewSome, TableWay}
 use Rattle.words.specs.Ways.{tableDone, tableRefused}
 
@@ -36,11 +36,11 @@ use Rattle.words.specs.Ways.{tableDone, tableRefused}
 
 module _ (r a b w : List ℕ) (o : Outcome) where
   told : (x : Answer) → o .answer ≡ x → length r ≡ 5 → CallWay r a b w o (monitorCall r o)
-  unfolding monitorCall numberOf placeOf recordAfter
+  unfolding monitorCall answerNumber answerPlace recordAfter
   told (given s) e h =
       subst (CallWay r a b w o) (sym (ap (λ (x : Answer). record {
-        number = numberOf x;
-        place = placeOf x;
+        number = answerNumber x;
+        place = answerPlace x;
         words = recordAfter r x;
         area0 = o .area0;
         area1 = o .area1;
@@ -48,8 +48,8 @@ module _ (r a b w : List ℕ) (o : Outcome) where
       }) e)) (callGiven s h e)
   told (refused n p) e h =
       subst (CallWay r a b w o) (sym (ap (λ (x : Answer). record {
-        number = numberOf x;
-        place = placeOf x;
+        number = answerNumber x;
+        place = answerPlace x;
         words = recordAfter r x;
         area0 = o .area0;
         area1 = o .area1;
@@ -57,8 +57,8 @@ module _ (r a b w : List ℕ) (o : Outcome) where
       }) e)) (callRefused n p h e)
   told (stopped n p s) e h =
       subst (CallWay r a b w o) (sym (ap (λ (x : Answer). record {
-        number = numberOf x;
-        place = placeOf x;
+        number = answerNumber x;
+        place = answerPlace x;
         words = recordAfter r x;
         area0 = o .area0;
         area1 = o .area1;
@@ -84,14 +84,14 @@ opened-none (given r) e = absurd (let z : _≡_ {A = ℕ} 0 1 = cc in omega arit
 opened-none (refused n p) e = refl
 opened-none (stopped n p r) e = absurd (let z : _≡_ {A = ℕ} 0 1 = cc in omega arith)
 
-pub open-way : (l r a b es w : List ℕ) → OpenWay r a b w (openOf l a b es w) (openCall l r a b es w)
+pub open-way : (l r a b es w : List ℕ) → OpenCallWay r a b w (openOf l a b es w) (openCall l r a b es w)
 unfolding openCall recordMeasured unmeasured
 open-way l r a b es w = by (eqb (length r) 5) refl
   where
     o : Outcome
     o = openOf l a b es w
 
-    by : (x : Bool) → eqb (length r) 5 ≡ x → OpenWay r a b w o (openCall l r a b es w)
+    by : (x : Bool) → eqb (length r) 5 ≡ x → OpenCallWay r a b w o (openCall l r a b es w)
     by true e =
         rw (e, openCall) (record {
           way = told r a b w o (o .answer) refl (eqb-true _ _ e);
@@ -127,13 +127,13 @@ try-way l r a b r′ c d es w = by (eqb (length r) 5) refl
     by true e =
         furtherWay (eqb-true _ _ e)
         (measured r′ c d w o (tryCall l r a b r′ c d es w) (eqb (length r′) 5) refl (rw (e, tryCall) refl))
-    by false e = readUnfit (eqb-false _ _ e) (rw (e, tryCall) refl)
+    by false e = recordUnfit (eqb-false _ _ e) (rw (e, tryCall) refl)
 
 -- ---- Offer
 
 module _ (r a b w : List ℕ) (o : OfferOutcome) where
-  offered : (x : Offered) → o .answer ≡ x → length r ≡ 5 → OfferWay r a b w o (offering o)
-  unfolding offering offerNumber offerValue offerSecond
+  offered : (x : Offered) → o .answer ≡ x → length r ≡ 5 → OfferWay r a b w o (offeringCall o)
+  unfolding offeringCall offerNumber offerValue offerSecond
   offered (offers bits) e h =
       subst (OfferWay r a b w o) (sym (ap (λ (x : Offered). record {
         number = offerNumber x;
@@ -155,7 +155,7 @@ module _ (r a b w : List ℕ) (o : OfferOutcome) where
 
   offer-measured : (c : OfferCall) → (x : Bool) → eqb (length r) 5 ≡ x
       → c ≡ elim x as (λ y. OfferCall) [
-        | true ↦ offering o
+        | true ↦ offeringCall o
         | false ↦ record { number = 1; value = 0; second = 0; area0 = a; area1 = b; work = w }
       ]
       → OfferWay r a b w o c
@@ -206,18 +206,18 @@ module _ (r a b : List ℕ) where
 
 module _ (o : table.Outcome) where
   tables-way : (x : table.Answer) → o .answer ≡ x → TableWay o (tableCall o)
-  unfolding tableCall tables.numberOf tables.valueOf
+  unfolding tableCall tables.tableNumber tables.tableValue
   tables-way (done n) e =
       subst (TableWay o) (sym (ap (λ (x : table.Answer). record {
-        number = tables.numberOf x;
-        value = tables.valueOf x;
+        number = tables.tableNumber x;
+        value = tables.tableValue x;
         output = o .output;
         work = o .work;
       }) e)) (tableDone n e)
   tables-way (refusal n at) e =
       subst (TableWay o) (sym (ap (λ (x : table.Answer). record {
-        number = tables.numberOf x;
-        value = tables.valueOf x;
+        number = tables.tableNumber x;
+        value = tables.tableValue x;
         output = o .output;
         work = o .work;
       }) e)) (tableRefused n at e)

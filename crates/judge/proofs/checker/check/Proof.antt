@@ -1,6 +1,5 @@
 -- `judge::checker::check` meets its contract: another length is refused before anything is stored; else `check_list`
 -- answers, and what it leaves is the index, or is cleared. Assumes nothing.
-use native.Mathlib.Omega.{arith}
 use Rattle.table_index.specs.Judging.Laws.{checked-wrong, checked-taken, checked-refused}
 use borrow.Author.Needs.{needs}
 use Rattle.judge.proofs.checker.check.Statement.{statement}

@@ -1,6 +1,5 @@
 -- `offering::offerer::words` meets its contract: the first word and the second. Assumes nothing.
 use Rattle.offering.proofs.offerer.WordCases.{words-both}
-use borrow.Author.Needs.{needs}
 use Rattle.offering.proofs.offerer.words.Statement.{statement}
 use Rattle.offering.proofs.offerer.words.Tie as tie
 

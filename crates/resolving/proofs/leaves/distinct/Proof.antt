@@ -8,11 +8,6 @@ use Rattle.resolving.specs.Distinct.Keeping.{kept-none, kept-one}
 use borrow.Author.Needs.{needs}
 use Rattle.resolving.proofs.leaves.distinct.Statement.{statement}
 use Rattle.resolving.proofs.leaves.distinct.Tie as tie
-use Rattle.resolving.proofs.leaves.distinct.Reads as reads
-use Rattle.resolving.proofs.leaves.distinct.Lts as lts
-use Rattle.index.proofs.branches.Reads as branches-reads
-use Rattle.resolving.proofs.leaves.distinct_in.Reads as distinct-in-reads
-use Rattle.resolving.proofs.leaves.distinct_two.Reads as distinct-two-reads
 
 branches-requires : tie.Need-branches-requires
 branches-requires c κs = search needs

@@ -14,12 +14,6 @@ use Rattle.resolving.specs.Distinct.Laws.{resolves-empty}
 use Rattle.resolving.specs.Distinct.Keeping.{Head, head-first, head-held, head-new}
 use Rattle.resolving.proofs.leaves.distinct_in.Statement.{statement}
 use Rattle.resolving.proofs.leaves.distinct_in.Tie as tie
-use Rattle.resolving.proofs.leaves.distinct_in.Reads as reads
-use Rattle.resolving.proofs.leaves.distinct_in.Lts as lts
-use Rattle.resolving.proofs.leaves.found.Reads as found-reads
-use Rattle.resolving.proofs.leaves.hold.Reads as hold-reads
-use Rattle.resolving.proofs.leaves.key_of.Reads as key-of-reads
-use Rattle.resolving.proofs.descent.resolve_at.Reads as resolve-at-reads
 
 abbrev Inv-loop : tie.InvT-loop
 Inv-loop list work bound n m c indices₀ at keys₀ slots₀ k₀ i₀ indices keys slots k i =

@@ -7,10 +7,6 @@ use Rattle.resolving.specs.Distinct.Keeping.{kept-same, kept-both}
 use borrow.Author.Needs.{needs}
 use Rattle.resolving.proofs.leaves.distinct_two.Statement.{statement}
 use Rattle.resolving.proofs.leaves.distinct_two.Tie as tie
-use Rattle.resolving.proofs.leaves.distinct_two.Reads as reads
-use Rattle.resolving.proofs.leaves.distinct_two.Lts as lts
-use Rattle.resolving.proofs.leaves.same_at.Reads as same-at-reads
-use Rattle.resolving.proofs.descent.resolve_at.Reads as resolve-at-reads
 
 resolve-at-requires : tie.Need-resolve-at-requires
 resolve-at-requires c κs =

@@ -11,10 +11,6 @@ use Rattle.resolving.specs.Distinct.{window, isKept, slotAt}
 use Rattle.resolving.specs.Distinct.Keeping.{held-first, held-none, held-here, held-on, held-off}
 use Rattle.resolving.proofs.leaves.found.Statement.{statement}
 use Rattle.resolving.proofs.leaves.found.Tie as tie
-use Rattle.resolving.proofs.leaves.found.Reads as reads
-use Rattle.resolving.proofs.leaves.found.Lts as lts
-use Rattle.resolving.proofs.leaves.key_of.Reads as key-of-reads
-use Rattle.resolving.proofs.leaves.same_kept.Reads as same-kept-reads
 
 abbrev Inv-loop : tie.InvT-loop
 Inv-loop list work bound n m indices at k keys slots slot key j₀ j =

@@ -4,9 +4,6 @@ use Rattle.resolving.specs.Distinct.Words.{hold-first, hold-none}
 use borrow.Author.Needs.{needs}
 use Rattle.resolving.proofs.leaves.hold.Statement.{statement}
 use Rattle.resolving.proofs.leaves.hold.Tie as tie
-use Rattle.resolving.proofs.leaves.hold.Reads as reads
-use Rattle.resolving.proofs.leaves.hold.Lts as lts
-use Rattle.slots.proofs.store.Reads as store-reads
 
 mul-store : tie.Need-mul-store
 mul-store c = search needs

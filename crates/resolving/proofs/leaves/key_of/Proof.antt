@@ -9,8 +9,6 @@ use Rattle.resolving.specs.Distinct.{keyFrom}
 use Rattle.resolving.specs.Distinct.Words.{key-none, key-on}
 use Rattle.resolving.proofs.leaves.key_of.Statement.{statement}
 use Rattle.resolving.proofs.leaves.key_of.Tie as tie
-use Rattle.resolving.proofs.leaves.key_of.Reads as reads
-use Rattle.resolving.proofs.leaves.key_of.Lts as lts
 
 abbrev Inv-loop : tie.InvT-loop
 Inv-loop slot key₀ j₀ key j = (j ≤ 16) × (length slot ≡ 16) × (keyFrom key (drop j slot) ≡ keyFrom 0 slot)

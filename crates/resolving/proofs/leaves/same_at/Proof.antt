@@ -9,8 +9,6 @@ use Rattle.resolving.specs.Distinct.{sameWords, window}
 use Rattle.resolving.specs.Distinct.Words.{same-none, same-on, same-off}
 use Rattle.resolving.proofs.leaves.same_at.Statement.{statement}
 use Rattle.resolving.proofs.leaves.same_at.Tie as tie
-use Rattle.resolving.proofs.leaves.same_at.Reads as reads
-use Rattle.resolving.proofs.leaves.same_at.Lts as lts
 
 abbrev Inv-loop : tie.InvT-loop
 Inv-loop words p slot j₀ j =

@@ -7,10 +7,6 @@ use Rattle.resolving.specs.Distinct.Words.{window-all}
 use borrow.Author.Needs.{needs}
 use Rattle.resolving.proofs.leaves.same_kept.Statement.{statement}
 use Rattle.resolving.proofs.leaves.same_kept.Tie as tie
-use Rattle.resolving.proofs.leaves.same_kept.Reads as reads
-use Rattle.resolving.proofs.leaves.same_kept.Lts as lts
-use Rattle.resolving.proofs.leaves.same_at.Reads as same-at-reads
-use Rattle.resolving.proofs.descent.resolve_at.Reads as resolve-at-reads
 
 mul-same-at : tie.Need-mul-same-at
 mul-same-at c = search needs

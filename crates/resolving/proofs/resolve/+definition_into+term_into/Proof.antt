@@ -22,8 +22,9 @@ use Rattle.node_word.specs.Word.{memoryOf}
 use Rattle.node_word.specs.Word.Laws.{memory-zero, zero-below}
 use Rattle.resolving.specs.Lawful.{lawful}
 use Rattle.resolving.specs.ResidualWords.Into.{into-definition}
-use Rattle.resolving.specs.ResidualWords.Ways.{beyond, Way, way-first, way-leaf, way-none, way-call, way-choice}
-use Rattle.resolving.specs.ResidualWords.Ways.{way-left, way-right, way-par, way-room, way-side, way-other}
+use Rattle.resolving.specs.ResidualWords.Ways.{beyond, ResolvingWay, way-first, way-leaf, way-none, way-call}
+use Rattle.resolving.specs.ResidualWords.Ways.{way-choice, way-left, way-right, way-par, way-room, way-side}
+use Rattle.resolving.specs.ResidualWords.Ways.{way-other}
 use Rattle.resolving.proofs.resolve.definition_into.Reads as definition
 use Rattle.resolving.proofs.resolve.definition_into.Kinds as definition-kinds
 use Rattle.resolving.proofs.resolve.+definition_into+term_into.Lts-definition_into as definition-lts
@@ -122,7 +123,7 @@ definition-returns t c =
 
 abbrev Inv-loop : term-lts.InvT-loop
 Inv-loop list work bound n m i slot₀ at₀ j₀ slot at j =
-    Way (tableIn list) bound n (memoryOf m) i slot₀ at j slot
+    ResolvingWay (tableIn list) bound n (memoryOf m) i slot₀ at j slot
 
 abbrev μ-loop : term-lts.MeasureT-loop
 μ-loop list work bound n m i slot₀ at₀ j₀ slot at j = depthOf (termOf (tableIn list) at)

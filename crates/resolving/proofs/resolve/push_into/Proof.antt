@@ -4,8 +4,6 @@ use borrow.Author.Needs.{needs}
 use Rattle.resolving.specs.ResidualWords.{pushed}
 use Rattle.resolving.proofs.resolve.push_into.Statement.{statement}
 use Rattle.resolving.proofs.resolve.push_into.Tie as tie
-use Rattle.resolving.proofs.resolve.push_into.Reads as reads
-use Rattle.resolving.proofs.resolve.push_into.Lts as lts
 
 slice-read-n : tie.Need-slice-read-n
 slice-read-n c = search needs

@@ -1,12 +1,9 @@
 -- `resolving::words::kind_at` meets its contract: the kind of the term of the word. Assumes nothing.
 use mathlib.Core.Path.{_∙_}
 use borrow.Author.Needs.{needs}
-use Rattle.index.proofs.kind.Reads as kind-reads
 use Rattle.resolving.specs.Words.{kindAt}
 use Rattle.resolving.proofs.words.kind_at.Statement.{statement}
 use Rattle.resolving.proofs.words.kind_at.Tie as tie
-use Rattle.resolving.proofs.words.kind_at.Reads as reads
-use Rattle.resolving.proofs.words.kind_at.Lts as lts
 
 term-of-requires : tie.Need-term-of-requires
 term-of-requires c κs = search needs

@@ -10,8 +10,6 @@ use Rattle.slots.specs.Insertion.Laws.{order-none, order-below, order-ab
 use Rattle.slots.specs.Insertion.Laws.{seek-held, seek-on}
 use Rattle.slots.proofs.slots.find_place.Statement.{statement}
 use Rattle.slots.proofs.slots.find_place.Tie as tie
-use Rattle.slots.proofs.slots.find_place.Reads as reads
-use Rattle.slots.proofs.slots.find_place.Lts as lts
 
 abbrev Inv-loop : tie.InvT-loop
 Inv-loop area count from slot i₀ j₀ i j =

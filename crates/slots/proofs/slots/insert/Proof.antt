@@ -9,11 +9,6 @@ use Rattle.slots.specs.Insertion.Laws.{insert-held, insert-full, insert-
 use Rattle.slots.specs.Insertion.Narrow.{place-bound}
 use Rattle.slots.proofs.slots.insert.Statement.{statement}
 use Rattle.slots.proofs.slots.insert.Tie as tie
-use Rattle.slots.proofs.slots.insert.Reads as reads
-use Rattle.slots.proofs.slots.insert.Lts as lts
-use Rattle.slots.proofs.slots.place_of.Reads as place-of-reads
-use Rattle.slots.proofs.slots.open_gap.Reads as open-gap-reads
-use Rattle.slots.proofs.slots.store.Reads as store-reads
 
 -- the place that was found, where it is known that there is room
 found : (q : tie.Else1) →

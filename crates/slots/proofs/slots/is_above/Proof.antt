@@ -8,8 +8,6 @@ use Rattle.slots.specs.Insertion.{order, isAbove}
 use Rattle.slots.specs.Insertion.Laws.{order-none, order-below, order-above, order-on}
 use Rattle.slots.proofs.slots.is_above.Statement.{statement}
 use Rattle.slots.proofs.slots.is_above.Tie as tie
-use Rattle.slots.proofs.slots.is_above.Reads as reads
-use Rattle.slots.proofs.slots.is_above.Lts as lts
 
 abbrev Inv-loop : tie.InvT-loop
 Inv-loop area p slot k₀ k = (k ≤ 16) × (order (16 - k) area (p + k) slot k ≡ order 16 area p slot 0)

@@ -4,8 +4,6 @@ use borrow.Author.Needs.{needs}
 use Rattle.slots.specs.Insertion.Narrow.{middle-half, middle-none}
 use Rattle.slots.proofs.slots.middle_of.Statement.{statement}
 use Rattle.slots.proofs.slots.middle_of.Tie as tie
-use Rattle.slots.proofs.slots.middle_of.Reads as reads
-use Rattle.slots.proofs.slots.middle_of.Lts as lts
 
 sub-if1 : tie.Need-sub-if1
 sub-if1 c = search needs

@@ -8,8 +8,6 @@ use Rattle.slots.specs.Insertion.{gapped}
 use Rattle.slots.specs.Insertion.Gap.{gap-none, gap-step}
 use Rattle.slots.proofs.slots.move_up.Statement.{statement}
 use Rattle.slots.proofs.slots.move_up.Tie as tie
-use Rattle.slots.proofs.slots.move_up.Reads as reads
-use Rattle.slots.proofs.slots.move_up.Lts as lts
 
 abbrev Inv-loop : tie.InvT-loop
 Inv-loop words₀ n k₀ words k = (k ≤ n) × (length words ≡ length words₀) × (words ≡ gapped words₀ k n)

@@ -8,10 +8,6 @@ use Rattle.slots.specs.Insertion.{halved, narrowed}
 use Rattle.slots.specs.Insertion.Narrow.{middle-low, halve-none, halve-up, halve-down, narrow-none, narrow-start}
 use Rattle.slots.proofs.slots.narrow.Statement.{statement}
 use Rattle.slots.proofs.slots.narrow.Tie as tie
-use Rattle.slots.proofs.slots.narrow.Reads as reads
-use Rattle.slots.proofs.slots.narrow.Lts as lts
-use Rattle.slots.proofs.slots.is_above.Reads as is-above-reads
-use Rattle.slots.proofs.slots.middle_of.Reads as middle-of-reads
 
 abbrev Inv-loop : tie.InvT-loop
 Inv-loop area count slot low₀ high₀ middle₀ low high middle =

@@ -5,9 +5,6 @@ use borrow.Author.Needs.{needs}
 use Rattle.slots.specs.Insertion.Gap.{gap-part}
 use Rattle.slots.proofs.slots.open_gap.Statement.{statement}
 use Rattle.slots.proofs.slots.open_gap.Tie as tie
-use Rattle.slots.proofs.slots.open_gap.Reads as reads
-use Rattle.slots.proofs.slots.open_gap.Lts as lts
-use Rattle.slots.proofs.slots.move_up.Reads as move-up-reads
 
 mul-move-up : tie.Need-mul-move-up
 mul-move-up c = search needs

@@ -1,13 +1,8 @@
 -- `slots::slots::place_of` meets its contract: it is the search from where it is narrowed to. Assumes nothing.
-use mathlib.Core.Path.{_≡_, _∙_}
 use Rattle.slots.specs.Insertion.{placeIn}
 use borrow.Author.Needs.{needs}
 use Rattle.slots.proofs.slots.place_of.Statement.{statement}
 use Rattle.slots.proofs.slots.place_of.Tie as tie
-use Rattle.slots.proofs.slots.place_of.Reads as reads
-use Rattle.slots.proofs.slots.place_of.Lts as lts
-use Rattle.slots.proofs.slots.find_place.Reads as find-place-reads
-use Rattle.slots.proofs.slots.narrow.Reads as narrow-reads
 
 narrow-requires : tie.Need-narrow-requires
 narrow-requires c κs = search needs

@@ -3,9 +3,6 @@ use borrow.Author.Needs.{needs}
 use Rattle.slots.specs.Holding.Laws.{put-held, put-new, put-full}
 use Rattle.slots.proofs.slots.put.Statement.{statement}
 use Rattle.slots.proofs.slots.put.Tie as tie
-use Rattle.slots.proofs.slots.put.Reads as reads
-use Rattle.slots.proofs.slots.put.Lts as lts
-use Rattle.slots.proofs.slots.insert.Reads as insert-reads
 
 slice-aggregate-insert : tie.Need-slice-aggregate-insert
 slice-aggregate-insert c = search needs

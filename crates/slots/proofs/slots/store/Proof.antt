@@ -8,8 +8,6 @@ use Rattle.slots.specs.Insertion.{stored}
 use Rattle.slots.specs.Insertion.Gap.{stored-none, stored-step}
 use Rattle.slots.proofs.slots.store.Statement.{statement}
 use Rattle.slots.proofs.slots.store.Tie as tie
-use Rattle.slots.proofs.slots.store.Reads as reads
-use Rattle.slots.proofs.slots.store.Lts as lts
 
 abbrev Inv-loop : tie.InvT-loop
 Inv-loop area₀ p slot j₀ area j = (j ≤ 16) × (length area ≡ length area₀) × (area ≡ stored area₀ p slot j)

@@ -1,6 +1,6 @@
 -- `timetable::change::begins_by` meets its contract: each return's test says which part of `beginsBy` is left. Assumes
 -- nothing.
-use borrow.Author.Tests.{lt-ltb, le-ltb, le-leb, lt-leb}
+use borrow.Author.Tests.{lt-ltb, le-ltb}
 use borrow.Author.Needs.{needs}
 use Rattle.timetable.specs.Timetable.{beginsBy}
 use Rattle.timetable.proofs.change.begins_by.Statement.{statement}

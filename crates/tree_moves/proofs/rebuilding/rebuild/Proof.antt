@@ -1,7 +1,7 @@
 -- `tree_moves::rebuilding::rebuild` meets its contract: the slot has what the first j nodes became, and the marks from
 -- there on are left; the nodes that are left have room. Assumes nothing.
 use native.Mathlib.Omega.{arith}
-use mathlib.Core.Path.{_≡_, refl, sym, _∙_}
+use mathlib.Core.Path.{_≡_, refl, _∙_}
 use Prim.Native.Nat.{_+_, _-_, _≤_}
 use lib.ListN.{length, getD}
 use Rattle.table_index.specs.Index.{tableIn}

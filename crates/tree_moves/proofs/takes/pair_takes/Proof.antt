@@ -1,5 +1,4 @@
 -- `tree_moves::takes::pair_takes` meets its contract: the tests say which case of `pairTakes` holds. Assumes nothing.
-use mathlib.Core.Path.{refl}
 use Rattle.tree_moves.specs.Takes.{pairTakes}
 use Rattle.tree_moves.proofs.takes.pair_takes.Statement.{statement}
 use Rattle.tree_moves.proofs.takes.pair_takes.Tie as tie

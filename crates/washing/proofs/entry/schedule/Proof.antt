@@ -4,7 +4,7 @@ use mathlib.Core.Path.{sym, _∙_}
 use borrow.Author.Tests.{not-true, not-false}
 use borrow.Author.Needs.{needs}
 use Rattle.entering.specs.Entered.Laws.{areas-same}
-use Rattle.washing.specs.Washing.{IsTable}
+use Rattle.washing.specs.Washing.{ListAccepted}
 use Rattle.washing.proofs.entry.Scheduling.{scheduled-bad, scheduled-no, scheduled-yes}
 use Rattle.washing.proofs.entry.schedule.Statement.{statement}
 use Rattle.washing.proofs.entry.schedule.Tie as tie
@@ -38,7 +38,7 @@ same-length-2 : tie.Need-same-length-2
 same-length-2 c = search needs
 
 returns-2 : tie.Need-returns-2
-unfolding IsTable
+unfolding ListAccepted
 returns-2 c =
     let at-agrees = c .before .before .before in
     let at-if1 = at-agrees .before .before in
