@@ -13,7 +13,7 @@
 
 #define STACK_BYTES (4u << 20)
 #define PATTERN 0xA5
-/* so many events of a call are taken before it keeps residual sets */
+/* after so many events a call keeps residual sets, whatever the table */
 #define LATE 112
 
 static uint16_t list[CSPE_NUMBERS];

@@ -30,7 +30,7 @@ pub enum Taken {
 // Fills the destination, which is zero, with the residuals after event e of those that the source
 // holds; so many events were taken before. The destination's slots are the most that there may be.
 // Where the event is refused it is zero again. The store is for a step's own use.
-pub fn next_set(
+fn next_set(
     list: &[u16],
     work: &[u64],
     e: u8,
@@ -67,7 +67,7 @@ pub fn next_set(
 
 // Fills the other area with the residuals after event e, and zeroes the words in use of the present
 // one; where the event is refused, both areas are as they were.
-pub fn advance(
+fn advance(
     list: &[u16],
     work: &[u64],
     e: u8,
@@ -96,7 +96,7 @@ pub fn advance(
 }
 
 // The same, where the present area is the one that the parity of the events taken says.
-pub fn advance_present(
+fn advance_present(
     list: &[u16],
     work: &[u64],
     e: u8,

@@ -1,18 +1,19 @@
 // Feed (document 01, "Operations", "When the monitor declines"): what it comes to is `feedOf` of
 // crate monitor_spec.
 ghost use mathlib.Core.Path.{_≡_};
-ghost use Prim.Native.Nat.{_≤_, _<_};
+ghost use Prim.Native.Nat.{_≤_, _<_, min, max};
 ghost use lib.ListN.{length};
 ghost use Rattle.table_index.specs.Index.{tableIn, Indexed};
 ghost use Rattle.monitor_spec.specs.Feed.{feedOf};
-ghost use Rattle.tree_walk.specs.Layout.{storeWords};
+ghost use Rattle.set_step.specs.Memo.{StoreOf};
 ghost use Rattle.state.specs.Record.{monitorOf};
 ghost use Rattle.state.specs.Answers.{outcome};
 ghost use Rattle.feeding.specs.Feeding.{Standing, EndedBy};
 ghost use Rattle.feeding.specs.Runs.{EndedFrom, RunBy};
+ghost use Rattle.feeding.specs.Learning.{aloneTo};
 use crate::met::take_kept;
 use crate::run::Run;
-use crate::run::take_part;
+use crate::run::take_each;
 use entering::enter_on;
 use set_step::STORE_WORDS;
 use state::Answer;
@@ -20,25 +21,36 @@ use state::State;
 use state::clear_all;
 use table::Judged;
 
-// The smaller of two numbers.
-fn least(a: usize, b: usize) -> usize
-    ensures { λ r. ⌜ r ≤ a ⌝ }
+// So many events of a call are taken one after the other, whatever the table.
+const FIRST: usize = 8;
+
+// A number, at most `high` and at least `low`.
+fn clamp(n: usize, low: usize, high: usize) -> usize
+    requires { ⌜ low ≤ high ⌝ }
+    ensures { λ r. ⌜ r ≡ max low (min n high) ⌝ }
 {
-    if a < b {
-        return a;
+    if n <= low {
+        return low;
     }
-    b
+    if high <= n {
+        return high;
+    }
+    n
 }
 
-// How many of so many events are taken one after the other before a set is kept, where a call begins
-// with so many residuals: a step of many takes long, so that learning pays sooner.
-fn alone(length: usize, count: u64) -> usize
-    ensures { λ r. ⌜ r ≤ length ⌝ }
+// The place up to which events are taken one after the other before a set is kept: from one place on
+// of so many events, where there are so many residuals, and where steps are long or not.
+fn alone(from: usize, length: usize, count: u64, long: bool) -> usize
+    requires { ⌜ from ≤ length ⌝ }
+    ensures { λ r. ⌜ (r ≡ aloneTo from length count long) × (r ≤ length) ⌝ }
 {
-    if count < 32 {
-        return least(length, 112);
+    if long {
+        return from;
     }
-    least(length, 32)
+    if count < 32 {
+        return clamp(112, from, length);
+    }
+    clamp(32, from, length)
 }
 
 // The place up to which events are taken one after the other where the sets that were begun at
@@ -74,11 +86,12 @@ fn take_stretch(
     requires { ⌜ (length (now sets) ≡ 1664) × (length (now starts) ≡ 64)
         × (length (now next) ≡ 2560) ⌝ }
     requires { ⌜ (from ≤ length (now events)) × (to ≤ length (now events)) ⌝ }
-    requires { ⌜ length (now store) ≡ storeWords ⌝ }
+    requires { ⌜ StoreOf (tableIn (now list)) (now store) ⌝ }
     ensures { λ r.
         ⌜ RunBy (tableIn (now (list .entry)))
         (monitorOf state (now (area0 .entry)) (now (area1 .entry))) (now (events .entry)) from to
-        r (now (area0 .exit)) (now (area1 .exit)) ⌝ }
+        r (now (area0 .exit)) (now (area1 .exit))
+        × StoreOf (tableIn (now (list .entry))) (now (store .exit)) ⌝ }
 {
     match take_kept(
         list,
@@ -95,7 +108,7 @@ fn take_stretch(
     ) {
         Run::Ended(answer) => Run::Ended(answer),
         Run::Left(reached, i) => {
-            take_part(list, work, reached, area0, area1, events, i, to, store)
+            take_each(list, work, reached, area0, area1, events, i, to, store)
         }
     }
 }
@@ -114,7 +127,7 @@ fn take_long(
     requires { ⌜ Indexed (now list) (now work) ⌝ }
     requires { ⌜ Standing (tableIn (now list)) (monitorOf state (now area0) (now area1)) ⌝ }
     requires { ⌜ from ≤ length (now events) ⌝ }
-    requires { ⌜ length (now store) ≡ storeWords ⌝ }
+    requires { ⌜ StoreOf (tableIn (now list)) (now store) ⌝ }
     ensures { λ r.
         ⌜ EndedFrom (tableIn (now (list .entry)))
         (monitorOf state (now (area0 .entry)) (now (area1 .entry))) (now (events .entry)) from
@@ -153,9 +166,41 @@ fn take_long(
     Answer::Given(reached)
 }
 
+// Takes the events from a place on, all of them. Where the store keeps results of a leaf, a residual
+// was met whose results its moves do not say: steps take long, so that learning pays at once.
+fn take_rest(
+    list: &[u16],
+    work: &[u64],
+    state: State,
+    area0: &mut [u64],
+    area1: &mut [u64],
+    events: &[u8],
+    from: usize,
+    store: &mut [u64],
+) -> Answer
+    requires { ⌜ Indexed (now list) (now work) ⌝ }
+    requires { ⌜ Standing (tableIn (now list)) (monitorOf state (now area0) (now area1)) ⌝ }
+    requires { ⌜ from ≤ length (now events) ⌝ }
+    requires { ⌜ StoreOf (tableIn (now list)) (now store) ⌝ }
+    ensures { λ r.
+        ⌜ EndedFrom (tableIn (now (list .entry)))
+        (monitorOf state (now (area0 .entry)) (now (area1 .entry))) (now (events .entry)) from
+        r (now (area0 .exit)) (now (area1 .exit)) ⌝ }
+{
+    let to = alone(from, events.len(), state.count, set_step::keeps_some(store));
+    match take_each(list, work, state, area0, area1, events, from, to, store) {
+        Run::Ended(answer) => answer,
+        Run::Left(reached, i) => {
+            if events.len() <= i {
+                return Answer::Given(reached);
+            }
+            take_long(list, work, reached, area0, area1, events, i, store)
+        }
+    }
+}
+
 // Takes the events from the first, until one is refused, where the table's index stands in the work
-// area: the run of an operation that is entered, without a judging. The first are taken one after
-// the other, so that a short call keeps no sets.
+// area: the run of an operation that is entered, without a judging. A store of zeros keeps nothing.
 pub fn take_all(
     list: &[u16],
     work: &[u64],
@@ -172,14 +217,14 @@ pub fn take_all(
         r (now (area0 .exit)) (now (area1 .exit)) ⌝ }
 {
     let mut store = [0u64; STORE_WORDS];
-    let to = alone(events.len(), state.count);
-    match take_part(list, work, state, area0, area1, events, 0, to, &mut store) {
+    let to = clamp(FIRST, 0, events.len());
+    match take_each(list, work, state, area0, area1, events, 0, to, &mut store) {
         Run::Ended(answer) => answer,
         Run::Left(reached, i) => {
             if events.len() <= i {
                 return Answer::Given(reached);
             }
-            take_long(list, work, reached, area0, area1, events, i, &mut store)
+            take_rest(list, work, reached, area0, area1, events, i, &mut store)
         }
     }
 }

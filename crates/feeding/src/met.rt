@@ -4,14 +4,14 @@ ghost use mathlib.Core.Path.{_≡_};
 ghost use Prim.Native.Nat.{_*_, _≤_, _<_, _^_};
 ghost use lib.ListN.{length};
 ghost use Rattle.table_index.specs.Index.{tableIn, Indexed};
-ghost use Rattle.tree_walk.specs.Layout.{storeWords};
+ghost use Rattle.set_step.specs.Memo.{StoreOf};
 ghost use Rattle.state.specs.Record.{monitorOf};
 ghost use Rattle.feeding.specs.Feeding.{Standing};
 ghost use Rattle.feeding.specs.Runs.{RunBy};
 ghost use Rattle.feeding.specs.OverSets.{Goes, Stays, TurnBy, BegunBy, LearnBy, GoesBy};
 ghost use Rattle.feeding.specs.Learning.{mayLearn, hasPaid};
 use crate::event::Taken;
-use crate::event::take_anew;
+use crate::event::take_event;
 use crate::run::Run;
 use met_sets::Pick;
 use met_sets::follow;
@@ -97,19 +97,20 @@ fn learn(
     store: &mut [u64],
 ) -> Turn
     requires { ⌜ Indexed (now list) (now work) ⌝ }
-    requires { ⌜ (alphabet ≡ tableIn (now list) .alphabet)
-        × (length (now store) ≡ storeWords) ⌝ }
+    requires { ⌜ alphabet ≡ tableIn (now list) .alphabet ⌝ }
     requires { ⌜ (i < length (now events)) × (length (now events) < 2 ^ 64) ⌝ }
     requires { ⌜ Stays (tableIn (now list)) (now events) k (now sets) (now starts) (now next)
         state n i (now area0) (now area1) ⌝ }
+    requires { ⌜ StoreOf (tableIn (now list)) (now store) ⌝ }
     ensures { λ r.
         ⌜ LearnBy (tableIn (now (list .entry))) (now (events .entry)) k (now (sets .entry))
         (now (starts .entry)) (now (next .entry)) state n i (now (area0 .entry))
         (now (area1 .entry)) r (now (sets .exit)) (now (starts .exit)) (now (next .exit))
-        (now (area0 .exit)) (now (area1 .exit)) ⌝ }
+        (now (area0 .exit)) (now (area1 .exit))
+        × StoreOf (tableIn (now (list .entry))) (now (store .exit)) ⌝ }
 {
     let e = events[i];
-    match take_anew(list, work, e, state, area0, area1, store) {
+    match take_event(list, work, e, state, area0, area1, store) {
         Taken::Stopped(number) => Turn::Ended(Answer::Stopped(Refusal { number, place: i }, state)),
         Taken::Went(reached) => {
             match pick_up(alphabet, k, sets, starts, next, reached, area0, area1) {
@@ -156,16 +157,17 @@ fn take_turn(
     store: &mut [u64],
 ) -> Turn
     requires { ⌜ Indexed (now list) (now work) ⌝ }
-    requires { ⌜ (alphabet ≡ tableIn (now list) .alphabet)
-        × (length (now store) ≡ storeWords) ⌝ }
+    requires { ⌜ alphabet ≡ tableIn (now list) .alphabet ⌝ }
     requires { ⌜ (from ≤ i) × (i ≤ length (now events)) × (length (now events) < 2 ^ 64) ⌝ }
     requires { ⌜ Goes (tableIn (now list)) (now events) k (now sets) (now starts) (now next)
         state n i (now area0) (now area1) ⌝ }
+    requires { ⌜ StoreOf (tableIn (now list)) (now store) ⌝ }
     ensures { λ r.
         ⌜ TurnBy (tableIn (now (list .entry))) (now (events .entry)) k (now (sets .entry))
         (now (starts .entry)) (now (next .entry)) state n i (now (area0 .entry))
         (now (area1 .entry)) r (now (sets .exit)) (now (starts .exit)) (now (next .exit))
-        (now (area0 .exit)) (now (area1 .exit)) ⌝ }
+        (now (area0 .exit)) (now (area1 .exit))
+        × StoreOf (tableIn (now (list .entry))) (now (store .exit)) ⌝ }
 {
     let to = events.len();
     let f = follow(alphabet, starts, next, events, state, n, i, to);
@@ -218,15 +220,16 @@ fn take_turns(
     store: &mut [u64],
 ) -> Run
     requires { ⌜ Indexed (now list) (now work) ⌝ }
-    requires { ⌜ (alphabet ≡ tableIn (now list) .alphabet)
-        × (length (now store) ≡ storeWords) ⌝ }
+    requires { ⌜ alphabet ≡ tableIn (now list) .alphabet ⌝ }
     requires { ⌜ from ≤ length (now events) ⌝ }
     requires { ⌜ Goes (tableIn (now list)) (now events) k (now sets) (now starts) (now next)
         state n from (now area0) (now area1) ⌝ }
+    requires { ⌜ StoreOf (tableIn (now list)) (now store) ⌝ }
     ensures { λ r.
         ⌜ GoesBy (tableIn (now (list .entry))) (now (events .entry)) k (now (sets .entry))
         (now (starts .entry)) (now (next .entry)) state n from (now (area0 .entry))
-        (now (area1 .entry)) r (now (area0 .exit)) (now (area1 .exit)) ⌝ }
+        (now (area1 .entry)) r (now (area0 .exit)) (now (area1 .exit))
+        × StoreOf (tableIn (now (list .entry))) (now (store .exit)) ⌝ }
 {
     let mut reached = state;
     let mut at = n;
@@ -288,11 +291,13 @@ pub fn take_kept(
     requires { ⌜ Standing (tableIn (now list)) (monitorOf state (now area0) (now area1)) ⌝ }
     requires { ⌜ (length (now sets) ≡ 1664) × (length (now starts) ≡ 64)
         × (length (now next) ≡ 2560) ⌝ }
-    requires { ⌜ (from ≤ length (now events)) × (length (now store) ≡ storeWords) ⌝ }
+    requires { ⌜ from ≤ length (now events) ⌝ }
+    requires { ⌜ StoreOf (tableIn (now list)) (now store) ⌝ }
     ensures { λ r.
         ⌜ RunBy (tableIn (now (list .entry)))
         (monitorOf state (now (area0 .entry)) (now (area1 .entry))) (now (events .entry)) from from
-        r (now (area0 .exit)) (now (area1 .exit)) ⌝ }
+        r (now (area0 .exit)) (now (area1 .exit))
+        × StoreOf (tableIn (now (list .entry))) (now (store .exit)) ⌝ }
 {
     let alphabet = index::alphabet(list, work) as usize;
     match pick_first(alphabet, sets, starts, next, state, area0, area1) {

@@ -1,10 +1,8 @@
 // A part of a call's events, one after the other. The promises are in `specs/Runs.antt`.
-ghost use mathlib.Core.Path.{_≡_};
 ghost use Prim.Native.Nat.{_≤_};
 ghost use lib.ListN.{length};
 ghost use Rattle.table_index.specs.Index.{tableIn, Indexed};
 ghost use Rattle.state.specs.Record.{monitorOf};
-ghost use Rattle.tree_walk.specs.Layout.{storeWords};
 ghost use Rattle.set_step.specs.Memo.{StoreOf};
 ghost use Rattle.feeding.specs.Feeding.{Standing};
 ghost use Rattle.feeding.specs.Runs.{RunBy};
@@ -21,7 +19,7 @@ pub enum Run {
 }
 
 // Takes the events from one place on up to another, with what the store keeps of leaves.
-fn take_each(
+pub fn take_each(
     list: &[u16],
     work: &[u64],
     state: State,
@@ -39,7 +37,8 @@ fn take_each(
     ensures { λ r.
         ⌜ RunBy (tableIn (now (list .entry)))
         (monitorOf state (now (area0 .entry)) (now (area1 .entry))) (now (events .entry)) from to
-        r (now (area0 .exit)) (now (area1 .exit)) ⌝ }
+        r (now (area0 .exit)) (now (area1 .exit))
+        × StoreOf (tableIn (now (list .entry))) (now (store .exit)) ⌝ }
 {
     let mut reached = state;
     let mut i = from;
@@ -55,29 +54,4 @@ fn take_each(
         }
     }
     Run::Left(reached, i)
-}
-
-// The same; what the store keeps of leaves is of these events alone.
-pub fn take_part(
-    list: &[u16],
-    work: &[u64],
-    state: State,
-    area0: &mut [u64],
-    area1: &mut [u64],
-    events: &[u8],
-    from: usize,
-    to: usize,
-    store: &mut [u64],
-) -> Run
-    requires { ⌜ Indexed (now list) (now work) ⌝ }
-    requires { ⌜ Standing (tableIn (now list)) (monitorOf state (now area0) (now area1)) ⌝ }
-    requires { ⌜ (from ≤ length (now events)) × (to ≤ length (now events)) ⌝ }
-    requires { ⌜ length (now store) ≡ storeWords ⌝ }
-    ensures { λ r.
-        ⌜ RunBy (tableIn (now (list .entry)))
-        (monitorOf state (now (area0 .entry)) (now (area1 .entry))) (now (events .entry)) from to
-        r (now (area0 .exit)) (now (area1 .exit)) ⌝ }
-{
-    set_step::forget(store);
-    take_each(list, work, state, area0, area1, events, from, to, store)
 }

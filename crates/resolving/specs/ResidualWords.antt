@@ -2,12 +2,14 @@
 -- are in crate residuals.
 --     nth                                    the i-th of a list of residuals
 --     pushed, pushAll                        a slot with one word more, with several more
+--     popped, popAll                         with one word less, with several less
+--     Clean                                  nothing stands behind a slot's words
 --     Resolves, resolvedInto                 what resolving the i-th residual of a term asks; the slot it gives
 --     Lands                                  where the way to it comes to
 --     ResolvesDefinition, definitionInto     the same of a definition
 -- The laws are in `ResidualWords/Resolved.antt`, `Kinds.antt`, `After.antt` and `Nth.antt` (lists), `Pushed.antt`,
--- `Into.antt` and `Ways.antt` (slots), and `Descent.antt`. Assumes nothing.
-use Prim.Native.Nat.{ℕ, _+_, _<_, _≤_}
+-- `Popped.antt`, `Into.antt` and `Ways.antt` (slots), and `Descent.antt`. Assumes nothing.
+use Prim.Native.Nat.{ℕ, zero, suc, _+_, _-_, _<_, _≤_}
 use mathlib.Core.Path.{_≡_}
 use mathlib.Core.List.{List, [], _∷_}
 use lib.ListN.{length, getD, set}
@@ -27,6 +29,7 @@ pub mod Kinds
 pub mod After
 pub mod Nth
 pub mod Pushed
+pub mod Popped
 pub mod Into
 pub mod Ways
 pub mod Descent
@@ -44,6 +47,19 @@ pushed s w = set (set s (getD s 0 0 + 1) w) 0 (getD s 0 0 + 1)
 unfoldable pub pushAll : List ℕ → List ℕ → List ℕ
 pushAll s [] = s
 pushAll s (w ∷ ws) = pushAll (pushed s w) ws
+
+-- a slot with one word less
+unfoldable pub popped : List ℕ → List ℕ
+popped s = set (set s (getD s 0 0) 0) 0 (getD s 0 0 - 1)
+
+unfoldable pub popAll : List ℕ → ℕ → List ℕ
+popAll s zero = s
+popAll s (suc k) = popAll (popped s) k
+
+-- nothing stands behind a slot's words
+pub record Clean (s : List ℕ) : Type 0 where
+  pub whole : length s ≡ 16
+  pub behind : (j : ℕ) → getD s 0 0 < j → getD s j 0 ≡ 0
 
 -- what resolving the i-th of a term asks
 pub record Resolves (t : Table) (bound n : ℕ) (m : Memory) (i : ℕ) (slot : List ℕ) : Type 0 where

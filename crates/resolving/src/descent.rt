@@ -1,8 +1,8 @@
 // Resolving, where the choices and calls on the way to a residual are gone through in a loop: one
-// that is a leaf is found without a call of `resolve_term`. The definitions are in
+// that is a leaf is found without a call of `term_into`. The definitions are in
 // `specs/Residual.antt`.
-use crate::resolve::push;
-use crate::resolve::resolve_term;
+use crate::resolve::push_into;
+use crate::resolve::term_into;
 use crate::words::node_at;
 ghost use mathlib.Core.Path.{_≡_};
 ghost use Rattle.table_index.specs.Index.{tableIn, Indexed};
@@ -81,7 +81,36 @@ pub fn descend(
     }
 }
 
-// The i-th residual of term n with the memory of m, after what the slot has; as `resolve_term`.
+// Puts the i-th residual of term n with the memory of m after what the slot has; as `term_into`.
+pub fn resolve_into(
+    list: &[u16],
+    work: &[u64],
+    bound: usize,
+    n: usize,
+    m: u64,
+    i: u64,
+    slot: &mut [u64],
+)
+    requires { ⌜ Indexed (now list) (now work) ⌝ }
+    requires { ⌜ Resolves (tableIn (now list)) bound n (memoryOf m) i (now slot) ⌝ }
+    requires { ⌜ m < memoryBound ⌝ }
+    ensures { λ _.
+        ⌜ now (slot .exit)
+        ≡ resolvedInto (tableIn (now (list .entry))) n (memoryOf m) i (now (slot .entry)) ⌝ }
+{
+    match descend(list, work, bound, n, m, i, slot) {
+        Landed::Nothing => {}
+        Landed::Leaf(w) => push_into(slot, w),
+        Landed::Pair {
+            bound: b,
+            term,
+            memory,
+            index,
+        } => term_into(list, work, b, term, memory, index, slot),
+    }
+}
+
+// The i-th residual of term n with the memory of m, after what the slot has.
 pub fn resolve_at(
     list: &[u16],
     work: &[u64],
@@ -96,14 +125,7 @@ pub fn resolve_at(
     requires { ⌜ m < memoryBound ⌝ }
     ensures { λ r. ⌜ r ≡ resolvedInto (tableIn (now (list .entry))) n (memoryOf m) i slot ⌝ }
 {
-    match descend(list, work, bound, n, m, i, &slot) {
-        Landed::Nothing => slot,
-        Landed::Leaf(w) => push(slot, w),
-        Landed::Pair {
-            bound: b,
-            term,
-            memory,
-            index,
-        } => resolve_term(list, work, b, term, memory, index, slot),
-    }
+    let mut s = slot;
+    resolve_into(list, work, bound, n, m, i, &mut s);
+    s
 }

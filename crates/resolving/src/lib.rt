@@ -8,11 +8,12 @@ mod words;
 
 pub use descent::Landed;
 pub use descent::descend;
-pub use descent::resolve_at;
+pub use descent::resolve_into;
 pub use leaves::distinct;
-pub use resolve::push;
+pub use resolve::pop_to;
+pub use resolve::push_into;
 pub use resolve::resolve_definition;
-pub use resolve::resolve_term;
+pub use resolve::term_into;
 pub use words::holds_at;
 pub use words::kind_at;
 pub use words::node_at;

@@ -4,15 +4,15 @@
 // `specs/Residual.antt`.
 use crate::words::node_at;
 ghost use mathlib.Core.Path.{_≡_};
-ghost use Prim.Native.Nat.{_+_, _<_};
+ghost use Prim.Native.Nat.{_-_, _<_};
 ghost use lib.ListN.{length, getD};
 ghost use Rattle.table_index.specs.Index.{tableIn, Indexed};
 ghost use Rattle.node_word.specs.Word.{memoryBound, memoryOf};
-ghost use Rattle.resolving.specs.ResidualWords.{pushed, Resolves, resolvedInto};
+ghost use Rattle.resolving.specs.ResidualWords.{pushed, popAll, Resolves, resolvedInto};
 ghost use Rattle.resolving.specs.ResidualWords.{ResolvesDefinition, definitionInto};
 
 // Puts one word more into a slot.
-fn push_into(slot: &mut [u64], w: u64)
+pub fn push_into(slot: &mut [u64], w: u64)
     requires { ⌜ (getD (now slot) 0 0 < 15) × (length (now slot) ≡ 16) ⌝ }
     ensures { λ _. ⌜ now (slot .exit) ≡ pushed (now (slot .entry)) w ⌝ }
 {
@@ -25,7 +25,15 @@ fn push_into(slot: &mut [u64], w: u64)
 // Puts the i-th residual of term n with the memory of m after what the slot has. The calls of the
 // term with no prefix around them name definitions below `bound`, which serves the proof that this
 // ends.
-fn term_into(list: &[u16], work: &[u64], bound: usize, n: usize, m: u64, i: u64, slot: &mut [u64])
+pub fn term_into(
+    list: &[u16],
+    work: &[u64],
+    bound: usize,
+    n: usize,
+    m: u64,
+    i: u64,
+    slot: &mut [u64],
+)
     requires { ⌜ Indexed (now list) (now work) ⌝ }
     requires { ⌜ Resolves (tableIn (now list)) bound n (memoryOf m) i (now slot) ⌝ }
     requires { ⌜ m < memoryBound ⌝ }
@@ -84,34 +92,19 @@ fn definition_into(list: &[u16], work: &[u64], d: usize, i: u64, slot: &mut [u64
     term_into(list, work, d, index::body(list, work, d), 0, i, slot);
 }
 
-// A slot with one word more.
-pub fn push(slot: [u64; 16], w: u64) -> [u64; 16]
-    requires { ⌜ getD slot 0 0 < 15 ⌝ }
-    ensures { λ r. ⌜ r ≡ pushed slot w ⌝ }
+// Takes words off a slot until it has n of them, the last first.
+pub fn pop_to(slot: &mut [u64], n: u64)
+    requires { ⌜ (getD (now slot) 0 0 < 16) × (length (now slot) ≡ 16) ⌝ }
+    ensures { λ _.
+        ⌜ now (slot .exit)
+        ≡ popAll (now (slot .entry)) (getD (now (slot .entry)) 0 0 - n) ⌝ }
 {
-    let mut s = slot;
-    push_into(&mut s, w);
-    s
-}
-
-// The i-th residual of term n with the memory of m, after what the slot has.
-pub fn resolve_term(
-    list: &[u16],
-    work: &[u64],
-    bound: usize,
-    n: usize,
-    m: u64,
-    i: u64,
-    slot: [u64; 16],
-) -> [u64; 16]
-    requires { ⌜ Indexed (now list) (now work) ⌝ }
-    requires { ⌜ Resolves (tableIn (now list)) bound n (memoryOf m) i slot ⌝ }
-    requires { ⌜ m < memoryBound ⌝ }
-    ensures { λ r. ⌜ r ≡ resolvedInto (tableIn (now (list .entry))) n (memoryOf m) i slot ⌝ }
-{
-    let mut s = slot;
-    term_into(list, work, bound, n, m, i, &mut s);
-    s
+    let mut c = slot[0];
+    while n < c {
+        slot[c as usize] = 0;
+        c -= 1;
+        slot[0] = c;
+    }
 }
 
 // The i-th residual of the body of definition d, after what the slot has.

@@ -7,6 +7,7 @@ mod starts;
 mod steps;
 
 pub use memo::forget;
+pub use memo::keeps_some;
 pub use slots::Held;
 pub use starts::resolve_set;
 pub use steps::step_set;

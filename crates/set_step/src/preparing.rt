@@ -13,7 +13,7 @@ use resolving::kind_at;
 use tree_moves::takes_at;
 ghost use mathlib.Core.Path.{_≡_};
 ghost use mathlib.Core.Bool.{true};
-ghost use Prim.Native.Nat.{_+_, _*_, _<_, _≤_};
+ghost use Prim.Native.Nat.{_<_, _≤_};
 ghost use lib.Dec.{eqb};
 ghost use lib.ListN.{length, getD};
 ghost use Rattle.table.specs.Table.{termCount};
@@ -22,7 +22,8 @@ ghost use Rattle.node_word.specs.Word.{termOfWord};
 ghost use Rattle.resolving.specs.Words.{kindAt, holdsAt};
 ghost use Rattle.tree_walk.specs.Course.{nodeCount};
 ghost use Rattle.set_step.specs.Memo.{StoreOf};
-ghost use Rattle.set_step.specs.Prepared.{Sound, Held, NodeFilled, FilledBefore, Fills};
+ghost use Rattle.set_step.specs.Prepared.{Sound, NodeFilled, FilledBefore, Fills};
+ghost use Rattle.set_step.specs.Prepared.{TreeFrom, TreeFilled};
 
 // Whether a node is a prefix, by the kind of its term. A residual's other nodes are STOP and pairs.
 fn is_prefix(list: &[u16], work: &[u64], w: u64) -> bool
@@ -75,10 +76,9 @@ fn prepare_prefix(list: &[u16], work: &[u64], bound: usize, e: u64, store: &mut 
     keep(store, p, w, e, at);
 }
 
-// Fills the part of node k, whose tree takes the event: of a prefix the number of its results and
-// their indices, of a pair that it does. A prefix with the word of `last`, which was filled before,
-// takes over its part. Gives a prefix that is filled now, or 0.
-fn prepare_node(
+// Fills the part of node k, a prefix whose set holds the event. Where it has the word of `last`,
+// which was filled before, it takes over its part.
+fn prepare_leaf(
     list: &[u16],
     work: &[u64],
     bound: usize,
@@ -86,29 +86,66 @@ fn prepare_node(
     store: &mut [u64],
     k: usize,
     last: usize,
-) -> usize
+)
     requires { ⌜ Indexed (now list) (now work) ⌝ }
     requires { ⌜ Sound (tableIn (now list)) bound e (now store) ⌝ }
-    requires { ⌜ (1 ≤ k) × (k ≤ nodeCount (now store)) × Held (tableIn (now list)) e (now store) k ⌝ }
+    requires { ⌜ (1 ≤ k) × (k ≤ nodeCount (now store)) ⌝ }
+    requires { ⌜ (kindAt (tableIn (now list)) (getD (now store) k 0) ≡ 2)
+        × (holdsAt (tableIn (now list)) e (getD (now store) k 0) ≡ true) ⌝ }
     requires { ⌜ FilledBefore (tableIn (now list)) e (now store) k last ⌝ }
-    ensures { λ r.
-        ⌜ NodeFilled (tableIn (now (list .entry))) e (now (store .entry))
-        (now (store .exit)) k
-        × FilledBefore (tableIn (now (list .entry))) e (now (store .exit)) (k + 1) r
+    ensures { λ _.
+        ⌜ NodeFilled (tableIn (now (list .entry))) e (now (store .entry)) (now (store .exit)) k
         × StoreOf (tableIn (now (list .entry))) (now (store .exit)) ⌝ }
 {
     let w = store[k];
-    let at = k * 257;
-    if is_prefix(list, work, w) {
-        if has_word(store, last, w) {
-            copy_part(store, last * 257, at);
-            return k;
-        }
-        prepare_prefix(list, work, bound, e, store, k);
-        return k;
+    if has_word(store, last, w) {
+        copy_part(store, last * 257, k * 257);
+        return;
     }
-    store[at] = 1;
-    last
+    prepare_prefix(list, work, bound, e, store, k);
+}
+
+// Where a tree ends: the node after it, and a prefix that is filled by then, or 0.
+struct TreeEnd {
+    next: usize,
+    last: usize,
+}
+
+// Fills the parts of the tree at node k. Where it cannot take the event, that alone is said. Else it
+// is a prefix, whose results are filled in, or a pair: that it takes the event, then its two sides.
+// `last` is a prefix that was filled before, or 0.
+fn prepare_tree(
+    list: &[u16],
+    work: &[u64],
+    bound: usize,
+    e: u64,
+    store: &mut [u64],
+    k: usize,
+    last: usize,
+) -> TreeEnd
+    requires { ⌜ Indexed (now list) (now work) ⌝ }
+    requires { ⌜ Sound (tableIn (now list)) bound e (now store) ⌝ }
+    requires { ⌜ TreeFrom (tableIn (now list)) (now store) k ⌝ }
+    requires { ⌜ FilledBefore (tableIn (now list)) e (now store) k last ⌝ }
+    ensures { λ r.
+        ⌜ TreeFilled (tableIn (now (list .entry))) e (now (store .entry)) (now (store .exit)) k r
+        × StoreOf (tableIn (now (list .entry))) (now (store .exit)) ⌝ }
+{
+    let tree = takes_at(list, work, store, k, e);
+    if tree.moves {
+        let w = store[k];
+        let next = k + 1;
+        if is_prefix(list, work, w) {
+            prepare_leaf(list, work, bound, e, store, k, last);
+            return TreeEnd { next, last: k };
+        }
+        store[k * 257] = 1;
+        let left = prepare_tree(list, work, bound, e, store, next, last);
+        return prepare_tree(list, work, bound, e, store, left.next, left.last);
+    }
+    let next = tree.next;
+    store[k * 257] = 0;
+    TreeEnd { next, last }
 }
 
 // Fills the store for the residual in its first sixteen words.
@@ -119,18 +156,5 @@ pub(crate) fn prepare(list: &[u16], work: &[u64], bound: usize, e: u64, store: &
         ⌜ Fills (tableIn (now (list .entry))) bound e (now (store .entry)) (now (store .exit))
         × StoreOf (tableIn (now (list .entry))) (now (store .exit)) ⌝ }
 {
-    let n = store[0] as usize;
-    let mut last = 0;
-    let mut k = 1;
-    while k <= n {
-        let tree = takes_at(list, work, store, k, e);
-        if tree.moves {
-            last = prepare_node(list, work, bound, e, store, k, last);
-            k += 1;
-            continue;
-        }
-        let next = tree.next;
-        store[k * 257] = 0;
-        k = next;
-    }
+    prepare_tree(list, work, bound, e, store, 1, 0);
 }

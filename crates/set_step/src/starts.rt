@@ -20,7 +20,7 @@ pub fn resolve_set(list: &[u16], work: &[u64], d: usize, area: &mut [u64]) -> He
     let mut i = 0;
     while i < n {
         let s = resolve_definition(list, work, d, i, [0u64; 16]);
-        match put(area, c, s) {
+        match put(area, c, &s) {
             Held::Count(k) => {
                 c = k;
                 i += 1;

@@ -53,7 +53,8 @@ fn step_many(
 {
     load(src, i * 16, store);
     prepare(list, work, bound, e, store);
-    walk(list, work, store, bound, e, 1, 1, [0u64; 16], dst, c)
+    let mut slot = [0u64; 16];
+    walk(list, work, store, bound, e, 1, 1, &mut slot, dst, c)
 }
 
 // Holds all results of the i-th residual of an area in another; only where its moves do not say
@@ -83,8 +84,9 @@ fn step_one(
         Way::Moving(moves) => {
             if moves.lone {
                 let marks = moves.each + moves.also;
-                let s = rebuild(list, work, bound, e, src, at + 1, n, marks, [0u64; 16]);
-                return put(dst, c, s);
+                let mut s = [0u64; 16];
+                rebuild(list, work, bound, e, src, at + 1, n, marks, &mut s);
+                return put(dst, c, &s);
             }
             let each = moves.each;
             let also = moves.also;

@@ -172,11 +172,12 @@ pub enum Held {
 }
 
 // Holds one slot more; gives how many are held then.
-pub fn put(area: &mut [u64], count: usize, slot: [u64; 16]) -> Held
-    requires { ⌜ count * 16 ≤ length (now area) ⌝ }
-    ensures { λ r. ⌜ Gave (putOne (now (area .entry)) count slot) r (now (area .exit)) ⌝ }
+pub fn put(area: &mut [u64], count: usize, slot: &[u64]) -> Held
+    requires { ⌜ (count * 16 ≤ length (now area)) × (length (now slot) ≡ 16) ⌝ }
+    ensures { λ r.
+        ⌜ Gave (putOne (now (area .entry)) count (now (slot .entry))) r (now (area .exit)) ⌝ }
 {
-    match insert(area, count, &slot) {
+    match insert(area, count, slot) {
         Inserted::Held => Held::Count(count),
         Inserted::New => Held::Count(count + 1),
         Inserted::Full => Held::Exceeded,

@@ -28,6 +28,7 @@ use Rattle.residuals.specs.Residual.{Residual, leaf, pair}
 use Rattle.residuals.specs.Slots.{nodes}
 use Rattle.resolving.specs.Words.{kindAt, holdsAt}
 use Rattle.resolving.specs.Lawful.{Lawful}
+use Rattle.resolving.specs.ResidualWords.{Clean}
 use Rattle.resolving.specs.Distinct.{window}
 use Rattle.tree_walk.specs.Walk.{option, room, leafResults}
 use Rattle.tree_walk.specs.Forest.{Valid}
@@ -186,7 +187,7 @@ pub record Carries (t : Table) (bound e w m : ℕ) (slot : List ℕ) : Type 0 wh
 
 -- node words of which a slot has room for what they become
 pub record Rest (t : Table) (e : ℕ) (ws : List ℕ) (m : ℕ) (slot : List ℕ) : Type 0 where
-  pub size : length slot ≡ 16
+  pub clean : Clean slot
   pub room : getD slot 0 0 + room t e ws ≤ 15
   pub marked : Marked t e ws m
 

@@ -5,9 +5,9 @@ use node_word::remember;
 use node_word::term_of;
 use resolving::Landed;
 use resolving::descend;
-use resolving::push;
-use resolving::resolve_at;
-use resolving::resolve_term;
+use resolving::push_into;
+use resolving::resolve_into;
+use resolving::term_into;
 ghost use mathlib.Core.Path.{_≡_};
 ghost use Prim.Native.Nat.{_%_};
 ghost use Rattle.table_index.specs.Index.{tableIn, Indexed};
@@ -15,8 +15,8 @@ ghost use Rattle.resolving.specs.ResidualWords.{pushAll};
 ghost use Rattle.resolving.specs.Distinct.{window};
 ghost use Rattle.tree_moves.specs.Only.{grown, rebuilt, Carries, Rebuilds};
 
-// A slot followed by the n nodes from p on, whose marked leaves take the event. What a leaf comes
-// to is mostly a leaf: it is pushed here.
+// Puts the n nodes from p on after what the slot has; the marked leaves take the event. What a leaf
+// comes to is mostly a leaf: it is pushed here.
 pub fn rebuild(
     list: &[u16],
     work: &[u64],
@@ -26,37 +26,36 @@ pub fn rebuild(
     p: usize,
     n: usize,
     marks: u64,
-    slot: [u64; 16],
-) -> [u64; 16]
+    slot: &mut [u64],
+)
     requires { ⌜ Indexed (now list) (now work) ⌝ }
-    requires { ⌜ Rebuilds (tableIn (now list)) bound e (now area) p n marks slot ⌝ }
-    ensures { λ r.
-        ⌜ r ≡ pushAll slot
+    requires { ⌜ Rebuilds (tableIn (now list)) bound e (now area) p n marks (now slot) ⌝ }
+    ensures { λ _.
+        ⌜ now (slot .exit) ≡ pushAll (now (slot .entry))
         (rebuilt (tableIn (now (list .entry))) e (window p n (now (area .entry))) marks) ⌝ }
 {
-    let mut s = slot;
     let mut m = marks;
     let mut j = 0;
     while j < n {
         let w = area[p + j];
         if m % 2 == 0 {
-            let c = s[0] + 1;
-            s[c as usize] = w;
-            s[0] = c;
+            let c = slot[0] + 1;
+            slot[c as usize] = w;
+            slot[0] = c;
             m /= 2;
             j += 1;
             continue;
         }
         let t = term_of(w) + 1;
         let x = remember(e, memory_of(w));
-        match descend(list, work, bound, t, x, 0, &s) {
+        match descend(list, work, bound, t, x, 0, slot) {
             Landed::Nothing => {
-                return s;
+                return;
             }
             Landed::Leaf(y) => {
-                let c = s[0] + 1;
-                s[c as usize] = y;
-                s[0] = c;
+                let c = slot[0] + 1;
+                slot[c as usize] = y;
+                slot[0] = c;
                 m /= 2;
                 j += 1;
             }
@@ -66,32 +65,26 @@ pub fn rebuild(
                 memory,
                 index,
             } => {
-                s = resolve_term(list, work, b, term, memory, index, s);
+                term_into(list, work, b, term, memory, index, slot);
                 m /= 2;
                 j += 1;
             }
         }
     }
-    s
 }
 
-// A slot followed by a node; where the marks' lowest bit is set, by what the leaf comes to.
-pub fn carry(
-    list: &[u16],
-    work: &[u64],
-    bound: usize,
-    e: u64,
-    w: u64,
-    marks: u64,
-    slot: [u64; 16],
-) -> [u64; 16]
+// Puts a node after what the slot has; where the marks' lowest bit is set, what the leaf comes to.
+pub fn carry(list: &[u16], work: &[u64], bound: usize, e: u64, w: u64, marks: u64, slot: &mut [u64])
     requires { ⌜ Indexed (now list) (now work) ⌝ }
-    requires { ⌜ Carries (tableIn (now list)) bound e w marks slot ⌝ }
-    ensures { λ r. ⌜ r ≡ pushAll slot (grown (tableIn (now (list .entry))) e w (marks % 2)) ⌝ }
+    requires { ⌜ Carries (tableIn (now list)) bound e w marks (now slot) ⌝ }
+    ensures { λ _.
+        ⌜ now (slot .exit)
+        ≡ pushAll (now (slot .entry)) (grown (tableIn (now (list .entry))) e w (marks % 2)) ⌝ }
 {
     if marks % 2 == 0 {
-        return push(slot, w);
+        push_into(slot, w);
+        return;
     }
     let m = remember(e, memory_of(w));
-    resolve_at(list, work, bound, term_of(w) + 1, m, 0, slot)
+    resolve_into(list, work, bound, term_of(w) + 1, m, 0, slot);
 }

@@ -1,6 +1,6 @@
 -- The walk over the nodes of one residual: what it leans on, a place in it, and what it gives from there.
 --     nodeCount, nodesFrom    the nodes in a store, from one on
---     Node, Prepared          the results of one leaf stand in the store; those of a tree's leaves
+--     LeafAt, Prepared        the results of one leaf stand in the store; those of a tree's leaves
 --     Ready, Served           what holds of the store; the trees that are to take the event are prepared
 --     Place, walked           a place in the walk, and what the walk gives from there
 --     leafRest                what is left of a leaf's results
@@ -20,6 +20,7 @@ use Rattle.node_word.specs.Word.{pack, termOfWord, memoryOf}
 use Rattle.residuals.specs.Residual.{Residual, leaf, pair}
 use Rattle.residuals.specs.Slots.{nodes}
 use Rattle.slots.specs.Holding.{Outcome, putAll}
+use Rattle.resolving.specs.ResidualWords.{Clean}
 use Rattle.resolving.specs.Distinct.{window, Resolvable}
 use Rattle.resolving.specs.Words.{kindAt, holdsAt}
 use Rattle.resolving.specs.Lawful.{Lawful}
@@ -41,15 +42,15 @@ nodesFrom store k = window k (nodeCount store + 1 - k) store
 
 -- ---- what stands in a store
 
--- the results of node k, whose word is w
-pub record Node (t : Table) (e : ℕ) (store : List ℕ) (k w : ℕ) : Type 0 where
-  pub number : getD store (k * 257) 0 ≡ length (leafKept t e w)
-  pub indices : window (k * 257 + 1) (length (leafKept t e w)) store ≡ leafKept t e w
+-- the results of the leaf whose word is w, from p on: their number, and their indices after it
+pub record LeafAt (t : Table) (e : ℕ) (store : List ℕ) (p w : ℕ) : Type 0 where
+  pub number : getD store p 0 ≡ length (leafKept t e w)
+  pub indices : window (p + 1) (length (leafKept t e w)) store ≡ leafKept t e w
 
 -- of the tree at k: of a leaf its results; of a pair, whose number says whether it can take the event, those of its sides
 -- where it can
 abbrev pub Prepared : Table → ℕ → List ℕ → ℕ → Residual → Type 0
-Prepared t e store k (leaf n m) = Node t e store k (pack n m)
+Prepared t e store k (leaf n m) = LeafAt t e store (k * 257) (pack n m)
 Prepared t e store k (pair n m l r) =
     ((getD store (k * 257) 0 ≡ 0) × (afterKept t e (pair n m l r) ≡ []))
     ⊎ ((getD store (k * 257) 0 ≡ 1) × Prepared t e store (k + 1) l × Prepared t e store (k + 1 + length (nodes l)) r)
@@ -80,7 +81,7 @@ pub record Place (t : Table) (e : ℕ) (store : List ℕ) (k modes : ℕ) (slot 
   pub first : 1 ≤ k
   pub last : k ≤ nodeCount store + 1
   pub bits : modes < 2 ^ k
-  pub whole : length slot ≡ 16
+  pub clean : Clean slot
   pub room : getD slot 0 0 + room t e (nodesFrom store k) ≤ 15
   pub held : count * 16 ≤ length area
   pub trees : Trees t e store k modes

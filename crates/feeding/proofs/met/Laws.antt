@@ -2,13 +2,14 @@
 --     going-within, -stands, -room, -out    along known transitions: what is asked for; the set is laid out
 --     out-reached, out-room, out-shape      a set that is laid out is reached; what picking up the next one asks for
 --     learn-full, learn-link, learn-kept    it has no room; it is linked, and kept
---     first-full, -kept, -goes              the set of the monitor that a run begins with
+--     Sizes, first-full, first-kept         the set of the monitor that a run begins with
 --     begun-full, begun-kept                the same where all sets are forgotten on the way
---     turn-learnt, since-goes, -kept, -ended, -left    a turn, and turns one after the other
+--     turn-out, turn-learnt, turn-onward    a turn that learns nothing, or one event; one that goes on
+--     since-goes, -kept, -ended, -left      turns one after the other
 -- Assumes nothing.
 use Prim.Native.Nat.{ℕ, suc, _+_, _*_, _<_, _≤_}
 use native.Mathlib.Omega.{arith}
-use mathlib.Core.Path.{_≡_, refl, ap, sym, subst, _∙_}
+use mathlib.Core.Path.{_≡_, sym, subst, _∙_}
 use mathlib.Core.List.{List}
 use lib.ListN.{length, getD, set, length-set}
 use lib.Seq.{getD-set-same}
@@ -17,7 +18,6 @@ use Rattle.monitor_spec.specs.Regular.{Regular}
 use Rattle.monitor_spec.specs.State.{Monitor}
 use Rattle.monitor_spec.specs.Fold.{went}
 use Rattle.monitor_spec.specs.Feed.{takeEvent}
-use Rattle.monitor_spec.specs.Sensible.{Laid}
 use Rattle.state.specs.declared.record.State.{State}
 use Rattle.state.specs.Record.{monitorOf}
 use Rattle.met_sets.specs.declared.run.Followed.{Followed}
@@ -25,7 +25,7 @@ use Rattle.met_sets.specs.declared.pick.Pick.{Pick}
 use Rattle.met_sets.specs.declared.pick.Pick.the-variants.{Set, Full}
 use Rattle.met_sets.specs.Sets.{countAt, Shape, SetStands, Met}
 use Rattle.met_sets.specs.Sets.Laws.{met-none, link-inside, met-linked}
-use Rattle.met_sets.specs.Runs.{Reached, Follows, Within, FollowedBy, Zeroed, Picked, PickedAs, PickedBy, LaidBy}
+use Rattle.met_sets.specs.Runs.{Reached, Follows, Within, FollowedBy, Picked, PickedAs, PickedBy, LaidBy}
 use Rattle.met_sets.specs.Runs.Laws.{reached-first, reached-next, went-known, within-met, stands-met, picked-follows}
 use Rattle.met_sets.specs.Runs.Laws.{laid-reached, step-leads}
 use Rattle.met_sets.specs.Runs.Areas.{zeroed-room, laid-room}
@@ -82,6 +82,9 @@ module _ {t : Table} (regular : Regular t) {m : Monitor} {es : List ℕ} {i k : 
   pub out-reached : ReachedAt t m es i (monitorOf s a b) j
   out-reached = as-reached here
 
+  pub out-shape : {A : ℕ} → A ≡ t .alphabet → Shape A k sets starts next
+  out-shape ea = subst (λ (x : ℕ). Shape x k sets starts next) (sym ea) (h .met .shape)
+
   module _ (l : j < length es) (r : Taken) (a' b' : List ℕ) (g : TakenBy t (monitorOf s a b) (getD es j 0) r a' b')
       (s' : State) (q : r ≡ Went s') where
     took : takeEvent t (monitorOf s a b) (getD es j 0) ≡ went (monitorOf s' a' b')
@@ -94,9 +97,6 @@ module _ {t : Table} (regular : Regular t) {m : Monitor} {es : List ℕ} {i k : 
     out-room = laid-room regular s' a' b' (next-reached .laid)
 
     module _ {A : ℕ} (ea : A ≡ t .alphabet) where
-      pub out-shape : Shape A k sets starts next
-      out-shape = subst (λ (x : ℕ). Shape x k sets starts next) (sym ea) (h .met .shape)
-
       module _ (p : Pick) (sets' starts' next' a'' b'' : List ℕ)
           (f : PickedBy A k sets starts next (monitorOf s' a' b') p sets' starts' next' a'' b'') where
         pick-is : PickedAs t (h .cap) k sets starts next (monitorOf s' a' b') p sets' starts' next' a'' b''
@@ -140,11 +140,15 @@ module _ {t : Table} (regular : Regular t) {m : Monitor} {es : List ℕ} {i k : 
 
 -- ---- the first set
 
+-- the sizes of what sets are kept in
+abbrev pub Sizes : List ℕ → List ℕ → List ℕ → Type 0
+Sizes sets starts next = (length sets ≡ 1664) × (length starts ≡ 64) × (length next ≡ 2560)
+
 module _ {t : Table} (regular : Regular t) (s : State) (a b : List ℕ)
-    (h : Standing t (monitorOf s a b)) (sets starts next : List ℕ) (x : length sets ≡ 1664) (y : length starts ≡ 64)
-    (z : length next ≡ 2560) (o : getD starts 0 0 ≡ 0) (small : t .alphabet ≤ 128) {A : ℕ} (ea : A ≡ t .alphabet) where
+    (h : Standing t (monitorOf s a b)) (sets starts next : List ℕ) (sizes : Sizes sets starts next)
+    (o : getD starts 0 0 ≡ 0) (small : t .alphabet ≤ 128) {A : ℕ} (ea : A ≡ t .alphabet) where
   none : Met t (h .slots) 0 sets starts next
-  none = met-none t (h .slots) sets starts next small x y z (omega arith)
+  none = met-none t (h .slots) sets starts next small (sizes .0) (sizes .1) (sizes .2) (omega arith)
 
   module _ (p : Pick) (sets' starts' next' a' b' : List ℕ)
       (f : PickedBy A 0 sets starts next (monitorOf s a b) p sets' starts' next' a' b') where
@@ -169,9 +173,6 @@ module _ {t : Table} (regular : Regular t) (s : State) (a b : List ℕ)
           zeroed = u .zeroed;
         }
 
-    pub first-goes : (n k : ℕ) → p ≡ Set n k → (es : List ℕ) (i : ℕ) → Goes t es k sets' starts' next' s n i a' b'
-    first-goes n k q es i = record { m = monitorOf s a b; i = i; going = first-kept n k q es i }
-
 -- ---- all sets are forgotten
 
 going-then : {t : Table} {m m' : Monitor} {es : List ℕ} {i l k : ℕ} {sets starts next : List ℕ} {s : State} {n j : ℕ}
@@ -193,23 +194,25 @@ going-then h g =
 
 module _ {t : Table} (regular : Regular t) {A : ℕ} (ea : A ≡ t .alphabet) (few : t .alphabet ≤ 128) (s : State)
     (a b : List ℕ) {m : Monitor} {es : List ℕ} {i l : ℕ} (h : ReachedAt t m es i (monitorOf s a b) l)
-    (sets starts next : List ℕ) (x : length sets ≡ 1664) (y : length starts ≡ 64) (z : length next ≡ 2560) (p : Pick)
-    (sets' starts' next' a' b' : List ℕ)
+    (sets starts next : List ℕ) (sizes : Sizes sets starts next) (p : Pick) (sets' starts' next' a' b' : List ℕ)
     (f : PickedBy A 0 sets (set starts 0 0) next (monitorOf s a b) p sets' starts' next' a' b') where
   start : getD (set starts 0 0) 0 0 ≡ 0
-  start = getD-set-same starts 0 0 0 (omega arith)
+  start = getD-set-same starts 0 0 0 (omega (arith, sizes .1))
+
+  still : Sizes sets (set starts 0 0) next
+  still = (sizes .0, length-set starts 0 0 ∙ sizes .1, sizes .2)
 
   pub begun-full : p ≡ Full → ReachedAt t m es i (monitorOf s a' b') l
   begun-full q =
-      let g = first-full regular s a b (h .standing) sets (set starts 0 0) next x (length-set starts 0 0 ∙ y) z start
-      few ea p sets' starts' next' a' b' f q es l in
+      let g = first-full regular s a b (h .standing) sets (set starts 0 0) next still start few ea p
+      sets' starts' next' a' b' f q es l in
       record { standing = g .standing; rest = h .rest ∙ g .rest }
 
   pub begun-kept : (n k : ℕ) → p ≡ Set n k → Going t m es i k sets' starts' next' s n l a' b'
   begun-kept n k q =
       going-then h
-      (first-kept regular s a b (h .standing) sets (set starts 0 0) next x (length-set starts 0 0 ∙ y) z start few ea p
-      sets' starts' next' a' b' f n k q es l)
+      (first-kept regular s a b (h .standing) sets (set starts 0 0) next still start few ea p sets' starts'
+      next' a' b' f n k q es l)
 
 -- ---- a turn, and turns
 
@@ -220,6 +223,14 @@ turn-sooner t m es i j p h (turn.Left s l) sets starts next a b g = (g .0, omega
 turn-sooner t m es i j p h (turn.Kept s n k l) sets starts next a b g = (g .0, omega (arith, g .1), g .2)
 
 module _ {t : Table} {es : List ℕ} {k : ℕ} {sets starts next : List ℕ} {s : State} {n j : ℕ} {a b : List ℕ} where
+  pub turn-out : Regular t → {A : ℕ} → A ≡ t .alphabet → {r : Followed}
+      → FollowedBy A starts next es s n j (length es) r → {a' b' : List ℕ}
+      → LaidBy sets starts (r .state) (r .set) a b a' b'
+      → TurnBy t es k sets starts next s n j a b (turn.Left (r .state) (r .place)) sets starts next a' b'
+  turn-out regular ea f {a'} {b'} g = record {
+    from = λ m i h. (out-reached regular (going-out regular h ea f a' b' g), f .onward, f .within);
+  }
+
   pub turn-learnt : Regular t → {A : ℕ} → A ≡ t .alphabet → {to : ℕ} {r : Followed}
       → FollowedBy A starts next es s n j to r → {a' b' : List ℕ} → LaidBy sets starts (r .state) (r .set) a b a' b'
       → {x : Turn} {sets' starts' next' a'' b'' : List ℕ}
@@ -238,6 +249,10 @@ module _ {t : Table} {es : List ℕ} {k : ℕ} {sets starts next : List ℕ} {s 
         → Going t m es i k' sets' starts' next' s' n' l a' b' × (j < l) × (l ≤ length es)
     turn-kept q {m} {i} h =
         let g : TurnTo t m es i j x sets' starts' next' a' b' = d .from m i h in rw q at g
+
+    pub turn-onward : {s' : State} {n' k' l : ℕ} → x ≡ turn.Kept s' n' k' l → Goes t es k sets starts next s n j a b
+        → (j < l) × (l ≤ length es)
+    turn-onward q h = let g = turn-kept q (h .going) in (g .1, g .2)
 
     pub turn-ended : {y : Answer} → x ≡ turn.Ended y → {m : Monitor} {i : ℕ}
         → Going t m es i k sets starts next s n j a b → EndedFrom t m es i y a' b'

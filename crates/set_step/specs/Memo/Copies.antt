@@ -1,7 +1,7 @@
 -- Copying a part.
 --     getD-behind, window-behind           what is the same behind a place
 --     Over, over-first, -next, -done       the loop of `copy_part`
---     part-moved                           a leaf's results are copied with their part
+--     leaf-copied                          a leaf's results are copied with their part
 -- Assumes nothing.
 use Prim.Native.Nat.{ℕ, suc, _+_, _-_, _<_, _≤_}
 use native.Mathlib.Omega.{arith}
@@ -14,9 +14,9 @@ use lib.Seq.{take-set-le, drop-set-lt, take-suc, getD-drop}
 use Rattle.table.specs.Table.{Table}
 use Rattle.resolving.specs.Distinct.{window}
 use Rattle.resolving.specs.Distinct.Laws.{window-none, window-cons, snoc-window, drop-further}
-use Rattle.tree_walk.specs.Walk.{leafKept}
+use Rattle.tree_walk.specs.Course.{LeafAt}
 use Rattle.tree_walk.specs.Course.Turns.{head-is, tail-is}
-use Rattle.set_step.specs.Memo.{Part, Apart, Copied}
+use Rattle.set_step.specs.Memo.{Apart, Copied}
 use Rattle.set_step.specs.Prepared.Below.{getD-below}
 
 pub getD-behind : (p : ℕ) (a b : List ℕ) (i : ℕ) → drop p a ≡ drop p b → p ≤ i → getD a i 0 ≡ getD b i 0
@@ -68,10 +68,10 @@ module _ (old : List ℕ) (p q : ℕ) where
 
 -- ---- a leaf's results
 
-pub part-moved : (t : Table) (e : ℕ) (old new : List ℕ) (p q w : ℕ)
+pub leaf-copied : (t : Table) (e : ℕ) (old new : List ℕ) (p q w : ℕ)
     → window q (getD old p 0 + 1) new ≡ window p (getD old p 0 + 1) old → p < length old → q < length new
-    → Part t e old p w → Part t e new q w
-part-moved t e old new p q w same lo ln d =
+    → LeafAt t e old p w → LeafAt t e new q w
+leaf-copied t e old new p q w same lo ln d =
     let m = sym (window-cons q _ new ln) ∙ (rw add-one at same) ∙ window-cons p _ old lo in
     record {
       number = head-is m ∙ d .number;

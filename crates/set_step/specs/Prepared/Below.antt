@@ -2,10 +2,10 @@
 --     getD-below, take-below, window-below     what lies below it is the same
 --     nodes-same                               so are the nodes of a residual
 --     window-of-prefix                         a window of what two lists share
---     node-kept                                so is what stands there of a node
+--     leaf-same                                so is what stands there of a leaf
 --     nodes-drop, nodes-length                 the nodes from one on, as a part of the store; how many they are
 -- Assumes nothing.
-use Prim.Native.Nat.{ℕ, zero, suc, _+_, _-_, _*_, _<_, _≤_}
+use Prim.Native.Nat.{ℕ, zero, suc, _+_, _-_, _<_, _≤_}
 use native.Mathlib.Omega.{arith}
 use mathlib.Core.Path.{_≡_, ap, sym, _∙_}
 use mathlib.Core.List.{List, [], _∷_, _++_, append-assoc}
@@ -15,7 +15,7 @@ use Rattle.table.specs.Table.{Table}
 use Rattle.resolving.specs.Distinct.{window}
 use Rattle.resolving.specs.Distinct.Laws.{length-window}
 use Rattle.tree_walk.specs.Walk.{leafKept}
-use Rattle.tree_walk.specs.Course.{nodeCount, nodesFrom, Node}
+use Rattle.tree_walk.specs.Course.{nodeCount, nodesFrom, LeafAt}
 
 pub getD-below : (p : ℕ) (a b : List ℕ) (i : ℕ) → take p a ≡ take p b → i < p → getD a i 0 ≡ getD b i 0
 getD-below p a b i e h = sym (getD-take p a i 0 h) ∙ ap (λ (l : List ℕ). getD l i 0) e ∙ getD-take p b i 0 h
@@ -48,14 +48,13 @@ window-of-prefix p a b i j n e h =
     ∙ ap (drop j) (sym (take-take (j + n) p a h) ∙ ap (take (j + n)) e ∙ take-take (j + n) p (drop i b) h)
     ∙ sym (drop-prefix j n (drop i b)) ∙ ap (take n) (drop-drop j i b)
 
--- ---- what stands there of a node
+-- ---- what stands there of a leaf
 
-pub node-kept : (t : Table) (e p : ℕ) (old new : List ℕ) (k w : ℕ) → take p new ≡ take p old
-    → length (leafKept t e w) ≤ 256 → k * 257 + 257 ≤ p → Node t e old k w → Node t e new k w
-node-kept t e p old new k w same few h d = record {
-  number = getD-below p new old (k * 257) same (omega arith) ∙ d .number;
-  indices =
-      window-below p new old (k * 257 + 1) (length (leafKept t e w)) same (omega arith) ∙ d .indices;
+pub leaf-same : (t : Table) (e p : ℕ) (old new : List ℕ) (q w : ℕ) → take p new ≡ take p old
+    → length (leafKept t e w) ≤ 256 → q + 257 ≤ p → LeafAt t e old q w → LeafAt t e new q w
+leaf-same t e p old new q w same few h d = record {
+  number = getD-below p new old q same (omega arith) ∙ d .number;
+  indices = window-below p new old (q + 1) (length (leafKept t e w)) same (omega arith) ∙ d .indices;
 }
 
 -- ---- the nodes from k on

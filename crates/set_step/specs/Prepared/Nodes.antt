@@ -1,16 +1,19 @@
--- One node of a residual in a store: one law per way out of `prepare_node`.
---     node-known, node-resolves, node-few           the node is a known term; its results can be resolved, and are few
---     event-fits, sound-store                       the event has room in a node word; the store is one of the table
---     fill-other, fill-resolves, -yes, -store       `prepare_node`, `prepare_prefix`
+-- One node of a residual in a store.
+--     leaf-fits                                 a known leaf's results are few
+--     event-fits, sound-store, sound-kept       the event has room in a node word; the store is one of the table; so
+--                                               it is where the slot is the same
+--     node-known, node-resolves, node-few       the node is a known term; its results can be resolved, and are few
+--     fill-resolves, fill-yes, fill-store       `prepare_prefix`
 -- Assumes nothing.
 use Prim.Native.Nat.{ℕ, zero, suc, _+_, _-_, _*_, _<_, _≤_}
 use native.Mathlib.Omega.{arith}
-use mathlib.Core.Path.{_≡_, _∙_}
-use mathlib.Core.Bool.{true}
+use mathlib.Core.Path.{_≡_, refl, _∙_}
+use mathlib.Core.Bool.{Bool, true, false}
 use mathlib.Core.List.{List, [], _∷_, _++_, map}
-use lib.ListN.{length, getD, set, length-set}
+use lib.ListN.{length, getD, set, take, length-set}
 use lib.Seq.{getD-set-same, take-set-le, drop-set-lt}
-use borrow.Author.Tests.{eq-eqb}
+use lib.Dec.{eqb}
+use borrow.Author.Tests.{eq-eqb, eqb-true}
 use Rattle.table.specs.Table.{Table, termCount}
 use Rattle.table.specs.Node.{termOf, kindOf}
 use Rattle.table.specs.Memory.{remember}
@@ -25,14 +28,14 @@ use Rattle.resolving.specs.Distinct.Laws.{at-window, length-window}
 use Rattle.resolving.specs.Words.{kindAt, holdsAt, KnownWord}
 use Rattle.resolving.specs.ResidualWords.{nth}
 use Rattle.tree_walk.specs.Walk.{leafKept, leafResults, longest, room}
-use Rattle.tree_walk.specs.Walk.Leaves.{results-yes, kept-yes, nodes-short, leaf-length}
+use Rattle.tree_walk.specs.Walk.Leaves.{results-yes, kept-yes, kept-not-kind, nodes-short, leaf-length}
 use Rattle.tree_walk.specs.Forest.{Valid}
 use Rattle.tree_walk.specs.Forest.Words.{known-node}
 use Rattle.tree_walk.specs.Course.{nodeCount, nodesFrom}
 use Rattle.set_step.specs.Memo.{StoreOf}
 use Rattle.set_step.specs.Memo.Laws.{store-behind}
 use Rattle.set_step.specs.Prepared.{Sound, NodeFilled}
-use Rattle.set_step.specs.Prepared.Below.{take-below}
+use Rattle.set_step.specs.Prepared.Below.{getD-below, take-below, nodes-same}
 
 -- ---- each node of a tree is a known term, and its results have room
 
@@ -66,12 +69,44 @@ after-set : (x : List ℕ) (p v c : ℕ) → window (p + 1) c (set x p v) ≡ wi
 unfolding window
 after-set x p v c = rw (drop-set-lt (p + 1) x p v (omega arith))
 
+-- a known leaf's results are few
+leaf-fits-by : (t : Table) → Lawful t → (e w : ℕ) → termOfWord w < termCount t → (b : Bool) → eqb (kindAt t w) 2 ≡ b
+    → length (leafKept t e w) ≤ 256
+unfolding kindAt
+leaf-fits-by t law e w h true q =
+    omega (
+      arith,
+      leaf-length t e w,
+      law .followers (termOfWord w) h (eqb-true (kindAt t w) 2 q),
+      length-resolved t law (termOfWord w + 1) (remember e (memoryOf w)),
+    )
+leaf-fits-by t law e w h false q = rw (kept-not-kind t e w q) (omega arith)
+
+pub leaf-fits : (t : Table) → Lawful t → (e w : ℕ) → termOfWord w < termCount t → length (leafKept t e w) ≤ 256
+leaf-fits t law e w h = leaf-fits-by t law e w h _ refl
+
 -- the event has room in a node word
 pub event-fits : {t : Table} {bound e : ℕ} {store : List ℕ} → Lawful t → Sound t bound e store → e < digitBound
 event-fits law s = omega (arith, s .event, law .events-most, events-fit)
 
 pub sound-store : (t : Table) (bound e : ℕ) (store : List ℕ) → Sound t bound e store → StoreOf t store
 sound-store t bound e store s = record { size = s .size; memo = s .memo }
+
+pub sound-kept : (t : Table) (bound e : ℕ) (old new : List ℕ) → Sound t bound e old → take 257 new ≡ take 257 old
+    → StoreOf t new → Sound t bound e new
+sound-kept t bound e old new s same h =
+    let n = nodes-same old new 1 same (s .few) (omega arith) in
+    record {
+      size = h .size;
+      memo = h .memo;
+      few = rw (getD-below 257 new old 0 same (omega arith)) (s .few);
+      event = s .event;
+      whole = s .whole;
+      tree = s .tree;
+      spelt = n ∙ s .spelt;
+      valid = s .valid;
+      room = rw n (s .room);
+    }
 
 module _ (t : Table) (bound e : ℕ) (store : List ℕ) (s : Sound t bound e store) (k : ℕ) (a : 1 ≤ k)
     (b : k ≤ nodeCount store) where
@@ -115,22 +150,8 @@ module _ (t : Table) (bound e : ℕ) (store : List ℕ) (s : Sound t bound e sto
           i)) ≤ longest (map nodes (leafResults t e (getD store k 0)))
       short i ih = rw (results-yes t e (getD store k 0) (eq-eqb _ _ q) h) (nodes-short _ i ih)
 
-  pub node-few : Lawful t → kindAt t (getD store k 0) ≡ 2 → holdsAt t e (getD store k 0) ≡ true
-      → length (leafKept t e (getD store k 0)) ≤ 256
-  node-few law q h =
-      omega (
-        arith,
-        leaf-length t e (getD store k 0),
-        node-resolves law q h .small,
-        length-resolved t law (termOfWord (getD store k 0) + 1) (remember e (memoryOf (getD store k 0))),
-      )
-
-  pub fill-other : (kindAt t (getD store k 0) ≡ 2 → ⊥) → NodeFilled t e store (set store (k * 257) 1) k
-  fill-other q = record {
-    before = take-set-le (k * 257) store (k * 257) 1 (omega arith);
-    prefix = λ z. absurd (q z);
-    other = λ z. getD-set-same store (k * 257) 1 0 (omega (arith, s .size, s .few));
-  }
+  pub node-few : Lawful t → length (leafKept t e (getD store k 0)) ≤ 256
+  node-few law = leaf-fits t law e (getD store k 0) (node-known .within)
 
   module _ (law : Lawful t) (q : kindAt t (getD store k 0) ≡ 2) (h : holdsAt t e (getD store k 0) ≡ true) (n mm m : ℕ)
       (en : n ≡ termOfWord (getD store k 0)) (emm : memoryOf mm ≡ memoryOf (getD store k 0))
@@ -150,16 +171,15 @@ module _ (t : Table) (bound e : ℕ) (store : List ℕ) (s : Sound t bound e sto
         before =
             take-set-le (k * 257) x (k * 257) r (omega arith)
             ∙ take-below (k * 257 + 1) (k * 257) x store (st .before) (omega arith);
-        prefix = λ z. record {
+        leaf = record {
           number = rw follower-kept (getD-set-same x (k * 257) r 0 (omega (arith, s .size, s .few)) ∙ st .number);
           indices = rw (follower-kept, ← (st .number)) (after-set x (k * 257) r r ∙ st .here);
         };
-        other = λ z. absurd (z q);
       }
 
       pub fill-store : StoreOf t (set x (k * 257) r)
       fill-store =
-          let few : r ≤ 256 = omega (arith, st .number, rw follower-kept at (node-few law q h)) in
+          let few : r ≤ 256 = omega (arith, st .number, rw follower-kept at (node-few law)) in
           store-behind t (k * 257 + 1 + r) store (set x (k * 257) r)
           (drop-set-lt (k * 257 + 1 + r) x (k * 257) r (omega arith) ∙ st .behind) (omega (arith, s .few))
           (simp length-set lx) (sound-store t bound e store s)

@@ -25,6 +25,7 @@ use Rattle.slots.specs.Canon.Members.{same-refl, same-sym, same-map}
 use Rattle.resolving.specs.Distinct.{window, empty}
 use Rattle.resolving.specs.Distinct.Laws.{at-window, length-window}
 use Rattle.resolving.specs.ResidualWords.{pushAll}
+use Rattle.resolving.specs.ResidualWords.Popped.{clean-empty}
 use Rattle.tree_walk.specs.Walk.{room, results, onto}
 use Rattle.tree_walk.specs.Forest.{afterKept}
 use Rattle.tree_walk.specs.Course.{nodeCount, nodesFrom, Trees, Place, walked}
@@ -130,7 +131,7 @@ module _ {t : Table} {bound e : ℕ} {src : List ℕ} {i : ℕ} {store dst : Lis
         whole = s .whole;
         inside = inside-here;
         can = rw nodes-here (moved-by .can);
-        rest = record { size = refl; room = room-here; marked = rw nodes-here (moved-by .marked) };
+        rest = record { clean = clean-empty; room = room-here; marked = rw nodes-here (moved-by .marked) };
         held = s .held;
       }
 
@@ -148,7 +149,7 @@ module _ {t : Table} {bound e : ℕ} {src : List ℕ} {i : ℕ} {store dst : Lis
           event = s .event;
           whole = s .whole;
           inside = inside-here;
-          rest = record { size = refl; room = room-here; marked = rw nodes-here (moved-by .single one) };
+          rest = record { clean = clean-empty; room = room-here; marked = rw nodes-here (moved-by .single one) };
         }
 
         pub lone-done : (slot : List ℕ)
@@ -214,7 +215,7 @@ module _ {t : Table} {bound e : ℕ} {src : List ℕ} {i : ℕ} {store dst : Lis
         first = omega arith;
         last = omega arith;
         bits = omega arith;
-        whole = refl;
+        clean = clean-empty;
         room = let q : room t e (nodesFrom now 1) ≤ 15 = rw now-nodes (s .slot .room) in omega arith;
         held = s .held;
         trees = start-trees;

@@ -1,6 +1,7 @@
 -- One leaf that moves: one law per way out of `step_leaf`.
 --     leaf-known, leaf-resolves, leaf-rebuilds     what it asks of others
 --     leafLeft, leaf-first, leaf-next, leaf-exceeded, leaf-end     its loop
+--     leaf-whole, leaf-back                        the whole result; the slot as it was
 -- Assumes nothing.
 use Prim.Native.Nat.{ℕ, suc, _+_, _-_, _*_, _/_, _<_, _≤_}
 use native.Mathlib.Omega.{arith}
@@ -22,9 +23,10 @@ use Rattle.residuals.specs.Residual.{resolve}
 use Rattle.residuals.specs.Slots.{nodes}
 use Rattle.resolving.specs.Words.{kindAt}
 use Rattle.resolving.specs.Lawful.{follower-in}
-use Rattle.resolving.specs.ResidualWords.{nth, pushAll, Resolves, resolvedInto}
+use Rattle.resolving.specs.ResidualWords.{nth, pushAll, popAll, Resolves, resolvedInto}
 use Rattle.resolving.specs.ResidualWords.Resolved.{length-resolved}
 use Rattle.resolving.specs.ResidualWords.Pushed.{length-pushAll, head-pushAll, pushAll-append}
+use Rattle.resolving.specs.ResidualWords.Popped.{clean-pushAll, pop-back}
 use Rattle.resolving.specs.Distinct.{window}
 use Rattle.resolving.specs.Distinct.Laws.{window-cons}
 use Rattle.tree_walk.specs.Walk.{room, leafResults, longest, onto}
@@ -33,6 +35,7 @@ use Rattle.slots.specs.Holding.Laws.{put-none, put-single, put-then, put-stop}
 use Rattle.tree_walk.specs.Walk.Leaves.{results-yes, nodes-short, nodes-at}
 use Rattle.tree_moves.specs.Only.{rebuilt, ending, tried, Rest}
 use Rattle.tree_moves.specs.Only.{Rebuilds}
+use Rattle.tree_moves.specs.Only.Rebuilding.{rest-fits}
 use Rattle.tree_moves.specs.Moving.{StepsLeaf, steppedLeaf}
 
 -- what is left of the leaf's results, from the i-th on
@@ -108,7 +111,7 @@ module _ {t : Table} {bound e : ℕ} {src : List ℕ} {p n also : ℕ} {slot dst
           small = few;
           index = omega (arith, count-is, many, length-resolved t (s .law) (k + 1) (memoryOf m));
           room = omega (arith, fits);
-          whole = here .size;
+          whole = here .clean .whole;
         }
 
         module _ (o : List ℕ) (eo : o ≡ resolvedInto t (k + 1) (memoryOf m) i slot) where
@@ -123,12 +126,12 @@ module _ {t : Table} {bound e : ℕ} {src : List ℕ} {p n also : ℕ} {slot dst
             whole = s .whole;
             inside = omega (arith, s .inside, s .some);
             rest = record {
-              size = rw written (length-pushAll slot _ ∙ here .size);
+              clean = rw written (clean-pushAll slot _ (here .clean));
               room =
                   rw written (omega (
                     arith,
                     fits,
-                    head-pushAll slot (nodes (nth (resolve t (k + 1) (memoryOf m)) i)) (here .size),
+                    head-pushAll slot (nodes (nth (resolve t (k + 1) (memoryOf m)) i)) (here .clean .whole),
                   ));
               marked = here .marked .1;
             };
@@ -141,6 +144,26 @@ module _ {t : Table} {bound e : ℕ} {src : List ℕ} {p n also : ℕ} {slot dst
               (ap (λ (x : List ℕ). x ∷ drop (suc i) results)
               (rw (results-are, ← emm, ← em, ← ek) (nodes-at (resolve t (k + 1) (memoryOf m)) i
               (omega (arith, count-is, many, length-resolved t (s .law) (k + 1) (memoryOf m))))))
+
+          -- the whole result is a slot
+          pub leaf-whole : (x : List ℕ) → x ≡ pushAll o tail → (getD x 0 0 < 16) × (length x ≡ 16)
+          leaf-whole x ex =
+              let r = leaf-rebuilds .rest in (
+                rw ex (omega (
+                  arith,
+                  head-pushAll o tail (r .clean .whole),
+                  rest-fits t (s .law) e ws (also / 2) o r,
+                )),
+                rw ex (length-pushAll o tail ∙ r .clean .whole),
+              )
+
+          -- the slot as it was
+          pub leaf-back : (x : List ℕ) → x ≡ pushAll o tail → (before : ℕ) → before ≡ getD slot 0 0
+              → popAll x (getD x 0 0 - before) ≡ slot
+          leaf-back x ex before eb =
+              let all : x ≡ pushAll slot (nodes (nth (resolve t (k + 1) (memoryOf m)) i) ++ tail) = ex
+              ∙ rw written (sym (pushAll-append slot (nodes (nth (resolve t (k + 1) (memoryOf m)) i)) tail)) in
+              rw (all, eb) (pop-back slot _ (here .clean))
 
           module _ (x : List ℕ) (ex : x ≡ pushAll o tail) (y : List ℕ) (q : ℕ) (r : Held) (l : List ℕ)
               (g : Gave (putOne y q x) r l) where

@@ -1,13 +1,14 @@
 -- The words of a residual, rebuilt: one law per way out of its functions.
 --     Rebuilding, rebuild-..     the loop of `rebuild`
 --     rest-carries, rest-grown   one node
+--     rest-fits                  all nodes: they fit the slot
 -- Assumes nothing.
 use Prim.Native.Nat.{ℕ, suc, _+_, _-_, _/_, _%_, _<_, _≤_}
 use native.Mathlib.Omega.{arith}
 use native.Mathlib.Decide.{ℕ-discrete}
 use mathlib.Core.Path.{_≡_, refl, sym, _∙_}
-use mathlib.Core.List.{List, _∷_, map}
-use lib.ListN.{length, getD}
+use mathlib.Core.List.{List, [], _∷_, map}
+use lib.ListN.{length, getD, length-append}
 use borrow.Author.Tests.{eq-eqb}
 use Rattle.table.specs.Table.{Table}
 use Rattle.table.specs.Memory.{remember}
@@ -16,7 +17,8 @@ use Rattle.residuals.specs.Slots.{nodes}
 use Rattle.resolving.specs.Lawful.{Lawful}
 use Rattle.resolving.specs.ResidualWords.{pushed, pushAll}
 use Rattle.resolving.specs.ResidualWords.Resolved.{length-resolved}
-use Rattle.resolving.specs.ResidualWords.Pushed.{length-pushed, head-pushed, length-pushAll, head-pushAll, pushAll-append}
+use Rattle.resolving.specs.ResidualWords.Popped.{clean-pushed, clean-pushAll}
+use Rattle.resolving.specs.ResidualWords.Pushed.{head-pushed, head-pushAll, pushAll-append}
 use Rattle.resolving.specs.Distinct.{window}
 use Rattle.resolving.specs.Distinct.Laws.{length-window, window-cons, window-none}
 use Rattle.tree_walk.specs.Walk.{option, room, leafResults, longest}
@@ -44,8 +46,8 @@ module _ (t : Table) (law : Lawful t) (e w : ℕ) (ws : List ℕ) (m : ℕ) (slo
   unfolding room rebuilt pushAll
   rest-keep z = (
     record {
-      size = length-pushed slot w ∙ r .size;
-      room = omega (arith, head-pushed slot w (r .size), r .room);
+      clean = clean-pushed slot w (r .clean);
+      room = omega (arith, head-pushed slot w (r .clean .whole), r .room);
       marked = r .marked .1;
     },
     rw (z, grown-kept t e w 0 refl),
@@ -59,11 +61,11 @@ module _ (t : Table) (law : Lawful t) (e w : ℕ) (ws : List ℕ) (m : ℕ) (slo
   unfolding room rebuilt
   rest-follow z = (
     record {
-      size = length-pushAll slot (option t e w 0) ∙ r .size;
+      clean = clean-pushAll slot (option t e w 0) (r .clean);
       room =
           omega (
             arith,
-            head-pushAll slot (option t e w 0) (r .size),
+            head-pushAll slot (option t e w 0) (r .clean .whole),
             r .room,
             option-fits t law e w (rest-single z),
           );
@@ -84,7 +86,7 @@ module _ (t : Table) (law : Lawful t) (e w : ℕ) (ws : List ℕ) (m : ℕ) (slo
       | yes z ↦ rw (grown-kept t e w (m % 2) z) (omega (arith, r .room))
       | no z ↦ rw (grown-moved t e w (m % 2) z) (omega (arith, r .room, option-fits t law e w (rest-single z)))
     ];
-    size = r .size;
+    size = r .clean .whole;
   }
 
   pub rest-grown : Rest t e ws (m / 2) (pushAll slot (grown t e w (m % 2)))
@@ -94,6 +96,19 @@ module _ (t : Table) (law : Lawful t) (e w : ℕ) (ws : List ℕ) (m : ℕ) (slo
         | yes z ↦ rw (grown-kept t e w (m % 2) z) (rest-keep z .0)
         | no z ↦ rw (grown-moved t e w (m % 2) z) (rest-follow z .0)
       ]
+
+-- what the nodes become fits the slot
+pub rest-fits : (t : Table) → Lawful t → (e : ℕ) (ws : List ℕ) (m : ℕ) (slot : List ℕ) → Rest t e ws m slot
+    → getD slot 0 0 + length (rebuilt t e ws m) ≤ 15
+unfolding rebuilt room
+rest-fits t law e [] m slot r = omega (arith, r .room)
+rest-fits t law e (w ∷ ws) m slot r =
+    omega (
+      arith,
+      rest-fits t law e ws (m / 2) _ (rest-grown t law e w ws m slot r),
+      head-pushAll slot (grown t e w (m % 2)) (r .clean .whole),
+      length-append (grown t e w (m % 2)) (rebuilt t e ws (m / 2)),
+    )
 
 -- the loop, at the j-th node
 pub record Rebuilding (t : Table) (e : ℕ) (area : List ℕ) (p n marks : ℕ) (start slot : List ℕ) (m j : ℕ)
@@ -117,7 +132,7 @@ module _ {t : Table} {bound e : ℕ} {area : List ℕ} {p n marks : ℕ} {start 
   pub rebuild-room : (slot : List ℕ) (m j : ℕ) → j ≤ n → Rebuilding t e area p n marks start slot m j
       → (length slot ≡ 16) × (getD slot 0 0 + (n - j) ≤ 15)
   rebuild-room slot m j h r = (
-    r .rest .size,
+    r .rest .clean .whole,
     omega (
       arith,
       r .rest .room,

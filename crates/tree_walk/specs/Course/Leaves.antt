@@ -1,9 +1,10 @@
 -- A leaf that takes the event: one law per way out of `walk_leaf`, where the modes are rest * 2 + 1.
 --     leaf-start, leaf-end, leaf-few     its loop begins and ends
 --     go-resolves, go-place              a result, and the place after it
+--     go-back                            its nodes are popped again
 --     go-next, go-exceeded               what is left after that
 -- Assumes nothing.
-use Prim.Native.Nat.{ℕ, _+_, _*_, _<_, _≤_}
+use Prim.Native.Nat.{ℕ, _+_, _-_, _*_, _<_, _≤_}
 use native.Mathlib.Omega.{arith}
 use native.Mathlib.Numerals.{add-one}
 use mathlib.Core.Path.{_≡_, refl, ap, sym, _∙_}
@@ -20,25 +21,26 @@ use Rattle.slots.specs.declared.slots.Held.{Held}
 use Rattle.slots.specs.declared.slots.Held.the-variants.{Count, Exceeded}
 use Rattle.slots.specs.Holding.{heldAs, putAll, Gave}
 use Rattle.slots.specs.Holding.Laws.{put-none, put-then, put-stop}
-use Rattle.resolving.specs.ResidualWords.Pushed.{length-pushAll, head-pushAll}
+use Rattle.resolving.specs.ResidualWords.Pushed.{head-pushAll}
+use Rattle.resolving.specs.ResidualWords.Popped.{clean-pushAll, pop-back}
 use Rattle.resolving.specs.ResidualWords.Resolved.{length-resolved}
 use Rattle.resolving.specs.Distinct.{Resolvable}
 use Rattle.resolving.specs.Distinct.Laws.{at-window}
-use Rattle.resolving.specs.ResidualWords.{pushAll, Resolves, resolvedInto}
+use Rattle.resolving.specs.ResidualWords.{pushAll, popAll, Resolves, resolvedInto}
 use Rattle.resolving.specs.Words.{kindAt, holdsAt}
 use Rattle.tree_walk.specs.Walk.{leafKept, option, options, joins, results, room, onto}
 use Rattle.tree_walk.specs.Walk.Leaves.{kept-not-kind, kept-not-held, leaf-length, leaf-below, options-length}
 use Rattle.tree_walk.specs.Walk.Leaves.{option-at}
 use Rattle.tree_walk.specs.Walk.Leaves.{option-short}
 use Rattle.tree_walk.specs.Walk.Results.{onto-head, onto-append, moved-leaf, odd, half}
-use Rattle.tree_walk.specs.Course.{nodeCount, nodesFrom, Node, Ready, Place, walked, leafRest}
+use Rattle.tree_walk.specs.Course.{nodeCount, nodesFrom, LeafAt, Ready, Place, walked, leafRest}
 use Rattle.tree_walk.specs.Course.Places.{split, spare, bits-next, leaf-here, next-leaf}
 
 module _ {t : Table} {bound e : ℕ} {store : List ℕ} (ready : Ready t bound e store) (k rest : ℕ) (slot area : List ℕ)
     (count : ℕ)
     (p : Place t e store k (rest * 2 + 1) slot area count) (h : k ≤ nodeCount store)
     (q : kindAt t (getD store k 0) ≡ 4 → ⊥) where
-  node' : Node t e store k (getD store k 0)
+  node' : LeafAt t e store (k * 257) (getD store k 0)
   node' = leaf-here ready k (rest * 2 + 1) slot area count p h q .prepared (odd rest)
 
   -- a leaf with a result is a prefix whose set holds the event
@@ -113,7 +115,7 @@ module _ {t : Table} {bound e : ℕ} {store : List ℕ} (ready : Ready t bound e
           small = s .small;
           index = rw which (leaf-below t e (getD store k 0) .at j jk);
           room = omega (arith, short);
-          whole = p .whole;
+          whole = p .clean .whole;
         }
 
     module _ (s : List ℕ)
@@ -128,8 +130,8 @@ module _ {t : Table} {bound e : ℕ} {store : List ℕ} (ready : Ready t bound e
         first = omega arith;
         last = omega arith;
         bits = bits-next ready k (rest * 2 + 1) slot area count p h rest (omega arith);
-        whole = length-pushAll slot _ ∙ p .whole;
-        room = omega (arith, short, head-pushAll slot (option t e (getD store k 0) i) (p .whole));
+        clean = clean-pushAll slot _ (p .clean);
+        room = omega (arith, short, head-pushAll slot (option t e (getD store k 0) i) (p .clean .whole));
         held = f;
         trees = rw (half rest) at (next-leaf ready k (rest * 2 + 1) slot area count p h q);
       })
@@ -176,16 +178,21 @@ module _ {t : Table} {bound e : ℕ} {store : List ℕ} (ready : Ready t bound e
     (q : kindAt t (getD store k 0) ≡ 4 → ⊥) (j i : ℕ) (jh : j < getD store (k * 257) 0)
     (ei : i ≡ getD store (k * 257 + 1 + j) 0)
     (n mm m : ℕ) (en : n ≡ termOfWord (getD store k 0)) (emm : memoryOf mm ≡ memoryOf (getD store k 0))
-    (em : memoryOf m ≡ remember e (memoryOf mm)) where
-  pub go-resolves : Resolves t bound (n + 1) (memoryOf m) i slot
-  go-resolves = rw (em, en, emm) (leaf-resolves ready k rest slot area count p h q j i jh ei)
+    (em : memoryOf m ≡ remember e (memoryOf mm)) (s0 : List ℕ) (e0 : s0 ≡ slot) where
+  pub go-resolves : Resolves t bound (n + 1) (memoryOf m) i s0
+  go-resolves = rw (e0, em, en, emm) (leaf-resolves ready k rest slot area count p h q j i jh ei)
 
-  module _ (s : List ℕ) (es : s ≡ resolvedInto t (n + 1) (memoryOf m) i slot) where
+  module _ (s : List ℕ) (es : s ≡ resolvedInto t (n + 1) (memoryOf m) i s0) where
     es2 : s ≡ resolvedInto t (termOfWord (getD store k 0) + 1) (remember e (memoryOf (getD store k 0))) i slot
-    es2 = rw (em, en, emm) at es
+    es2 = rw (e0, em, en, emm) at es
 
     pub go-place : (a : List ℕ) (c : ℕ) → c * 16 ≤ length a → Place t e store (k + 1) rest s a c
     go-place = leaf-place ready k rest slot area count p h q j i jh ei s es2
+
+    pub go-back : (s1 s2 : List ℕ) → s1 ≡ s → s2 ≡ popAll s1 (getD s1 0 0 - getD slot 0 0) → s2 ≡ slot
+    unfolding resolvedInto
+    go-back s1 s2 e1 e2 =
+        e2 ∙ ap (λ (x : List ℕ). popAll x (getD x 0 0 - getD slot 0 0)) (e1 ∙ es2) ∙ pop-back slot _ (p .clean)
 
     pub go-next : (a : List ℕ) (c : ℕ) (r1 : Held) (l1 : List ℕ) → Gave (walked t e store (k + 1) rest s a c) r1 l1
         → (d : ℕ) → r1 ≡ Count d

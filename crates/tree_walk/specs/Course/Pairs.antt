@@ -19,7 +19,7 @@ use Rattle.slots.specs.declared.slots.Held.the-variants.{Count, Exceeded}
 use Rattle.slots.specs.Holding.{putAll, Gave}
 use Rattle.slots.specs.Holding.Laws.{put-none, put-then, put-stop}
 use Rattle.resolving.specs.Words.{kindAt, holdsAt}
-use Rattle.resolving.specs.ResidualWords.{pushed}
+use Rattle.resolving.specs.ResidualWords.{pushed, Clean}
 use Rattle.tree_walk.specs.Walk.{joins, before, results, onto}
 use Rattle.tree_walk.specs.Walk.Results.{onto-before, onto-append, both-sides, one-side, odd, half}
 use Rattle.tree_walk.specs.Forest.{afterKept}
@@ -73,19 +73,21 @@ module _ {t : Table} {bound e : ℕ} {store : List ℕ} (ready : Ready t bound e
     sides-of (inr d) = (d .1, d .2)
 
     -- the place after the pair's node, where the modes of its sides are new
-    pub pair-place : (x : ℕ) (s a : List ℕ) (c : ℕ) → x ≤ rest * 4 + 3 → x / 4 ≡ rest → s ≡ pushed slot (getD store k 0)
-        → c * 16 ≤ length a → Place t e store (k + 1) x s a c
+    pub pair-place : (x : ℕ) (s a : List ℕ) (c : ℕ) → x ≤ rest * 4 + 3 → x / 4 ≡ rest → s ≡ slot → c * 16 ≤ length a
+        → Clean s × Place t e store (k + 1) x (pushed s (getD store k 0)) a c
     pair-place x s a c w m es f =
-        let d = sides-of is-prepared in
-        next-place ready k (rest * 2 + 1) slot area count p h x s a c (omega arith) es f
-        (next-sides turn x (m ∙ sym (half rest)) (λ z. d .0) (λ z. d .1))
+        let d = sides-of is-prepared in rw es (
+          p .clean,
+          next-place ready k (rest * 2 + 1) slot area count p h x a c (omega arith) f
+              (next-sides turn x (m ∙ sym (half rest)) (λ z. d .0) (λ z. d .1)),
+        )
 
   -- ---- both sides
 
-  pub pair-both : holdsAt t e (getD store k 0) ≡ true → (s : List ℕ) → s ≡ pushed slot (getD store k 0)
-      → (r : Held) (l : List ℕ) → Gave (walked t e store (k + 1) (rest * 4 + 3) s area count) r l
+  pub pair-both : holdsAt t e (getD store k 0) ≡ true → (r : Held) (l : List ℕ)
+      → Gave (walked t e store (k + 1) (rest * 4 + 3) (pushed slot (getD store k 0)) area count) r l
       → Gave (walked t e store k (rest * 2 + 1) slot area count) r l
-  pair-both held s es r l g = go ready k (rest * 2 + 1) slot area count p h (rest * 4 + 3) both s es r l g
+  pair-both held = go ready k (rest * 2 + 1) slot area count p h (rest * 4 + 3) both
     where
       both : results t e (nodesFrom store k) (rest * 2 + 1)
           ≡ before (getD store k 0) (results t e (nodesFrom store (k + 1)) (rest * 4 + 3))
@@ -93,8 +95,8 @@ module _ {t : Table} {bound e : ℕ} {store : List ℕ} (ready : Ready t bound e
 
   -- ---- one side, then the other
 
-  module _ (no : holdsAt t e (getD store k 0) ≡ false) (s : List ℕ) (es : s ≡ pushed slot (getD store k 0)) (r1 : Held)
-      (l1 : List ℕ) (g1 : Gave (walked t e store (k + 1) (rest * 4 + 1) s area count) r1 l1) where
+  module _ (no : holdsAt t e (getD store k 0) ≡ false) (r1 : Held) (l1 : List ℕ)
+      (g1 : Gave (walked t e store (k + 1) (rest * 4 + 1) (pushed slot (getD store k 0)) area count) r1 l1) where
     either : results t e (nodesFrom store k) (rest * 2 + 1)
         ≡ before (getD store k 0) (results t e (nodesFrom store (k + 1)) (rest * 4 + 1)) ++ before
         (getD store k 0) (results t e (nodesFrom store (k + 1)) (rest * 4 + 2))
@@ -102,17 +104,18 @@ module _ {t : Table} {bound e : ℕ} {store : List ℕ} (ready : Ready t bound e
 
     total : walked t e store k (rest * 2 + 1) slot area count
         ≡ putAll area count
-        (onto s (results t e (nodesFrom store (k + 1)) (rest * 4 + 1)) ++ onto s
-        (results t e (nodesFrom store (k + 1)) (rest * 4 + 2)))
+        (onto (pushed slot (getD store k 0)) (results t e (nodesFrom store (k + 1)) (rest * 4 + 1)) ++ onto
+        (pushed slot (getD store k 0)) (results t e (nodesFrom store (k + 1)) (rest * 4 + 2)))
     unfolding walked
-    total = rw (either, onto-append, onto-before, onto-before, es)
+    total = rw (either, onto-append, onto-before, onto-before)
 
-    pub pair-then : (c1 : ℕ) → r1 ≡ Count c1 → (r : Held) (l : List ℕ)
-        → Gave (walked t e store (k + 1) (rest * 4 + 2) s l1 c1) r l
+    pub pair-then : (c1 : ℕ) → r1 ≡ Count c1 → (s : List ℕ) → s ≡ slot → (r : Held) (l : List ℕ)
+        → Gave (walked t e store (k + 1) (rest * 4 + 2) (pushed s (getD store k 0)) l1 c1) r l
         → Gave (walked t e store k (rest * 2 + 1) slot area count) r l
     unfolding walked
-    pair-then c1 e1 r l g =
-        record { same = g .same ∙ put-then area count _ _ e1 (g1 .same) ∙ sym total; fits = g .fits }
+    pair-then c1 e1 s es r l g =
+        let g2 = rw es at g in
+        record { same = g2 .same ∙ put-then area count _ _ e1 (g1 .same) ∙ sym total; fits = g .fits }
 
     pub pair-room : (c1 : ℕ) → r1 ≡ Count c1 → c1 * 16 ≤ length l1
     pair-room c1 e1 = rw e1 at (g1 .fits)

@@ -2,12 +2,14 @@
 --     split, known, pair-here, leaf-here            the node at a place, and the first tree there
 --     next-place, next-kept, next-leaf              the next place, and its trees
 --     walk-end, walk-kept-pair, walk-kept-leaf      `walk`
+--     kept-..                                       `walk_kept`: a word is pushed, the walk goes on, the word is popped
+--     pop-room                                      a place's slot can be popped
 -- Assumes nothing.
-use Prim.Native.Nat.{ℕ, _+_, _*_, _/_, _%_, _<_, _≤_, max, _^_}
+use Prim.Native.Nat.{ℕ, _+_, _-_, _*_, _/_, _%_, _<_, _≤_, max, _^_}
 use native.Mathlib.Omega.{arith}
 use native.Mathlib.Numerals.{add-one}
 use native.Mathlib.Nat.{pow-suc}
-use mathlib.Core.Path.{_≡_, _∙_}
+use mathlib.Core.Path.{_≡_, ap, _∙_}
 use mathlib.Core.List.{List, _∷_, map}
 use lib.ListN.{length, getD}
 use lib.Pow.{pow-mono}
@@ -16,9 +18,10 @@ use Rattle.residuals.specs.Slots.{nodes}
 use Rattle.slots.specs.declared.slots.Held.{Held}
 use Rattle.slots.specs.Holding.{putOne, Gave}
 use Rattle.slots.specs.Holding.Laws.{put-single}
-use Rattle.resolving.specs.ResidualWords.Pushed.{length-pushed, head-pushed}
+use Rattle.resolving.specs.ResidualWords.Pushed.{head-pushed}
+use Rattle.resolving.specs.ResidualWords.Popped.{clean-pushed, pop-back-one}
 use Rattle.resolving.specs.Words.{kindAt, KnownWord}
-use Rattle.resolving.specs.ResidualWords.{pushed, pushAll}
+use Rattle.resolving.specs.ResidualWords.{pushed, pushAll, popAll, Clean}
 use Rattle.tree_walk.specs.Walk.{before, results, leafResults, longest, room, onto}
 use Rattle.tree_walk.specs.Walk.Results.{onto-before, kept-pair, kept-leaf}
 use Rattle.tree_walk.specs.Course.{nodeCount, nodesFrom, Ready, Trees, Place, walked}
@@ -43,9 +46,6 @@ module _ {t : Table} {bound e : ℕ} {store : List ℕ} (ready : Ready t bound e
         (max 1 (longest (map nodes (leafResults t e (getD store k 0)))) + room t e (nodesFrom store (k + 1))) ≤ 15
     unfolding room
     spare = rw split at (p .room)
-
-    pub push-room : getD slot 0 0 < 15
-    push-room = omega (arith, spare)
 
     pub bits-next : (x : ℕ) → x ≤ 2 * modes + 1 → x < 2 ^ (k + 1)
     bits-next x w = rw add-one (omega (arith, p .bits, pow-suc 2 k))
@@ -73,36 +73,60 @@ module _ {t : Table} {bound e : ℕ} {store : List ℕ} (ready : Ready t bound e
     pub known : KnownWord t (getD store k 0)
     known = node-known t e store k modes _ _ split (p .trees)
 
-    pub next-place : (x : ℕ) (s a : List ℕ) (c : ℕ) → x ≤ 2 * modes + 1 → s ≡ pushed slot (getD store k 0)
-        → c * 16 ≤ length a → Trees t e store (k + 1) x → Place t e store (k + 1) x s a c
-    next-place x s a c w es f g = rw es (record {
+    pub next-place : (x : ℕ) (a : List ℕ) (c : ℕ) → x ≤ 2 * modes + 1 → c * 16 ≤ length a → Trees t e store (k + 1) x
+        → Place t e store (k + 1) x (pushed slot (getD store k 0)) a c
+    next-place x a c w f g = record {
       first = omega arith;
       last = omega arith;
       bits = bits-next x w;
-      whole = length-pushed slot _ ∙ p .whole;
-      room = omega (arith, spare, head-pushed slot (getD store k 0) (p .whole));
+      clean = clean-pushed slot _ (p .clean);
+      room = omega (arith, spare, head-pushed slot (getD store k 0) (p .clean .whole));
       held = f;
       trees = g;
-    })
+    }
 
     pub go : (x : ℕ) → results t e (nodesFrom store k) modes
         ≡ before (getD store k 0) (results t e (nodesFrom store (k + 1)) x)
-        → (s : List ℕ) → s ≡ pushed slot (getD store k 0) → (r : Held) (l : List ℕ)
-        → Gave (walked t e store (k + 1) x s area count) r l → Gave (walked t e store k modes slot area count) r l
+        → (r : Held) (l : List ℕ)
+        → Gave (walked t e store (k + 1) x (pushed slot (getD store k 0)) area count) r l
+        → Gave (walked t e store k modes slot area count) r l
     unfolding walked
-    go x q s es r l g = record { same = g .same ∙ rw (es, q, onto-before); fits = g .fits }
+    go x q r l g = record { same = g .same ∙ rw (q, onto-before); fits = g .fits }
 
-    pub walk-kept-pair : modes % 2 ≡ 0 → kindAt t (getD store k 0) ≡ 4 → (s : List ℕ) → s
-        ≡ pushed slot (getD store k 0) → (r : Held) (l : List ℕ)
-        → Gave (walked t e store (k + 1) (modes / 2 * 4) s area count) r l
+    pub walk-kept-pair : modes % 2 ≡ 0 → kindAt t (getD store k 0) ≡ 4 → (r : Held) (l : List ℕ)
+        → Gave (walked t e store (k + 1) (modes / 2 * 4) (pushed slot (getD store k 0)) area count) r l
         → Gave (walked t e store k modes slot area count) r l
-    walk-kept-pair z q s es r l g = go (modes / 2 * 4) (rw split (kept-pair t e _ _ modes z q)) s es r l g
+    walk-kept-pair z q = go (modes / 2 * 4) (rw split (kept-pair t e _ _ modes z q))
 
-    pub walk-kept-leaf : modes % 2 ≡ 0 → (kindAt t (getD store k 0) ≡ 4 → ⊥) → (s : List ℕ) → s
-        ≡ pushed slot (getD store k 0) → (r : Held) (l : List ℕ)
-        → Gave (walked t e store (k + 1) (modes / 2) s area count) r l
+    pub walk-kept-leaf : modes % 2 ≡ 0 → (kindAt t (getD store k 0) ≡ 4 → ⊥) → (r : Held) (l : List ℕ)
+        → Gave (walked t e store (k + 1) (modes / 2) (pushed slot (getD store k 0)) area count) r l
         → Gave (walked t e store k modes slot area count) r l
-    walk-kept-leaf z q s es r l g = go (modes / 2) (rw split (kept-leaf t e _ _ modes z q)) s es r l g
+    walk-kept-leaf z q = go (modes / 2) (rw split (kept-leaf t e _ _ modes z q))
+
+-- ---- a node that stands in each result
+
+-- a place's slot can be popped
+pub pop-room : {t : Table} {e : ℕ} {store : List ℕ} {k modes : ℕ} {slot area : List ℕ} {count : ℕ}
+    → Place t e store k modes slot area count → (s : List ℕ) → s ≡ slot → (getD s 0 0 < 16) × (length s ≡ 16)
+pop-room p s es = rw es (omega (arith, p .room), p .clean .whole)
+
+module _ (t : Table) (e : ℕ) (store : List ℕ) (k modes : ℕ) (slot area : List ℕ) (count : ℕ) (c : Clean slot)
+    (p : Place t e store (k + 1) modes (pushed slot (getD store k 0)) area count) where
+  pub kept-room : (getD slot 0 0 < 15) × (length slot ≡ 16)
+  kept-room = (omega (arith, p .room, head-pushed slot (getD store k 0) (c .whole)), c .whole)
+
+  module _ (s : List ℕ) (es : s ≡ pushed slot (getD store k 0)) where
+    pub kept-place : Place t e store (k + 1) modes s area count
+    kept-place = rw es p
+
+    pub kept-gave : {r : Held} {l : List ℕ} → Gave (walked t e store (k + 1) modes s area count) r l
+        → Gave (walked t e store (k + 1) modes (pushed slot (getD store k 0)) area count) r l
+    kept-gave g = rw es at g
+
+    pub kept-back : (s1 s2 : List ℕ) → s1 ≡ s → s2 ≡ popAll s1 (getD s1 0 0 - getD slot 0 0) → s2 ≡ slot
+    kept-back s1 s2 e1 e2 =
+        e2 ∙ ap (λ (x : List ℕ). popAll x (getD x 0 0 - getD slot 0 0)) (e1 ∙ es)
+        ∙ pop-back-one slot (getD store k 0) c
 
 -- ---- odd modes, as the code has them
 

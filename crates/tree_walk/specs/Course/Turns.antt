@@ -3,7 +3,7 @@
 --     node-known                                   the first node is a known term
 --     next-sides                                   the place after a pair's node
 -- Assumes nothing.
-use Prim.Native.Nat.{ℕ, suc, _+_, _/_, _%_}
+use Prim.Native.Nat.{ℕ, suc, _+_, _*_, _/_, _%_}
 use native.Mathlib.Omega.{arith}
 use mathlib.Core.Path.{_≡_, refl, ap, sym, _∙_}
 use mathlib.Core.List.{List, [], _∷_, _++_, append-assoc}
@@ -16,7 +16,7 @@ use Rattle.residuals.specs.Slots.{nodes, nodesAll}
 use Rattle.resolving.specs.Words.{kindAt, KnownWord}
 use Rattle.tree_walk.specs.Forest.{Valid, AllValid, Forest}
 use Rattle.tree_walk.specs.Forest.Words.{kind-of-node, known-node}
-use Rattle.tree_walk.specs.Course.{nodesFrom, Node, Prepared, Served, Trees}
+use Rattle.tree_walk.specs.Course.{nodesFrom, LeafAt, Prepared, Served, Trees}
 
 pub head-is : {x y : ℕ} {xs ys : List ℕ} → x ∷ xs ≡ y ∷ ys → x ≡ y
 head-is e = cc
@@ -42,7 +42,7 @@ module _ (t : Table) (e : ℕ) (store : List ℕ) (k modes w : ℕ) (ws : List �
     pub served : Served t e store (k + 1 + length (nodes l) + length (nodes r)) (modes / 2) (others .trees)
 
   pub record LeafTurn : Type 0 where
-    pub prepared : (modes % 2 ≡ 0 → ⊥) → Node t e store k w
+    pub prepared : (modes % 2 ≡ 0 → ⊥) → LeafAt t e store (k * 257) w
     pub forest : Forest t ws
     pub served : Served t e store (k + 1) (modes / 2) (forest .trees)
 

@@ -1,23 +1,49 @@
 -- `feeding::feeder::take_all` meets its contract: a run from where another one left, from the first event on. Assumes
 -- nothing.
 use native.Mathlib.Omega.{arith}
-use mathlib.Core.Path.{_∙_}
+use Rattle.table.specs.Table.{Table}
+use Rattle.table_index.specs.Index.{tableIn}
+use Rattle.monitor_spec.specs.State.{Monitor}
+use Rattle.state.specs.Record.{monitorOf}
+use Rattle.set_step.specs.Memo.Laws.{store-zeros}
 use Rattle.feeding.proofs.run.Turn.{ended-then, ended-done, ended-all, run-ended, run-left}
 use borrow.Author.Needs.{needs}
 use Rattle.feeding.proofs.feeder.take_all.Statement.{statement}
 use Rattle.feeding.proofs.feeder.take_all.Tie as tie
 
-alone-requires : tie.Need-alone-requires
-alone-requires c κs = search needs
+-- ---- places of the code
 
-slice-aggregate-take-part : tie.Need-slice-aggregate-take-part
-slice-aggregate-take-part c = search needs
+abbrev start : tie.After-take-each → tie.Start
+start c = c .before .before .before .before .before .before .before .before .before .before
 
-take-part-requires : tie.Need-take-part-requires
-take-part-requires c κs =
-    let at-alone = c .before .before .before in
-    let at-start = at-alone .before .before .before .before .before .before in
-    (at-start .pre .0, (at-start .pre .1, ((omega arith, at-alone .alone .ensures), search needs)))
+abbrev ended : tie.After-known-told → tie.After-take-each
+ended c = c .before .before .before .before .before .before .before .before
+
+abbrev left : tie.After-reached → tie.After-take-each
+left c = c .before .before .before .before .before .before .before
+
+abbrev table : tie.After-take-each → Table
+table c = tableIn (start c .args .list .now)
+
+-- the monitor from which the run goes
+abbrev from : tie.After-take-each → Monitor
+from c =
+    let args = start c .args in
+    monitorOf (args .state) (args .area0 .now) (args .area1 .now)
+
+-- ---- the calls and the returns
+
+clamp-requires : tie.Need-clamp-requires
+clamp-requires c κs = search needs
+
+slice-aggregate-take-each : tie.Need-slice-aggregate-take-each
+slice-aggregate-take-each c = search needs
+
+take-each-requires : tie.Need-take-each-requires
+take-each-requires c κs =
+    let at-start = c .before .before .before .before .before .before .before .before .before in
+    let t = tableIn (at-start .args .list .now) in
+    (at-start .pre .0, (at-start .pre .1, ((omega arith, omega arith), store-zeros t)))
 
 enum-known-answer : tie.Need-enum-known-answer
 enum-known-answer c = search needs
@@ -33,31 +59,20 @@ same-length-2 c = search needs
 
 returns : tie.Need-returns
 returns c =
-    let at-reached = c .before .before in
-    let at-take-part = at-reached .before .before .before .before .before .before .before in
-    let g = run-left _ _ _ _ _ _ _ _ (at-take-part .take-part .ensures) _ _ (at-reached .reached .given .1) in
-    ended-all _ _ _ _ _ _ (ended-done _ _ _ _ _ _ _ _ (g .0) (c .if1 .taken))
+    let told = c .before .before in
+    let at = left told in
+    let g = run-left (table at) (from at) _ _ _ _ _ _ (at .take-each .ensures .0) _ _ (told .reached .given .1) in
+    ended-all (table at) (from at) _ _ _ _ (ended-done (table at) (from at) _ _ _ _ _ _ (g .0) (c .if1 .taken))
 
-slice-aggregate-take-long : tie.Need-slice-aggregate-take-long
-slice-aggregate-take-long c = search needs
+slice-aggregate-take-rest : tie.Need-slice-aggregate-take-rest
+slice-aggregate-take-rest c = search needs
 
-take-long-requires : tie.Need-take-long-requires
-take-long-requires c κs =
-    let at-reached = c .before .before .before .before .before in
-    let at-take-part = at-reached .before .before .before .before .before .before .before in
-    let at-shared-slice-known2 = at-take-part .before .before .before .before .before .before .before .before in
-    let at-start = at-shared-slice-known2 .before .before in
-    let g = run-left _ _ _ _ _ _ _ _ (at-take-part .take-part .ensures) _ _ (at-reached .reached .given .1) in (
-      at-start .pre .0,
-      (
-        g .0 .standing,
-        (
-          g .2,
-          at-take-part .take-part .kept .1 .1 .1 .1 .1 .1 .1 .1 .0 ∙ search
-              needs,
-        ),
-      ),
-    )
+take-rest-requires : tie.Need-take-rest-requires
+take-rest-requires c κs =
+    let told = c .before .before .before .before .before in
+    let at = left told in
+    let g = run-left (table at) (from at) _ _ _ _ _ _ (at .take-each .ensures .0) _ _ (told .reached .given .1) in
+    (start at .pre .0, (g .0 .standing, (g .2, at .take-each .ensures .1)))
 
 same-length-3 : tie.Need-same-length-3
 same-length-3 c = search needs
@@ -67,10 +82,9 @@ same-length-4 c = search needs
 
 returns-2 : tie.Need-returns-2
 returns-2 c =
-    let at-answer = c .before in
-    let at-take-part = at-answer .before .before .before .before .before .before .before in
-    ended-all _ _ _ _ _ _ (run-ended _ _ _ _ _ _ _ _ (at-take-part .take-part .ensures) _
-    (at-answer .answer .given .1))
+    let at = ended c in
+    ended-all (table at) (from at) _ _ _ _
+    (run-ended (table at) (from at) _ _ _ _ _ _ (at .take-each .ensures .0) _ (c .before .answer .given .1))
 
 same-length-5 : tie.Need-same-length-5
 same-length-5 c = search needs
@@ -80,26 +94,27 @@ same-length-6 c = search needs
 
 returns-3 : tie.Need-returns-3
 returns-3 c =
-    let at-take-long = c .before .before .before .before .before in
-    let at-reached = at-take-long .before .before .before .before .before .before in
-    let at-take-part = at-reached .before .before .before .before .before .before .before in
-    let g = run-left _ _ _ _ _ _ _ _ (at-take-part .take-part .ensures) _ _ (at-reached .reached .given .1) in
-    ended-all _ _ _ _ _ _ (ended-then _ _ _ _ _ _ (g .0) _ _ _ (at-take-long .take-long .ensures))
+    let at-take-rest = c .before .before .before .before .before in
+    let told = at-take-rest .before .before .before .before .before .before in
+    let at = left told in
+    let g = run-left (table at) (from at) _ _ _ _ _ _ (at .take-each .ensures .0) _ _ (told .reached .given .1) in
+    ended-all (table at) (from at) _ _ _ _
+    (ended-then (table at) (from at) _ _ _ _ (g .0) _ _ _ (at-take-rest .take-rest .ensures))
 
 pub take-all-spec : {M : Type 1} → statement M
 take-all-spec =
     tie.close
     (tie.spec
-    alone-requires
-    slice-aggregate-take-part
-    take-part-requires
+    clamp-requires
+    slice-aggregate-take-each
+    take-each-requires
     enum-known-answer
     enum-known-reached
     same-length
     same-length-2
     returns
-    slice-aggregate-take-long
-    take-long-requires
+    slice-aggregate-take-rest
+    take-rest-requires
     same-length-3
     same-length-4
     returns-2

@@ -1,28 +1,49 @@
 -- `feeding::feeder::take_stretch` meets its contract: a run from where another one left. Assumes nothing.
 use native.Mathlib.Omega.{arith}
-use mathlib.Core.Path.{_∙_}
+use Rattle.table.specs.Table.{Table}
+use Rattle.table_index.specs.Index.{tableIn}
+use Rattle.monitor_spec.specs.State.{Monitor}
+use Rattle.state.specs.Record.{monitorOf}
 use Rattle.feeding.specs.Runs.{RunBy}
 use Rattle.feeding.proofs.run.Turn.{run-ended, run-left, run-then}
 use borrow.Author.Needs.{needs}
 use Rattle.feeding.proofs.feeder.take_stretch.Statement.{statement}
 use Rattle.feeding.proofs.feeder.take_stretch.Tie as tie
 
+-- ---- places of the code
+
+abbrev start : tie.After-take-kept → tie.Start
+start c =
+    c .before .before .before .before .before .before .before .before .before .before .before .before .before
+    .before .before .before
+
+abbrev ended : tie.After-known-told → tie.After-take-kept
+ended c =
+    c .before .before .before .before .before .before .before .before .before .before .before .before .before
+    .before .before
+
+abbrev left : tie.After-reached → tie.After-take-kept
+left c =
+    c .before .before .before .before .before .before .before .before .before .before .before .before .before
+    .before
+
+abbrev table : tie.After-take-kept → Table
+table c = tableIn (start c .args .list .now)
+
+-- the monitor from which the run goes
+abbrev from : tie.After-take-kept → Monitor
+from c =
+    let args = start c .args in
+    monitorOf (args .state) (args .area0 .now) (args .area1 .now)
+
+-- ---- the calls and the returns
+
 take-kept-requires : tie.Need-take-kept-requires
 take-kept-requires c κs =
-    let at-slice-known5 = c .before .before .before .before .before .before .before .before in
-    let at-start = at-slice-known5 .before .before .before .before .before .before .before in (
-      at-start .pre .0,
-      (
-        at-start .pre .1 .0,
-        (
-          at-start .pre .1 .1 .0,
-          (
-            at-start .pre .1 .1 .1 .0 .0,
-            at-start .pre .1 .1 .1 .1,
-          ),
-        ),
-      ),
-    )
+    let pre =
+    c .before .before .before .before .before .before .before .before .before .before .before .before .before
+    .before .before .pre in
+    (pre .0, (pre .1 .0, (pre .1 .1 .0, (pre .1 .1 .1 .0 .0, pre .1 .1 .1 .1))))
 
 enum-known-answer : tie.Need-enum-known-answer
 enum-known-answer c = search needs
@@ -30,22 +51,14 @@ enum-known-answer c = search needs
 enum-known-reached : tie.Need-enum-known-reached
 enum-known-reached c = search needs
 
-take-part-requires : tie.Need-take-part-requires
-take-part-requires c κs =
-    let at-reached = c .before .before .before .before in
-    let at-slice-known9 = at-reached .before .before .before .before .before .before .before .before in
-    let at-take-kept = at-slice-known9 .before .before .before .before .before .before in
-    let at-shared-slice-known3 = at-take-kept .before .before .before .before .before .before .before .before in
-    let at-start = at-shared-slice-known3 .before .before .before .before .before .before .before .before in
-    let g = run-left _ _ _ _ _ _ _ _ (at-take-kept .take-kept .ensures) _ _ (at-reached .reached .given .1) in (
-      at-start .pre .0,
-      (
-        g .0 .standing,
-        (
-          (omega (arith, g .2, at-start .pre .1 .1 .1 .0 .0), at-start .pre .1 .1 .1 .0 .1),
-          at-take-kept .take-kept .kept .1 .1 .1 .1 .1 .1 .1 .1 .1 .1 .0 ∙ at-start .pre .1 .1 .1 .1,
-        ),
-      ),
+take-each-requires : tie.Need-take-each-requires
+take-each-requires c κs =
+    let told = c .before .before .before .before in
+    let at = left told in
+    let pre = start at .pre in
+    let g = run-left (table at) (from at) _ _ _ _ _ _ (at .take-kept .ensures .0) _ _ (told .reached .given .1) in (
+      pre .0,
+      (g .0 .standing, ((omega (arith, g .2, pre .1 .1 .1 .0 .0), pre .1 .1 .1 .0 .1), at .take-kept .ensures .1)),
     )
 
 same-length : tie.Need-same-length
@@ -69,10 +82,10 @@ same-length-6 c = search needs
 returns : tie.Need-returns
 unfolding RunBy
 returns c =
-    let at-answer = c .before in
-    let at-slice-known9 = at-answer .before .before .before .before .before .before .before .before in
-    let at-take-kept = at-slice-known9 .before .before .before .before .before .before in
-    run-ended _ _ _ _ _ _ _ _ (at-take-kept .take-kept .ensures) _ (at-answer .answer .given .1)
+    let at = ended c in (
+      run-ended (table at) (from at) _ _ _ _ _ _ (at .take-kept .ensures .0) _ (c .before .answer .given .1),
+      at .take-kept .ensures .1,
+    )
 
 same-length-7 : tie.Need-same-length-7
 same-length-7 c = search needs
@@ -94,12 +107,13 @@ same-length-12 c = search needs
 
 returns-2 : tie.Need-returns-2
 returns-2 c =
-    let at-take-part = c .before .before .before .before .before .before in
-    let at-reached = at-take-part .before .before .before .before .before in
-    let at-slice-known9 = at-reached .before .before .before .before .before .before .before .before in
-    let at-take-kept = at-slice-known9 .before .before .before .before .before .before in
-    let g = run-left _ _ _ _ _ _ _ _ (at-take-kept .take-kept .ensures) _ _ (at-reached .reached .given .1) in
-    run-then _ _ _ _ _ _ (g .0) _ _ _ _ (at-take-part .take-part .ensures)
+    let at-take-each = c .before .before .before .before .before .before in
+    let told = at-take-each .before .before .before .before .before in
+    let at = left told in
+    let g = run-left (table at) (from at) _ _ _ _ _ _ (at .take-kept .ensures .0) _ _ (told .reached .given .1) in (
+      run-then (table at) (from at) _ _ _ _ (g .0) _ _ _ _ (at-take-each .take-each .ensures .0),
+      at-take-each .take-each .ensures .1,
+    )
 
 pub take-stretch-spec : {M : Type 1} → statement M
 take-stretch-spec =
@@ -108,7 +122,7 @@ take-stretch-spec =
     take-kept-requires
     enum-known-answer
     enum-known-reached
-    take-part-requires
+    take-each-requires
     same-length
     same-length-2
     same-length-3

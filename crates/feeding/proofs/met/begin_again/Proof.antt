@@ -7,6 +7,16 @@ use borrow.Author.Needs.{needs}
 use Rattle.feeding.proofs.met.begin_again.Statement.{statement}
 use Rattle.feeding.proofs.met.begin_again.Tie as tie
 
+-- ---- places of the code
+
+abbrev full : tie.After-enum-told → tie.After-pick-first
+full c = c .before .before .before .before .before .before .before .before .before .before .before .before
+
+abbrev kept : tie.After-known-told → tie.After-pick-first
+kept c = c .before .before .before .before .before .before .before .before .before .before .before .before .before
+
+-- ---- the ways out
+
 returns : tie.Need-returns
 returns c = record { from = λ t regular ea m es i j o q h. (h, omega arith, q) }
 
@@ -20,19 +30,19 @@ enum-known-n : tie.Need-enum-known-n
 enum-known-n c = search needs
 
 same-length : tie.Need-same-length
-same-length c = search needs
+same-length c = full c .pick-first .kept .1 .0
 
 same-length-2 : tie.Need-same-length-2
-same-length-2 c = search needs
+same-length-2 c = full c .pick-first .kept .1 .1 .0
 
 same-length-3 : tie.Need-same-length-3
-same-length-3 c = search needs
+same-length-3 c = full c .pick-first .kept .1 .1 .1 .0
 
 same-length-4 : tie.Need-same-length-4
-same-length-4 c = search needs
+same-length-4 c = full c .pick-first .kept .1 .1 .1 .1 .1 .0
 
 same-length-5 : tie.Need-same-length-5
-same-length-5 c = search needs
+same-length-5 c = full c .pick-first .kept .1 .1 .1 .1 .1 .1 .0
 
 returns-2 : tie.Need-returns-2
 returns-2 c =
@@ -45,7 +55,7 @@ returns-2 c =
     record {
       from = λ t regular ea m es i j o q h. (
         begun-full regular ea (subst (λ (v : ℕ). v ≤ 128) ea (p .0)) (a .state) (a .area0 .now) (a .area1 .now) h
-            (a .sets .now) (a .starts .now) (a .next .now) (p .1) (p .2) (p .3) _ _ _ _ _ _
+            (a .sets .now) (a .starts .now) (a .next .now) (p .1, p .2, p .3) _ _ _ _ _ _
             (at-pick-first .pick-first .ensures) (c .enum-told .given .1),
         omega arith,
         q,
@@ -53,19 +63,19 @@ returns-2 c =
     }
 
 same-length-6 : tie.Need-same-length-6
-same-length-6 c = search needs
+same-length-6 c = kept c .pick-first .kept .1 .0
 
 same-length-7 : tie.Need-same-length-7
-same-length-7 c = search needs
+same-length-7 c = kept c .pick-first .kept .1 .1 .0
 
 same-length-8 : tie.Need-same-length-8
-same-length-8 c = search needs
+same-length-8 c = kept c .pick-first .kept .1 .1 .1 .0
 
 same-length-9 : tie.Need-same-length-9
-same-length-9 c = search needs
+same-length-9 c = kept c .pick-first .kept .1 .1 .1 .1 .1 .0
 
 same-length-10 : tie.Need-same-length-10
-same-length-10 c = search needs
+same-length-10 c = kept c .pick-first .kept .1 .1 .1 .1 .1 .1 .0
 
 returns-3 : tie.Need-returns-3
 returns-3 c =
@@ -79,7 +89,7 @@ returns-3 c =
     record {
       from = λ t regular ea m es i j o q h. (
         begun-kept regular ea (subst (λ (v : ℕ). v ≤ 128) ea (p .0)) (a .state) (a .area0 .now) (a .area1 .now) h
-            (a .sets .now) (a .starts .now) (a .next .now) (p .1) (p .2) (p .3) _ _ _ _ _ _
+            (a .sets .now) (a .starts .now) (a .next .now) (p .1, p .2, p .3) _ _ _ _ _ _
             (at-pick-first .pick-first .ensures) _ _ (at-n .n .given .1),
         o,
         q,

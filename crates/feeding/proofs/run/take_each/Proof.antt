@@ -99,13 +99,14 @@ returns c =
     let at-take-event = at-number .before .before .before .before .before .before .before .before in
     let at-loop-test = at-take-event .before .before .before .before .before in
     let at-loop = at-loop-test .before in
-    let at-start = at-loop .before .before .before .before .before .before .before in
-    ended-refused _ _ _ _ (at-loop .loop .reached) _ _ _ (at-loop .loop .inv .5) (omega (
-      arith,
-      at-loop-test .loop-test .taken,
-      at-start .pre .1 .1 .0 .1,
-    )) _ _ _ (at-take-event .take-event .ensures .0) _
-    (at-number .number .given .1)
+    let at-start = at-loop .before .before .before .before .before .before .before in (
+      ended-refused _ _ _ _ (at-loop .loop .reached) _ _ _ (at-loop .loop .inv .5) (omega (
+        arith,
+        at-loop-test .loop-test .taken,
+        at-start .pre .1 .1 .0 .1,
+      )) _ _ _ (at-take-event .take-event .ensures .0) _ (at-number .number .given .1),
+      at-take-event .take-event .ensures .1,
+    )
 
 same-length-4 : tie.Need-same-length-4 Inv-loop μ-loop
 same-length-4 c = search needs
@@ -123,7 +124,7 @@ returns-2 : tie.Need-returns-2 Inv-loop μ-loop
 unfolding RunBy
 returns-2 c =
     let at-loop = c .before in
-    (at-loop .loop .inv .5, c .loop-test .left, at-loop .loop .inv .0)
+    ((at-loop .loop .inv .5, c .loop-test .left, at-loop .loop .inv .0), at-loop .loop .inv .4)
 
 pub take-each-spec : {M : Type 1} → statement M
 take-each-spec =

@@ -5,19 +5,19 @@ use native.Mathlib.Omega.{arith}
 use mathlib.Core.Path.{_≡_}
 use lib.ListN.{length, length-set}
 use borrow.Author.Needs.{needs}
-use Rattle.tree_walk.specs.Layout.{storeWords}
-use Rattle.set_step.specs.Memo.Laws.{Forgotten, forget-first, forget-next, forget-done}
+use Rattle.tree_walk.specs.Layout.{entryCount, storeWords}
+use Rattle.set_step.specs.Memo.Laws.{Forgotten, none-first, forget-next, forget-done}
 use Rattle.set_step.proofs.memo.forget.Statement.{statement}
 use Rattle.set_step.proofs.memo.forget.Tie as tie
 
 abbrev Inv-loop : tie.InvT-loop
-Inv-loop store₀ i₀ store i = (i ≤ 32) × (length store ≡ storeWords) × Forgotten store i
+Inv-loop store₀ i₀ store i = (i ≤ entryCount) × (length store ≡ storeWords) × Forgotten store i
 
 abbrev μ-loop : tie.MeasureT-loop
-μ-loop store₀ i₀ store i = 32 - i
+μ-loop store₀ i₀ store i = entryCount - i
 
 loop-holds : tie.Need-loop-holds Inv-loop μ-loop
-loop-holds c = (omega arith, c .pre, forget-first _)
+loop-holds c = (omega arith, c .pre, none-first _)
 
 mul-store : tie.Need-mul-store Inv-loop μ-loop
 mul-store c = search needs
@@ -50,7 +50,7 @@ same-length c = search needs
 
 returns : tie.Need-returns Inv-loop μ-loop
 returns c =
-    let e : c .before .loop .i ≡ 32 = omega arith in
+    let e : c .before .loop .i ≡ entryCount = omega arith in
     forget-done _ (c .before .loop .inv .1) (rw e at (c .before .loop .inv .2))
 
 pub forget-spec : {M : Type 1} → statement M

@@ -65,11 +65,10 @@ returns c =
     let told = at-if1 .before .is-entry .ensures (at-if1 .if1 .taken) in
     let copied = c .before .before .copy-part in
     let store = sound-store _ _ _ _ (at-start .pre .1 .0) in
-    let q = at-start .pre .1 .1 .1 .0 in
     let nodes = at-start .pre .1 .0 .few in (
-      entry-fills _ _ _ store _ _ _ refl place (told .0) (told .1) _ (copied .ensures) q (copied .kept .0)
+      entry-fills _ _ _ store _ _ _ refl place (told .0) (told .1) _ (copied .ensures) (copied .kept .0)
           (omega (arith, nodes)),
-      entry-store _ _ _ store _ _ _ refl place (told .0) (told .1) _ (copied .ensures) q (copied .kept .0)
+      entry-store _ _ _ store _ _ _ refl place (told .0) (told .1) _ (copied .ensures) (copied .kept .0)
           (omega (arith, nodes)),
     )
 
@@ -155,9 +154,9 @@ returns-2 c =
     let store = fill-store _ _ _ _ (asked .0) _ (asked .1 .0 .0) (asked .1 .0 .1) law q (asked .1 .1 .1) _ _ _
     (at-term .term-of .ensures) (at-term .before .before .memory-of .ensures .0)
     (at-term .before .remember .ensures .0) _ _ same (at-distinct .distinct .ensures) in
-    let few = node-few _ _ _ _ (asked .0) _ (asked .1 .0 .0) (asked .1 .0 .1) law q (asked .1 .1 .1) in (
+    let few = node-few _ _ _ _ (asked .0) _ (asked .1 .0 .0) (asked .1 .0 .1) law in (
       kept-fills _ _ _ _ _ _ _ _ f refl few (omega (arith, asked .0 .few, asked .1 .0 .1)) place (keeps .ensures),
-      kept-store _ _ _ _ _ _ _ _ f refl few (omega (arith, asked .0 .few, asked .1 .0 .1)) place (keeps .ensures) q
+      kept-store _ _ _ _ _ _ _ _ f refl few (omega (arith, asked .0 .few, asked .1 .0 .1)) place (keeps .ensures)
           store (keeps .kept .0),
     )
 

@@ -11,26 +11,13 @@ load-requires : tie.Need-load-requires
 load-requires c κs = search needs
 
 prepare-requires : tie.Need-prepare-requires
-prepare-requires c κs = (
-  c .before .before .before .before .before .before .before .before .before .before .pre .0,
-  loaded-sound (c .before .before .before .before .before .before .before .before .before .before .pre .1)
-      (c .before .before .before .load .last .1 .1 .0) (c .before .before .before .load .kept .1 .1 .0)
-      (c .before .before .before .load .ensures),
-)
+prepare-requires c κs = (c .before .before .before .before .before .before .before .before .before .before .pre .0, loaded-sound (c .before .before .before .before .before .before .before .before .before .before .pre .1) (c .before .before .before .load .last .1 .1 .0) (c .before .before .before .load .kept .1 .1 .0) (c .before .before .before .load .ensures))
+
+slice-aggregate-walk : tie.Need-slice-aggregate-walk
+slice-aggregate-walk c = search needs
 
 walk-requires : tie.Need-walk-requires
-walk-requires c κs = (
-  c .before .before .before .before .before .before .before .before .before .before .before .before .before .before
-      .before .pre .0,
-  (
-    c .before .before .before .before .prepare .ensures .0 .ready,
-    start-place (c .before .before .before .before .before .before .before .before .before .before .before .before
-        .before .before .before .pre .1) (c .before .before .before .before .before .before .before .before .load .last .1
-        .1 .0) (c .before .before .before .before .before .before .before .before .load .kept .1 .1 .0)
-        (c .before .before .before .before .before .before .before .before .load .ensures) _
-        (c .before .before .before .before .prepare .ensures .0),
-  ),
-)
+walk-requires c κs = (c .before .before .before .before .before .before .before .before .before .before .before .before .before .before .before .before .pre .0, (c .before .before .before .before .before .prepare .ensures .0 .ready, start-place (c .before .before .before .before .before .before .before .before .before .before .before .before .before .before .before .before .pre .1) (c .before .before .before .before .before .before .before .before .before .load .last .1 .1 .0) (c .before .before .before .before .before .before .before .before .before .load .kept .1 .1 .0) (c .before .before .before .before .before .before .before .before .before .load .ensures) _ (c .before .before .before .before .before .prepare .ensures .0)))
 
 same-length : tie.Need-same-length
 same-length c = search needs
@@ -39,16 +26,7 @@ same-length-2 : tie.Need-same-length-2
 same-length-2 c = search needs
 
 returns : tie.Need-returns
-returns c = (
-  many-done (c .before .before .before .before .before .before .before .before .before .before .before .before
-      .before .before .before .before .before .before .pre .1)
-      (c .before .before .before .before .before .before .before .before .before .before .before .load .last .1 .1 .0)
-      (c .before .before .before .before .before .before .before .before .before .before .before .load .kept .1 .1 .0)
-      (c .before .before .before .before .before .before .before .before .before .before .before .load .ensures) _
-      (c .before .before .before .before .before .before .before .prepare .ensures .0) _ _
-      (c .before .before .walk .ensures),
-  c .before .before .before .before .before .before .before .prepare .ensures .1,
-)
+returns c = (many-done (c .before .before .before .before .before .before .before .before .before .before .before .before .before .before .before .before .before .before .before .before .pre .1) (c .before .before .before .before .before .before .before .before .before .before .before .before .before .load .last .1 .1 .0) (c .before .before .before .before .before .before .before .before .before .before .before .before .before .load .kept .1 .1 .0) (c .before .before .before .before .before .before .before .before .before .before .before .before .before .load .ensures) _ (c .before .before .before .before .before .before .before .before .before .prepare .ensures .0) _ _ (c .before .before .before .walk .ensures .0), c .before .before .before .before .before .before .before .before .before .prepare .ensures .1)
 
 pub step-many-spec : {M : Type 1} → statement M
 step-many-spec =
@@ -57,6 +35,7 @@ step-many-spec =
     mul-load
     load-requires
     prepare-requires
+    slice-aggregate-walk
     walk-requires
     same-length
     same-length-2

@@ -9,25 +9,19 @@ use Rattle.set_step.proofs.steps.step_one.Statement.{statement}
 use Rattle.set_step.proofs.steps.step_one.Tie as tie
 
 mul-at : tie.Need-mul-at
-mul-at c = omega (arith, c .before .before .before .before .before .pre .1 .inside)
+mul-at c = search needs
 
 mul-n : tie.Need-mul-n
-mul-n c = omega (arith, c .before .before .before .before .before .pre .1 .inside)
+mul-n c = search needs
 
 shared-slice-read-n : tie.Need-shared-slice-read-n
-shared-slice-read-n c = omega (arith, c .before .before .before .before .before .before .pre .1 .inside)
+shared-slice-read-n c = search needs
 
 add-way-of : tie.Need-add-way-of
-add-way-of c = omega (arith, c .before .before .before .before .before .before .pre .1 .inside)
+add-way-of c = search needs
 
 way-of-requires : tie.Need-way-of-requires
-way-of-requires c κs = (
-  c .before .before .before .before .before .before .pre .0,
-  (
-    c .before .before .before .before .before .before .pre .1 .event,
-    slot-rooted (c .before .before .before .before .before .before .pre .1) _ refl,
-  ),
-)
+way-of-requires c κs = (c .before .before .before .before .before .before .pre .0, (c .before .before .before .before .before .before .pre .1 .event, slot-rooted (c .before .before .before .before .before .before .pre .1) _ refl))
 
 enum-told : tie.Need-enum-told
 enum-told c = search needs
@@ -36,89 +30,49 @@ enum-known-moves : tie.Need-enum-known-moves
 enum-known-moves c = search needs
 
 add-marks : tie.Need-add-marks
-add-marks c =
-    omega (
-      arith,
-      marks-few (c .before .before .before .before .before .before .before .before .before .before .before
-          .before .pre .1) _ refl _ (c .before .before .before .before .before .way-of .ensures) _
-          (c .before .before .before .moves .given .1),
-    )
+add-marks c = omega (arith, marks-few (c .before .before .before .before .before .before .before .before .before .before .before .before .pre .1) _ refl _ (c .before .before .before .before .before .way-of .ensures) _ (c .before .before .before .moves .given .1))
 
 add-rebuild : tie.Need-add-rebuild
-add-rebuild c = omega (arith, c .before .before .before .before .before .before .before .before .before .before .before .before .pre .1 .inside)
+add-rebuild c = search needs
+
+slice-aggregate-rebuild : tie.Need-slice-aggregate-rebuild
+slice-aggregate-rebuild c = search needs
 
 rebuild-requires : tie.Need-rebuild-requires
-rebuild-requires c κs =
-    let at-start = c .before .before .before .before .before .before .before .before .before .before .before .before in (
-      at-start .pre .0,
-      lone-rebuilds (at-start .pre .1) _ refl _ (c .before .before .before .before .before .way-of .ensures) _
-          (c .before .before .before .moves .given .1) (c .before .if1 .taken),
-    )
+rebuild-requires c κs = (c .before .before .before .before .before .before .before .before .before .before .before .before .before .pre .0, lone-rebuilds (c .before .before .before .before .before .before .before .before .before .before .before .before .before .pre .1) _ refl _ (c .before .before .before .before .before .before .way-of .ensures) _ (c .before .before .before .before .moves .given .1) (c .before .before .if1 .taken))
+
+slice-aggregate-put : tie.Need-slice-aggregate-put
+slice-aggregate-put c = search needs
 
 put-requires : tie.Need-put-requires
-put-requires c κs =
-    c .before .before .before .before .before .before .before .before .before .before .before .before .before .before
-    .pre .1 .held
+put-requires c κs = search needs
 
 same-length : tie.Need-same-length
 same-length c = search needs
 
 returns : tie.Need-returns
-returns c = (
-  lone-done (c .before .before .before .before .before .before .before .before .before .before .before .before
-      .before .before .before .before .before .pre .1) _ refl _
-      (c .before .before .before .before .before .before .before .before .before .before .way-of .ensures) _
-      (c .before .before .before .before .before .before .before .before .moves .given .1)
-      (c .before .before .before .before .before .before .if1 .taken) _ (c .before .before .before .before .rebuild .ensures) _
-      _ (c .before .before .put .ensures),
-  c .before .before .before .before .before .before .before .before .before .before .before .before
-      .before .before .before .before .before .pre .1 .leaves,
-)
+returns c = (lone-done (c .before .before .before .before .before .before .before .before .before .before .before .before .before .before .before .before .before .before .before .before .pre .1) _ refl _ (c .before .before .before .before .before .before .before .before .before .before .before .before .before .way-of .ensures) _ (c .before .before .before .before .before .before .before .before .before .before .before .moves .given .1) (c .before .before .before .before .before .before .before .before .before .if1 .taken) _ (c .before .before .before .before .before .before .rebuild .ensures) _ _ (c .before .before .put .ensures), c .before .before .before .before .before .before .before .before .before .before .before .before .before .before .before .before .before .before .before .before .pre .1 .leaves)
 
 add-step-moves : tie.Need-add-step-moves
-add-step-moves c =
-    omega (
-      arith,
-      c .before .before .before .before .before .before .before .before .before .before .before .pre .1
-          .inside,
-    )
+add-step-moves c = search needs
 
 step-moves-requires : tie.Need-step-moves-requires
-step-moves-requires c κs = (
-  c .before .before .before .before .before .before .before .before .before .before .before .before .pre .0,
-  several-asks (c .before .before .before .before .before .before .before .before .before .before .before .before
-      .pre .1) _ refl _ (c .before .before .before .before .before .way-of .ensures) _
-      (c .before .before .before .moves .given .1),
-)
+step-moves-requires c κs = (c .before .before .before .before .before .before .before .before .before .before .before .before .pre .0, several-asks (c .before .before .before .before .before .before .before .before .before .before .before .before .pre .1) _ refl _ (c .before .before .before .before .before .way-of .ensures) _ (c .before .before .before .moves .given .1))
 
 enum-told-2 : tie.Need-enum-told-2
 enum-told-2 c = search needs
 
 step-many-requires : tie.Need-step-many-requires
-step-many-requires c κs = (
-  c .before .before .before .before .before .before .before .before .before .before .before .pre .0,
-  c .before .before .before .before .before .before .before .before .before .before .before .pre .1,
-)
+step-many-requires c κs = search needs
 
 returns-2 : tie.Need-returns-2
-returns-2 c = (
-  still-one (c .before .before .before .before .before .before .before .before .before .pre .1) _ refl _
-      (c .before .before .way-of .ensures) (c .enum-told .given .1),
-  c .before .before .before .before .before .before .before .before .before .pre .1 .leaves,
-)
+returns-2 c = (still-one (c .before .before .before .before .before .before .before .before .before .pre .1) _ refl _ (c .before .before .way-of .ensures) (c .enum-told .given .1), c .before .before .before .before .before .before .before .before .before .pre .1 .leaves)
 
 same-length-2 : tie.Need-same-length-2
 same-length-2 c = search needs
 
 returns-3 : tie.Need-returns-3
-returns-3 c = (
-  several-done (c .before .before .before .before .before .before .before .before .before .before .before .before
-      .before .before .before .pre .1) _ refl _
-      (c .before .before .before .before .before .before .before .before .way-of .ensures) _
-      (c .before .before .before .before .before .before .moves .given .1) _ _ (c .before .before .step-moves .ensures),
-  c .before .before .before .before .before .before .before .before .before .before .before .before
-      .before .before .before .pre .1 .leaves,
-)
+returns-3 c = (several-done (c .before .before .before .before .before .before .before .before .before .before .before .before .before .before .before .pre .1) _ refl _ (c .before .before .before .before .before .before .before .before .way-of .ensures) _ (c .before .before .before .before .before .before .moves .given .1) _ _ (c .before .before .step-moves .ensures), c .before .before .before .before .before .before .before .before .before .before .before .before .before .before .before .pre .1 .leaves)
 
 same-length-3 : tie.Need-same-length-3
 same-length-3 c = search needs
@@ -127,11 +81,7 @@ same-length-4 : tie.Need-same-length-4
 same-length-4 c = search needs
 
 returns-4 : tie.Need-returns-4
-returns-4 c = (
-  many-one (c .before .before .before .before .before .before .before .before .before .before .before .before
-      .before .before .before .before .pre .1) _ _ (c .before .before .before .before .step-many .ensures .0),
-  c .before .before .before .before .step-many .ensures .1,
-)
+returns-4 c = (many-one (c .before .before .before .before .before .before .before .before .before .before .before .before .before .before .before .before .pre .1) _ _ (c .before .before .before .before .step-many .ensures .0), c .before .before .before .before .step-many .ensures .1)
 
 pub step-one-spec : {M : Type 1} → statement M
 step-one-spec =
@@ -146,7 +96,9 @@ step-one-spec =
     enum-known-moves
     add-marks
     add-rebuild
+    slice-aggregate-rebuild
     rebuild-requires
+    slice-aggregate-put
     put-requires
     same-length
     returns

@@ -7,59 +7,47 @@ use borrow.Author.Needs.{needs}
 use Rattle.tree_moves.proofs.rebuilding.carry.Statement.{statement}
 use Rattle.tree_moves.proofs.rebuilding.carry.Tie as tie
 
-push-requires : tie.Need-push-requires
-push-requires c κs = carry-room (c .before .before .before .pre .1) (c .if1 .taken)
+push-into-requires : tie.Need-push-into-requires
+push-into-requires c κs = (carry-room (c .before .before .before .before .before .pre .1) (c .before .if1 .taken), c .before .before .before .before .before .pre .1 .size)
+
+same-length : tie.Need-same-length
+same-length c = search needs
 
 returns : tie.Need-returns
-returns c = carry-keep (c .before .before .before .before .pre .1) (c .before .if1 .taken) _ (c .push .ensures)
+returns c = carry-keep (c .before .before .before .before .before .before .before .before .pre .1) (c .before .before .before .before .if1 .taken) _ (c .before .before .push-into .ensures)
 
 memory-of-requires : tie.Need-memory-of-requires
 memory-of-requires c κs = search needs
 
 remember-requires : tie.Need-remember-requires
-remember-requires c κs =
-    let asked = c .before .before .before .before .pre .1 in
-    (event-small (asked .law) (asked .event), c .memory-of .ensures .1)
+remember-requires c κs = let asked = c .before .before .before .before .before .pre .1 in (event-small (asked .law) (asked .event), c .memory-of .ensures .1)
 
 term-of-requires : tie.Need-term-of-requires
 term-of-requires c κs = search needs
 
-add-resolve-at : tie.Need-add-resolve-at
-add-resolve-at c =
-    omega (
-      arith,
-      c .term-of .ensures,
-      c .before .before .before .before .before .before .pre .1 .single
-          (c .before .before .before .if1 .left) .active .within,
-      terms-few (c .before .before .before .before .before .before .pre .0),
-    )
+add-resolve-into : tie.Need-add-resolve-into
+add-resolve-into c = omega (arith, c .term-of .ensures, c .before .before .before .before .before .before .before .pre .1 .single (c .before .before .before .if1 .left) .active .within, terms-few (c .before .before .before .before .before .before .before .pre .0))
 
-resolve-at-requires : tie.Need-resolve-at-requires
-resolve-at-requires c κs = (
-  c .before .before .before .before .before .before .pre .0,
-  (
-    carry-resolves (c .before .before .before .before .before .before .pre .1) (c .before .before .before .if1 .left) _
-        _ _ (c .term-of .ensures) (c .before .before .memory-of .ensures .0) (c .before .remember .ensures .0),
-    c .before .remember .ensures .1,
-  ),
-)
+resolve-into-requires : tie.Need-resolve-into-requires
+resolve-into-requires c κs = (c .before .before .before .before .before .before .before .before .pre .0, (carry-resolves (c .before .before .before .before .before .before .before .before .pre .1) (c .before .before .before .before .if1 .left) _ _ _ (c .before .term-of .ensures) (c .before .before .before .memory-of .ensures .0) (c .before .before .remember .ensures .0), c .before .before .remember .ensures .1))
+
+same-length-2 : tie.Need-same-length-2
+same-length-2 c = search needs
 
 returns-2 : tie.Need-returns-2
-returns-2 c =
-    carry-moved (c .before .before .before .before .before .before .before .pre .1)
-    (c .before .before .before .before .if1 .left) _ _ _ (c .before .term-of .ensures)
-    (c .before .before .before .memory-of .ensures .0) (c .before .before .remember .ensures .0) _
-    (c .resolve-at .ensures)
+returns-2 c = carry-moved (c .before .before .before .before .before .before .before .before .before .before .before .pre .1) (c .before .before .before .before .before .before .before .if1 .left) _ _ _ (c .before .before .before .before .term-of .ensures) (c .before .before .before .before .before .before .memory-of .ensures .0) (c .before .before .before .before .before .remember .ensures .0) _ (c .before .before .resolve-into .ensures)
 
 pub carry-spec : {M : Type 1} → statement M
 carry-spec =
     tie.close
     (tie.spec
-    push-requires
+    push-into-requires
+    same-length
     returns
     memory-of-requires
     remember-requires
     term-of-requires
-    add-resolve-at
-    resolve-at-requires
+    add-resolve-into
+    resolve-into-requires
+    same-length-2
     returns-2)
