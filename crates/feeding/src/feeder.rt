@@ -22,7 +22,7 @@ use state::clear_all;
 use table::Judged;
 
 // So many events of a call are taken one after the other, whatever the table.
-const FIRST: usize = 8;
+const FIRST_EVENTS: usize = 8;
 
 // A number, at most `high` and at least `low`.
 fn clamp(n: usize, low: usize, high: usize) -> usize
@@ -217,7 +217,7 @@ pub fn take_all(
         r (now (area0 .exit)) (now (area1 .exit)) ⌝ }
 {
     let mut store = [0u64; STORE_WORDS];
-    let to = clamp(FIRST, 0, events.len());
+    let to = clamp(FIRST_EVENTS, 0, events.len());
     match take_each(list, work, state, area0, area1, events, 0, to, &mut store) {
         Run::Ended(answer) => answer,
         Run::Left(reached, i) => {

@@ -1,6 +1,6 @@
 // Resolving, where the choices and calls on the way to a residual are gone through in a loop: one
 // that is a leaf is found without a call of `term_into`. The definitions are in
-// `specs/Residual.antt`.
+// `specs/ResidualWords.antt`.
 use crate::resolve::push_into;
 use crate::resolve::term_into;
 use crate::words::node_at;

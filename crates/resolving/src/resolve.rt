@@ -1,7 +1,7 @@
 // Resolving (01, "Residuals": settling): the nodes of the i-th residual of a term, written into a
 // slot. The two functions that call each other hand the slot on by reference and go through choices
 // in a loop: only a call and the left side of a parallel take stack. The definitions are in
-// `specs/Residual.antt`.
+// `specs/ResidualWords.antt`.
 use crate::words::node_at;
 ghost use mathlib.Core.Path.{_≡_};
 ghost use Prim.Native.Nat.{_-_, _<_};

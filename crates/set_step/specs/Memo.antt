@@ -1,6 +1,6 @@
 -- What a store keeps of leaves: behind the nodes' parts stand entries. An entry has the word of a leaf, an event and
--- one more (0: nothing is kept), and a part: the number of the leaf's results after that event, no more than it has room
--- for, and their indices.
+-- one more (0: nothing is kept), and a part: the number of the leaf's results after that event, no more than it has
+-- room for, and their indices.
 --     Apart, Copied             a part can be copied; it is, and nothing else is touched
 --     EntryAt, Entry            where an entry stands; what it says is so
 --     Memo, StoreOf             so it is of all entries; a store of a table

@@ -1,6 +1,6 @@
 -- A store filled for one residual; a tree that cannot take the event is passed over whole.
 --     Sound                      the residual in a store: a known tree whose results fit a slot
---     NodeFilled                 one leaf is filled
+--     LeafFilled                 one leaf is filled
 --     FilledBefore               a prefix filled before
 --     TreeFrom, TreeFilled       the tree at a node; it is prepared
 --     Fills                      the promise of `prepare`
@@ -38,7 +38,7 @@ pub record Sound (t : Table) (bound e : ℕ) (store : List ℕ) : Type 0 where
   pub room : room t e (nodesFrom store 1) ≤ 15
 
 -- the results of node k are filled in; nothing before its part is touched
-pub record NodeFilled (t : Table) (e : ℕ) (old new : List ℕ) (k : ℕ) : Type 0 where
+pub record LeafFilled (t : Table) (e : ℕ) (old new : List ℕ) (k : ℕ) : Type 0 where
   pub before : take (k * 257) new ≡ take (k * 257) old
   pub leaf : LeafAt t e new (k * 257) (getD old k 0)
 

@@ -22,7 +22,7 @@ ghost use Rattle.node_word.specs.Word.{termOfWord};
 ghost use Rattle.resolving.specs.Words.{kindAt, holdsAt};
 ghost use Rattle.tree_walk.specs.Course.{nodeCount};
 ghost use Rattle.set_step.specs.Memo.{StoreOf};
-ghost use Rattle.set_step.specs.Prepared.{Sound, NodeFilled, FilledBefore, Fills};
+ghost use Rattle.set_step.specs.Prepared.{Sound, LeafFilled, FilledBefore, Fills};
 ghost use Rattle.set_step.specs.Prepared.{TreeFrom, TreeFilled};
 
 // Whether a node is a prefix, by the kind of its term. A residual's other nodes are STOP and pairs.
@@ -60,7 +60,7 @@ fn prepare_prefix(list: &[u16], work: &[u64], bound: usize, e: u64, store: &mut 
     requires { ⌜ (kindAt (tableIn (now list)) (getD (now store) k 0) ≡ 2)
         × (holdsAt (tableIn (now list)) e (getD (now store) k 0) ≡ true) ⌝ }
     ensures { λ _.
-        ⌜ NodeFilled (tableIn (now (list .entry))) e (now (store .entry)) (now (store .exit)) k
+        ⌜ LeafFilled (tableIn (now (list .entry))) e (now (store .entry)) (now (store .exit)) k
         × StoreOf (tableIn (now (list .entry))) (now (store .exit)) ⌝ }
 {
     let w = store[k];
@@ -94,7 +94,7 @@ fn prepare_leaf(
         × (holdsAt (tableIn (now list)) e (getD (now store) k 0) ≡ true) ⌝ }
     requires { ⌜ FilledBefore (tableIn (now list)) e (now store) k last ⌝ }
     ensures { λ _.
-        ⌜ NodeFilled (tableIn (now (list .entry))) e (now (store .entry)) (now (store .exit)) k
+        ⌜ LeafFilled (tableIn (now (list .entry))) e (now (store .entry)) (now (store .exit)) k
         × StoreOf (tableIn (now (list .entry))) (now (store .exit)) ⌝ }
 {
     let w = store[k];

@@ -1,4 +1,5 @@
 -- Worked inputs and what they are judged to be: 01's own and the cases at its edges, as rows of computed tests.
+--     tableB                       01's table B
 --     inNumbers, bytesAre, listIs  a judgement as two numbers; what bytes, a number list are judged to be
 --     numberRows, tableRows        numbers and whole tables
 --     countRows                    width, branches and the number of terms
@@ -40,7 +41,7 @@ every (b ∷ bs) = b && every bs
 
 -- ---- numbers and tables
 
--- 01, "The program and its lines": "Table B"; its numbers are its bytes
+-- "Table B, A = 3, sets {0} and {1}, prefix {0}, prefix {1}, call 0": its numbers are its bytes
 abbrev pub tableB : List ℕ
 tableB = 3 ∷ 2 ∷ 0 ∷ 1 ∷ 0 ∷ 0 ∷ 1 ∷ 1 ∷ 1 ∷ 0 ∷ 2 ∷ 0 ∷ 2 ∷ 1 ∷ 5 ∷ 0 ∷ []
 

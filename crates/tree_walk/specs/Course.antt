@@ -5,7 +5,7 @@
 --     Place, walked           a place in the walk, and what the walk gives from there
 --     leafRest                what is left of a leaf's results
 -- A store has the residual's slot from 0 on, and for a leaf at k the number of its results at k * 257 and their indices
--- after it; for a pair 1 there where it can take the event, 0 where it cannot. What stands behind the nodes' parts the
+-- after it; for a pair 1 there where it can take the event, 0 only where it cannot. What stands behind the nodes' parts the
 -- walk does not read. The laws are in `Course/`: `Nodes` (node words), `Turns` (the first tree at a place), `Places`,
 -- `Pairs` and `Leaves` (the walk). Assumes nothing.
 use Prim.Native.Nat.{ℕ, _+_, _-_, _*_, _/_, _%_, _<_, _≤_, _^_}
@@ -47,8 +47,8 @@ pub record LeafAt (t : Table) (e : ℕ) (store : List ℕ) (p w : ℕ) : Type 0 
   pub number : getD store p 0 ≡ length (leafKept t e w)
   pub indices : window (p + 1) (length (leafKept t e w)) store ≡ leafKept t e w
 
--- of the tree at k: of a leaf its results; of a pair, whose number says whether it can take the event, those of its sides
--- where it can
+-- of the tree at k: of a leaf its results; of a pair those of its sides, but where its number is 0, which says that it
+-- cannot take the event
 abbrev pub Prepared : Table → ℕ → List ℕ → ℕ → Residual → Type 0
 Prepared t e store k (leaf n m) = LeafAt t e store (k * 257) (pack n m)
 Prepared t e store k (pair n m l r) =

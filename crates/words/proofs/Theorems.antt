@@ -1,6 +1,6 @@
 -- A proof of each claim of `specs/Claims.antt`. Assumes nothing.
 use Rattle.words.specs.Words.Laws.{read-back}
-use Rattle.words.specs.Ways.Laws.{read-way, write-way, open-way, feed-way, try-way, offer-way}
+use Rattle.words.specs.Ways.Laws.{read-way, write-way, open-call-way, feed-way, try-way, offer-way}
 use Rattle.words.specs.Ways.Laws.{view-way}
 use Rattle.words.specs.Claims.{RecordReadsBack, CallsTell, ZeroExactly, ViewShows, Rows}
 use Rattle.words.proofs.Zero.{read-zero, write-zero, open-zero, feed-zero, try-zero, offer-zero}
@@ -16,7 +16,7 @@ calls-tell =
     record {
       read = read-way;
       write = write-way;
-      opening = open-way;
+      opening = open-call-way;
       feed = feed-way;
       trial = try-way;
       offer = offer-way;

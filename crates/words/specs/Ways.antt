@@ -66,7 +66,7 @@ pub record OpenCallWay (r a b w : List ℕ) (o : Outcome) (k : OpenCall) : Type 
 -- of the record r that is read, and the further record and areas
 pub data TryWay (r r′ c d w : List ℕ) (o : Outcome) (k : MonitorCall) : Type 0 where
   -- a record that is not of five words (ours): 1 at place 0, all kept
-  recordUnfit : (length r ≡ 5 → ⊥)
+  tryUnfit : (length r ≡ 5 → ⊥)
       → k ≡ record { number = 1; place = 0; words = r′; area0 = c; area1 = d; work = w } → TryWay r r′ c d w o k
   -- else a call's ways, in the further words
   furtherWay : length r ≡ 5 → CallWay r′ c d w o k → TryWay r r′ c d w o k

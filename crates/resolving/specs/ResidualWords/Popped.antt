@@ -1,5 +1,5 @@
 -- A slot whose words are taken off again.
---     length-popped, head-popped          one word less: its length, its count
+--     length-popped                       one word less: its length
 --     popped-pushed                       the word that was pushed last, taken off
 --     popAll-last                         several less: the last of them apart
 --     popAll-pushAll                      the words that were pushed, taken off
@@ -21,10 +21,6 @@ use Rattle.resolving.specs.ResidualWords.Pushed.{length-pushed, head-pus
 pub length-popped : (s : List ℕ) → length (popped s) ≡ length s
 unfolding popped
 length-popped s = simp length-set
-
-pub head-popped : (s : List ℕ) → length s ≡ 16 → getD (popped s) 0 0 ≡ getD s 0 0 - 1
-unfolding popped
-head-popped s h = getD-set-same (set s (getD s 0 0) 0) 0 _ 0 (simp length-set (omega arith))
 
 -- the word that was pushed last, taken off
 taken-off : (s : List ℕ) (n w : ℕ) → getD s 0 0 ≡ n → getD s (n + 1) 0 ≡ 0

@@ -3,7 +3,7 @@
 --     entry-below, entry-behind                        an entry that is not touched
 --     memo-behind, store-behind, -marks, -copies       no entry is touched
 --     entry-writes, kept-before, store-kept            an entry is written
---     Forgotten, none-first, -next, -done, keeps-one   nothing is kept in the first entries, in all; in one there is
+--     KeepsNone, none-first, -next, -done, keeps-one   nothing is kept in the first entries, in all; in one there is
 --     forget-next, forget-done, store-zeros            a store that keeps nothing, such as zeros, is one of every table
 -- Assumes nothing.
 use Prim.Native.Nat.{ℕ, _+_, _*_, _<_, _≤_}
@@ -140,38 +140,39 @@ nothing-kept : (t : Table) (store : List ℕ) (p : ℕ) → getD store (p + 1) 0
 nothing-kept t store p z = record { few = λ e h. absurd (omega arith); part = λ e h. absurd (omega arith) }
 
 -- nothing is kept in the first i entries
-pub record Forgotten (store : List ℕ) (i : ℕ) : Type 0 where
+pub record KeepsNone (store : List ℕ) (i : ℕ) : Type 0 where
   pub none : (j : ℕ) → j < i → getD store (memoAt + j * entryWords + 1) 0 ≡ 0
 
 module _ (store : List ℕ) where
-  pub none-first : Forgotten store 0
+  pub none-first : KeepsNone store 0
   none-first = record { none = λ j h. absurd (omega arith) }
 
-  pub none-next : (i : ℕ) → Forgotten store i → getD store (memoAt + i * entryWords + 1) 0 ≡ 0 → Forgotten store (i + 1)
+  pub none-next : (i : ℕ) → KeepsNone store i → getD store (memoAt + i * entryWords + 1) 0 ≡ 0 → KeepsNone store (i + 1)
   none-next i f h = record { none = λ j k. go j (omega arith) (native.Mathlib.Decide.decLt j i) }
     where
       go : (j : ℕ) → j ≤ i → Dec (j < i) → getD store (memoAt + j * entryWords + 1) 0 ≡ 0
       go j k (yes a) = f .none j a
       go j k (no a) = let same : j ≡ i = omega arith in rw same h
 
-  pub none-done : Forgotten store entryCount → (p : ℕ) → EntryAt p → getD store (p + 1) 0 ≡ 0
+  pub none-done : KeepsNone store entryCount → (p : ℕ) → EntryAt p → getD store (p + 1) 0 ≡ 0
   none-done f p z = let e : p ≡ memoAt + z .number * entryWords = z .place in rw e (f .none (z .number) (z .within))
 
   pub keeps-one : (i : ℕ) → i < entryCount → 0 < getD store (memoAt + i * entryWords + 1) 0 → KeepsOne store
   keeps-one i h k = record { place = memoAt + i * entryWords; entry = entry-place i h; event = k }
 
 module _ (store : List ℕ) where
-  pub forget-next : (i : ℕ) → Forgotten store i → memoAt + i * entryWords + 1 < length store
-      → Forgotten (set store (memoAt + i * entryWords + 1) 0) (i + 1)
+  pub forget-next : (i : ℕ) → KeepsNone store i → memoAt + i * entryWords + 1 < length store
+      → KeepsNone (set store (memoAt + i * entryWords + 1) 0) (i + 1)
   forget-next i f h =
       none-next (set store (memoAt + i * entryWords + 1) 0) i
       (record {
         none = λ j a.
-            getD-set-other store (memoAt + i * entryWords + 1) (memoAt + j * entryWords + 1) 0 0 (λ z. omega arith) ∙ f .none j a;
+            getD-set-other store (memoAt + i * entryWords + 1) (memoAt + j * entryWords + 1) 0 0 (λ z. omega arith)
+            ∙ f .none j a;
       })
       (getD-set-same store (memoAt + i * entryWords + 1) 0 0 h)
 
-  pub forget-done : length store ≡ storeWords → Forgotten store entryCount → (t : Table) → StoreOf t store
+  pub forget-done : length store ≡ storeWords → KeepsNone store entryCount → (t : Table) → StoreOf t store
   forget-done size f t = record {
     size = size;
     memo = record { entry = λ p z. nothing-kept t store p (none-done store f p z) };

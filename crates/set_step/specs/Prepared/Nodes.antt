@@ -34,7 +34,7 @@ use Rattle.tree_walk.specs.Forest.Words.{known-node}
 use Rattle.tree_walk.specs.Course.{nodeCount, nodesFrom}
 use Rattle.set_step.specs.Memo.{StoreOf}
 use Rattle.set_step.specs.Memo.Laws.{store-behind}
-use Rattle.set_step.specs.Prepared.{Sound, NodeFilled}
+use Rattle.set_step.specs.Prepared.{Sound, LeafFilled}
 use Rattle.set_step.specs.Prepared.Below.{getD-below, take-below, nodes-same}
 
 -- ---- each node of a tree is a known term, and its results have room
@@ -166,7 +166,7 @@ module _ (t : Table) (bound e : ℕ) (store : List ℕ) (s : Sound t bound e sto
     module _ (x : List ℕ) (r : ℕ) (lx : length x ≡ length store)
         (st : Stored store x (k * 257 + 1) r (kept (slotAt t (n + 1) (memoryOf m))
         (length (resolve t (n + 1) (memoryOf m))))) where
-      pub fill-yes : NodeFilled t e store (set x (k * 257) r) k
+      pub fill-yes : LeafFilled t e store (set x (k * 257) r) k
       fill-yes = record {
         before =
             take-set-le (k * 257) x (k * 257) r (omega arith)

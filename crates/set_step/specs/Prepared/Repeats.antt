@@ -17,14 +17,14 @@ use Rattle.tree_walk.specs.Course.{nodeCount, LeafAt}
 use Rattle.set_step.specs.Memo.{Copied, EntryAt, StoreOf, KeptInEntry}
 use Rattle.set_step.specs.Memo.Copies.{leaf-copied}
 use Rattle.set_step.specs.Memo.Laws.{store-copies, kept-before, store-kept}
-use Rattle.set_step.specs.Prepared.{Sound, NodeFilled, FilledBefore}
+use Rattle.set_step.specs.Prepared.{Sound, LeafFilled, FilledBefore}
 use Rattle.set_step.specs.Prepared.Below.{getD-below, take-below, leaf-same}
 use Rattle.set_step.specs.Prepared.Nodes.{node-few}
 
 -- ---- the node is filled
 
 part-fills : (t : Table) (e : ℕ) (old new : List ℕ) (p k : ℕ) → Copied old new p (k * 257)
-    → LeafAt t e old p (getD old k 0) → p < length old → k * 257 < length new → NodeFilled t e old new k
+    → LeafAt t e old p (getD old k 0) → p < length old → k * 257 < length new → LeafFilled t e old new k
 part-fills t e old new p k c d lo ln =
     record { before = c .before; leaf = leaf-copied t e old new p (k * 257) (getD old k 0) (c .part) lo ln d }
 
@@ -34,7 +34,7 @@ module _ (t : Table) (e : ℕ) (old : List ℕ) (k last : ℕ) (f : FilledBefore
 
   module _ (new : List ℕ) (w : ℕ) (o : Copied old new (last * 257) (k * 257)) (ew : w ≡ getD old k 0)
       (same : getD old last 0 ≡ w) (s : StoreOf t old) (ln : length new ≡ length old) (b : k ≤ 15) where
-    pub over-fills : NodeFilled t e old new k
+    pub over-fills : LeafFilled t e old new k
     over-fills =
         part-fills t e old new (last * 257) k o (rw (same, ew) at (f .leaf h))
         (omega (arith, f .before, s .size)) (omega (arith, s .size))
@@ -51,7 +51,7 @@ module _ (t : Table) (e : ℕ) (old : List ℕ) (s : StoreOf t old) (k w p : ℕ
       let d = s .memo .entry p z in omega (arith, d .few e event, d .part e event .number)
 
   module _ (new : List ℕ) (o : Copied old new (p + 2) (k * 257)) (ln : length new ≡ length old) (b : k ≤ 15) where
-    pub entry-fills : NodeFilled t e old new k
+    pub entry-fills : LeafFilled t e old new k
     entry-fills =
         part-fills t e old new (p + 2) k o (rw (word, ew) at (s .memo .entry p z .part e event))
         (omega (arith, z .place, z .within, s .size)) (omega (arith, s .size))
@@ -61,12 +61,12 @@ module _ (t : Table) (e : ℕ) (old : List ℕ) (s : StoreOf t old) (k w p : ℕ
 
 -- ---- they are kept now
 
-module _ (t : Table) (e : ℕ) (old y new : List ℕ) (k w p : ℕ) (f : NodeFilled t e old y k) (ew : w ≡ getD old k 0)
+module _ (t : Table) (e : ℕ) (old y new : List ℕ) (k w p : ℕ) (f : LeafFilled t e old y k) (ew : w ≡ getD old k 0)
     (few : length (leafKept t e w) ≤ 256) (b : k ≤ 15) (z : EntryAt p) (d : KeptInEntry y new p w e (k * 257)) where
   same : take p new ≡ take p y
   same = kept-before y new p w e (k * 257) d
 
-  pub kept-fills : NodeFilled t e old new k
+  pub kept-fills : LeafFilled t e old new k
   kept-fills = record {
     before = take-below p (k * 257) new y same (omega (arith, z .place)) ∙ f .before;
     leaf = leaf-same t e p y new (k * 257) (getD old k 0) same (rw ew at few) (omega (arith, z .place)) (f .leaf);
@@ -98,7 +98,7 @@ module _ (t : Table) (e : ℕ) where
 
 module _ (t : Table) (bound e : ℕ) (store : List ℕ) (s : Sound t bound e store) (k : ℕ) (a : 1 ≤ k)
     (b : k ≤ nodeCount store) where
-  pub last-filled : Lawful t → (new : List ℕ) → NodeFilled t e store new k → FilledBefore t e new (k + 1) k
+  pub last-filled : Lawful t → (new : List ℕ) → LeafFilled t e store new k → FilledBefore t e new (k + 1) k
   last-filled law new f =
       let same = getD-below (k * 257) new store k (f .before) (omega arith) in
       record {

@@ -33,7 +33,7 @@ use Rattle.tree_moves.specs.Takes.Counts.{none-of}
 use Rattle.set_step.specs.declared.preparing.TreeEnd.{TreeEnd}
 use Rattle.set_step.specs.Memo.{StoreOf}
 use Rattle.set_step.specs.Memo.Laws.{store-marks}
-use Rattle.set_step.specs.Prepared.{Sound, NodeFilled, FilledBefore, TreeFrom, TreeFilled, Fills}
+use Rattle.set_step.specs.Prepared.{Sound, LeafFilled, FilledBefore, TreeFrom, TreeFilled, Fills}
 use Rattle.set_step.specs.Prepared.Below.{getD-below, take-below, nodes-same, leaf-same, nodes-drop, nodes-length}
 use Rattle.set_step.specs.Prepared.Asked.{still-prepared, prefix-word, pair-word}
 use Rattle.set_step.specs.Prepared.Nodes.{leaf-fits, sound-store, sound-kept, node-resolves}
@@ -93,7 +93,7 @@ module _ {t : Table} {bound e : ℕ} {old : List ℕ} (s : Sound t bound e old) 
     pub marked-store : StoreOf t marked
     marked-store = store-marks t old k v (omega (arith, node-inside, s .few)) (sound-store t bound e old s)
 
-  pub leaf-done : Lawful t → kindAt t (getD old k 0) ≡ 2 → (new : List ℕ) → NodeFilled t e old new k
+  pub leaf-done : Lawful t → kindAt t (getD old k 0) ≡ 2 → (new : List ℕ) → LeafFilled t e old new k
       → TreeFilled t e old new k (record { next = k + 1; last = k })
   unfolding nodes
   leaf-done law q new n =

@@ -13,20 +13,20 @@ use Rattle.table.specs.Stands.{par-left-stands, par-right-stands}
 use Rattle.table.specs.Node.Homes.{Within, within-one, sizes-next}
 
 -- a part of a term within a definition is within it too
-deeper : {ds : List Definition} {h n k m j : ℕ} → Within ds h n k → n ≤ m → m + j ≤ n + k → Within ds h m j
-deeper w a b = record { known = w .known; from = omega (arith, w .from); until = omega (arith, w .until) }
+part-within : {ds : List Definition} {h n k m j : ℕ} → Within ds h n k → n ≤ m → m + j ≤ n + k → Within ds h m j
+part-within w a b = record { known = w .known; from = omega (arith, w .from); until = omega (arith, w .until) }
 
 pub home-within : {ds : List Definition} {h c n : ℕ} {x : Term} → Stands ds h c n x → Within ds h n (size x)
 unfolding size
 home-within {ds} (body-stands {h = h} l) =
     record { known = l; from = omega arith; until = omega (arith, sizes-next ds h l) }
-home-within (follower-stands s) = deeper (home-within s) (omega arith) (omega arith)
-home-within (choice-left-stands s) = deeper (home-within s) (omega arith) (omega arith)
-home-within (choice-right-stands s) = deeper (home-within s) (omega arith) (omega arith)
-home-within (par-left-stands s) = deeper (home-within s) (omega arith) (omega arith)
-home-within (par-right-stands s) = deeper (home-within s) (omega arith) (omega arith)
+home-within (follower-stands s) = part-within (home-within s) (omega arith) (omega arith)
+home-within (choice-left-stands s) = part-within (home-within s) (omega arith) (omega arith)
+home-within (choice-right-stands s) = part-within (home-within s) (omega arith) (omega arith)
+home-within (par-left-stands s) = part-within (home-within s) (omega arith) (omega arith)
+home-within (par-right-stands s) = part-within (home-within s) (omega arith) (omega arith)
 
 pub home-one : {ds : List Definition} {g h b c n : ℕ} {x y : Term} → Stands ds g b n x → Stands ds h c n y → g ≡ h
 home-one {ds} {g} {h} {n = n} {x = x} {y = y} s r =
-    within-one ds g h n (deeper (home-within s) (omega arith) (omega (arith, size-positive x)))
-    (deeper (home-within r) (omega arith) (omega (arith, size-positive y)))
+    within-one ds g h n (part-within (home-within s) (omega arith) (omega (arith, size-positive x)))
+    (part-within (home-within r) (omega arith) (omega (arith, size-positive y)))

@@ -29,7 +29,7 @@ use Rattle.trace.specs.declared.answer.TraceLine as code
 use Rattle.trace.specs.Answers.{traceLineSaid}
 use Rattle.trace.specs.declared.answer.Traced.{Traced}
 use Rattle.trace.specs.declared.answer.Traced.the-variants.{Went, Stopped}
-use Rattle.trace.specs.Tracing.{Tracing, StoppedAt, TracedBy}
+use Rattle.trace.specs.Tracing.{Tracing, TracedBy}
 use Rattle.trace_monitor.specs.declared.print.Count.{Count}
 use Rattle.trace_monitor.specs.declared.print.Said.{Said}
 use Rattle.trace_monitor.specs.declared.print.Unsaid.{Unsaid}
@@ -41,7 +41,7 @@ use Rattle.trace_monitor.specs.declared.course.Course.{Course}
 use Rattle.trace_monitor.specs.declared.course.Course.the-variants.{Going, Over}
 use Rattle.trace_monitor.specs.Spoken.{saidLine, Counted, Utterance, saidOf, firstSaid, Spoken}
 use Rattle.trace_monitor.specs.Course.{WentOn, StopSaid, Turned, Onward, RefusedIn, ReadOver, ReadOn}
-use Rattle.trace_monitor.specs.Course.{AfterArrived, Gone, EndsAfter, Followed, ToldRefusal}
+use Rattle.trace_monitor.specs.Course.{AfterArrived, Gone, Followed, ToldRefusal}
 use Rattle.trace_monitor.specs.Course.Steps.{onward-then, refused-then, refused-more, event-onward}
 use Rattle.trace_monitor.specs.Course.Steps.{event-refused, gone-refused}
 

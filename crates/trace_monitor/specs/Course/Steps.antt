@@ -20,7 +20,7 @@ use Rattle.line_spec.specs.Judged.Laws.{flatten-last}
 use Rattle.line_spec.specs.Judged.Taken.{event-took}
 use Rattle.trace_spec.specs.TraceLine.{TraceLine, takes, refuses}
 use Rattle.trace_spec.specs.Trace.{traceOf}
-use Rattle.trace_spec.specs.Reads.{at, reachedBy}
+use Rattle.trace_spec.specs.Reads.{reachedBy}
 use Rattle.trace.specs.Tracing.Laws.{reached-next, trace-next, trace-stop}
 use Rattle.trace_monitor.specs.Spoken.{Utterance}
 use Rattle.trace_monitor.specs.Course.{LastLine, WentOn, StopSaid, Onward, RefusedIn, EachSome, Gone}

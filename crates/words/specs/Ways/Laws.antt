@@ -1,4 +1,5 @@
--- Each call goes one of its ways: open-way, feed-way, offer-way, view-way, read-way, write-way. Assumes nothing.
+-- Each call goes one of its ways: open-call-way, feed-way, try-way, offer-way, view-way, read-way, write-way. Assumes
+-- nothing.
 use Prim.Native.Nat.{ℕ, zero, suc, _%_, _<_}
 use native.Mathlib.Omega.{arith}
 use mathlib.Core.Path.{_≡_, refl, sym, ap, subst, _∙_}
@@ -28,7 +29,7 @@ use Rattle.words.specs.Calls.{offerValue, offeringCall, offerSecond, off
 use Rattle.words.specs.Calls.{viewing, viewCall}
 use Rattle.words.specs.Calls.Laws.{view-empty, view-words}
 use Rattle.words.specs.Ways.{CallWay, recordUnfit, callGiven, callRefused, callStopped, OfferWay, offerUnfit}
-use Rattle.words.specs.Ways.{OpenCallWay, TryWay, recordUnfit, furtherWay}
+use Rattle.words.specs.Ways.{OpenCallWay, TryWay, tryUnfit, furtherWay}
 use Rattle.words.specs.Ways.{offerGiven, offerRefused, ViewWay, viewUnfit, viewNone, viewSome, TableWay}
 use Rattle.words.specs.Ways.{tableDone, tableRefused}
 
@@ -84,9 +85,9 @@ opened-none (given r) e = absurd (let z : _≡_ {A = ℕ} 0 1 = cc in omega arit
 opened-none (refused n p) e = refl
 opened-none (stopped n p r) e = absurd (let z : _≡_ {A = ℕ} 0 1 = cc in omega arith)
 
-pub open-way : (l r a b es w : List ℕ) → OpenCallWay r a b w (openOf l a b es w) (openCall l r a b es w)
+pub open-call-way : (l r a b es w : List ℕ) → OpenCallWay r a b w (openOf l a b es w) (openCall l r a b es w)
 unfolding openCall recordMeasured unmeasured
-open-way l r a b es w = by (eqb (length r) 5) refl
+open-call-way l r a b es w = by (eqb (length r) 5) refl
   where
     o : Outcome
     o = openOf l a b es w
@@ -127,7 +128,7 @@ try-way l r a b r′ c d es w = by (eqb (length r) 5) refl
     by true e =
         furtherWay (eqb-true _ _ e)
         (measured r′ c d w o (tryCall l r a b r′ c d es w) (eqb (length r′) 5) refl (rw (e, tryCall) refl))
-    by false e = recordUnfit (eqb-false _ _ e) (rw (e, tryCall) refl)
+    by false e = tryUnfit (eqb-false _ _ e) (rw (e, tryCall) refl)
 
 -- ---- Offer
 

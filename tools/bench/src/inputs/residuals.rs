@@ -47,6 +47,20 @@ pub fn inputs() -> Vec<Input> {
             vec![],
             recalled_by_two(),
         ),
+        cycle(
+            "equal choices",
+            "remembered beside two loops that choose between equals; one residual, in ever other sets",
+            remembered_beside(Term::Call(0)),
+            vec![],
+            recalled(MARKS.into()),
+        ),
+        cycle(
+            "two choices",
+            "the same, between an event more and none; four residuals, in ever other sets",
+            remembered_beside(prefix(plain(0), Term::Call(0))),
+            vec![],
+            recalled(MARKS.into()),
+        ),
     ]
 }
 
@@ -172,6 +186,16 @@ fn recalling(call: u16) -> Term {
 fn remembered(marks: u16) -> Vec<u16> {
     let definitions = vec![definition(0, recalling(0))];
     Table { alphabet: marks, sets: mark_sets(marks), definitions }.list()
+}
+
+// Beside it, over all events, twice Q = any event -> Q choice another term: a step of it has no moves.
+fn remembered_beside(other: Term) -> Vec<u16> {
+    let definitions = vec![
+        definition(0, prefix(plain(0), choice(Term::Call(0), other))),
+        definition(0, recalling(1)),
+        definition(1, beside(plain(0), vec![Term::Call(0), Term::Call(0), Term::Call(1)])),
+    ];
+    Table { alphabet: MARKS, sets: mark_sets(MARKS), definitions }.list()
 }
 
 fn recalled(marks: usize) -> Vec<u8> {

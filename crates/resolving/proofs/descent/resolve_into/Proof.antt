@@ -4,11 +4,6 @@ use borrow.Author.Needs.{needs}
 use Rattle.resolving.specs.ResidualWords.Descent.{landed-nowhere, landed-leaf, landed-pair}
 use Rattle.resolving.proofs.descent.resolve_into.Statement.{statement}
 use Rattle.resolving.proofs.descent.resolve_into.Tie as tie
-use Rattle.resolving.proofs.descent.resolve_into.Reads as reads
-use Rattle.resolving.proofs.descent.resolve_into.Lts as lts
-use Rattle.resolving.proofs.descent.descend.Reads as descend-reads
-use Rattle.resolving.proofs.resolve.push_into.Reads as push-into-reads
-use Rattle.resolving.proofs.resolve.term_into.Reads as term-into-reads
 
 descend-requires : tie.Need-descend-requires
 descend-requires c κs = search needs
@@ -47,7 +42,8 @@ same-length-2 c = search needs
 returns-2 : tie.Need-returns-2
 returns-2 c =
     let lands = c .before .before .before .before .before .before .before .descend .ensures in
-    c .before .before .push-into .ensures ∙ landed-leaf _ _ _ _ _ _ lands _ (c .before .before .before .before .before .w .given .1) .1
+    c .before .before .push-into .ensures
+    ∙ landed-leaf _ _ _ _ _ _ lands _ (c .before .before .before .before .before .w .given .1) .1
 
 same-length-3 : tie.Need-same-length-3
 same-length-3 c = search needs
@@ -55,7 +51,8 @@ same-length-3 c = search needs
 returns-3 : tie.Need-returns-3
 returns-3 c =
     let lands = c .before .before .before .before .before .before .before .descend .ensures in
-    c .before .before .term-into .ensures ∙ landed-pair _ _ _ _ _ _ lands _ _ _ _ (c .before .before .before .before .before .b .given .1) .2
+    c .before .before .term-into .ensures
+    ∙ landed-pair _ _ _ _ _ _ lands _ _ _ _ (c .before .before .before .before .before .b .given .1) .2
 
 pub resolve-into-spec : {M : Type 1} → statement M
 resolve-into-spec =

@@ -1,11 +1,10 @@
--- `resolving::resolve::pop_to` meets its contract: the words from c on are taken off, and c falls to n. Assumes nothing.
+-- `resolving::resolve::pop_to` meets its contract: the words from c on are taken off, and c falls to n.
+-- Assumes nothing.
 use native.Mathlib.Omega.{arith}
 use borrow.Author.Needs.{needs}
 use Rattle.resolving.specs.ResidualWords.Popped.{Popping, popping-first, popping-next, popping-last}
 use Rattle.resolving.proofs.resolve.pop_to.Statement.{statement}
 use Rattle.resolving.proofs.resolve.pop_to.Tie as tie
-use Rattle.resolving.proofs.resolve.pop_to.Reads as reads
-use Rattle.resolving.proofs.resolve.pop_to.Lts as lts
 
 abbrev Inv-loop : tie.InvT-loop
 Inv-loop slot₀ n c₀ slot c = Popping slot₀ n slot c

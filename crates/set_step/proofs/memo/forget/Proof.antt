@@ -6,12 +6,12 @@ use mathlib.Core.Path.{_≡_}
 use lib.ListN.{length, length-set}
 use borrow.Author.Needs.{needs}
 use Rattle.tree_walk.specs.Layout.{entryCount, storeWords}
-use Rattle.set_step.specs.Memo.Laws.{Forgotten, none-first, forget-next, forget-done}
+use Rattle.set_step.specs.Memo.Laws.{KeepsNone, none-first, forget-next, forget-done}
 use Rattle.set_step.proofs.memo.forget.Statement.{statement}
 use Rattle.set_step.proofs.memo.forget.Tie as tie
 
 abbrev Inv-loop : tie.InvT-loop
-Inv-loop store₀ i₀ store i = (i ≤ entryCount) × (length store ≡ storeWords) × Forgotten store i
+Inv-loop store₀ i₀ store i = (i ≤ entryCount) × (length store ≡ storeWords) × KeepsNone store i
 
 abbrev μ-loop : tie.MeasureT-loop
 μ-loop store₀ i₀ store i = entryCount - i

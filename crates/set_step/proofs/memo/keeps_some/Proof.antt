@@ -5,12 +5,12 @@ use native.Mathlib.Omega.{arith}
 use mathlib.Core.Path.{_≡_}
 use borrow.Author.Needs.{needs}
 use Rattle.tree_walk.specs.Layout.{entryCount}
-use Rattle.set_step.specs.Memo.Laws.{Forgotten, none-first, none-next, none-done, keeps-one}
+use Rattle.set_step.specs.Memo.Laws.{KeepsNone, none-first, none-next, none-done, keeps-one}
 use Rattle.set_step.proofs.memo.keeps_some.Statement.{statement}
 use Rattle.set_step.proofs.memo.keeps_some.Tie as tie
 
 abbrev Inv-loop : tie.InvT-loop
-Inv-loop store j₀ j = (j ≤ entryCount) × Forgotten store j
+Inv-loop store j₀ j = (j ≤ entryCount) × KeepsNone store j
 
 abbrev μ-loop : tie.MeasureT-loop
 μ-loop store j₀ j = entryCount - j

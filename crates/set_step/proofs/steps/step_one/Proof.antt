@@ -21,7 +21,9 @@ add-way-of : tie.Need-add-way-of
 add-way-of c = search needs
 
 way-of-requires : tie.Need-way-of-requires
-way-of-requires c κs = (c .before .before .before .before .before .before .pre .0, (c .before .before .before .before .before .before .pre .1 .event, slot-rooted (c .before .before .before .before .before .before .pre .1) _ refl))
+way-of-requires c κs =
+    let at-start = c .before .before .before .before .before .before in
+    (at-start .pre .0, (at-start .pre .1 .event, slot-rooted (at-start .pre .1) _ refl))
 
 enum-told : tie.Need-enum-told
 enum-told c = search needs
@@ -30,7 +32,11 @@ enum-known-moves : tie.Need-enum-known-moves
 enum-known-moves c = search needs
 
 add-marks : tie.Need-add-marks
-add-marks c = omega (arith, marks-few (c .before .before .before .before .before .before .before .before .before .before .before .before .pre .1) _ refl _ (c .before .before .before .before .before .way-of .ensures) _ (c .before .before .before .moves .given .1))
+add-marks c =
+    let at-moves = c .before .before .before in
+    let at-way-of = at-moves .before .before in
+    let at-start = at-way-of .before .before .before .before .before .before .before in
+    omega (arith, marks-few (at-start .pre .1) _ refl _ (at-way-of .way-of .ensures) _ (at-moves .moves .given .1))
 
 add-rebuild : tie.Need-add-rebuild
 add-rebuild c = search needs
@@ -39,7 +45,15 @@ slice-aggregate-rebuild : tie.Need-slice-aggregate-rebuild
 slice-aggregate-rebuild c = search needs
 
 rebuild-requires : tie.Need-rebuild-requires
-rebuild-requires c κs = (c .before .before .before .before .before .before .before .before .before .before .before .before .before .pre .0, lone-rebuilds (c .before .before .before .before .before .before .before .before .before .before .before .before .before .pre .1) _ refl _ (c .before .before .before .before .before .before .way-of .ensures) _ (c .before .before .before .before .moves .given .1) (c .before .before .if1 .taken))
+rebuild-requires c κs =
+    let at-if1 = c .before .before in
+    let at-moves = at-if1 .before .before in
+    let at-way-of = at-moves .before .before in
+    let at-start = at-way-of .before .before .before .before .before .before .before in (
+      at-start .pre .0,
+      lone-rebuilds (at-start .pre .1) _ refl _ (at-way-of .way-of .ensures) _ (at-moves .moves
+          .given .1) (at-if1 .if1 .taken),
+    )
 
 slice-aggregate-put : tie.Need-slice-aggregate-put
 slice-aggregate-put c = search needs
@@ -51,13 +65,30 @@ same-length : tie.Need-same-length
 same-length c = search needs
 
 returns : tie.Need-returns
-returns c = (lone-done (c .before .before .before .before .before .before .before .before .before .before .before .before .before .before .before .before .before .before .before .before .pre .1) _ refl _ (c .before .before .before .before .before .before .before .before .before .before .before .before .before .way-of .ensures) _ (c .before .before .before .before .before .before .before .before .before .before .before .moves .given .1) (c .before .before .before .before .before .before .before .before .before .if1 .taken) _ (c .before .before .before .before .before .before .rebuild .ensures) _ _ (c .before .before .put .ensures), c .before .before .before .before .before .before .before .before .before .before .before .before .before .before .before .before .before .before .before .before .pre .1 .leaves)
+returns c =
+    let at-put = c .before .before in
+    let at-rebuild = at-put .before .before .before .before in
+    let at-if1 = at-rebuild .before .before .before in
+    let at-moves = at-if1 .before .before in
+    let at-way-of = at-moves .before .before in
+    let at-start = at-way-of .before .before .before .before .before .before .before in (
+      lone-done (at-start .pre .1) _ refl _ (at-way-of .way-of .ensures) _ (at-moves .moves .given .1) (at-if1 .if1
+          .taken) _ (at-rebuild .rebuild .ensures) _ _ (at-put .put .ensures),
+      at-start .pre .1 .leaves,
+    )
 
 add-step-moves : tie.Need-add-step-moves
 add-step-moves c = search needs
 
 step-moves-requires : tie.Need-step-moves-requires
-step-moves-requires c κs = (c .before .before .before .before .before .before .before .before .before .before .before .before .pre .0, several-asks (c .before .before .before .before .before .before .before .before .before .before .before .before .pre .1) _ refl _ (c .before .before .before .before .before .way-of .ensures) _ (c .before .before .before .moves .given .1))
+step-moves-requires c κs =
+    let at-moves = c .before .before .before in
+    let at-way-of = at-moves .before .before in
+    let at-start = at-way-of .before .before .before .before .before .before .before in (
+      at-start .pre .0,
+      several-asks (at-start .pre .1) _ refl _ (at-way-of .way-of .ensures) _ (at-moves .moves
+          .given .1),
+    )
 
 enum-told-2 : tie.Need-enum-told-2
 enum-told-2 c = search needs
@@ -66,13 +97,27 @@ step-many-requires : tie.Need-step-many-requires
 step-many-requires c κs = search needs
 
 returns-2 : tie.Need-returns-2
-returns-2 c = (still-one (c .before .before .before .before .before .before .before .before .before .pre .1) _ refl _ (c .before .before .way-of .ensures) (c .enum-told .given .1), c .before .before .before .before .before .before .before .before .before .pre .1 .leaves)
+returns-2 c =
+    let at-way-of = c .before .before in
+    let at-start = at-way-of .before .before .before .before .before .before .before in (
+      still-one (at-start .pre .1) _ refl _ (at-way-of .way-of .ensures) (c .enum-told .given .1),
+      at-start .pre .1
+          .leaves,
+    )
 
 same-length-2 : tie.Need-same-length-2
 same-length-2 c = search needs
 
 returns-3 : tie.Need-returns-3
-returns-3 c = (several-done (c .before .before .before .before .before .before .before .before .before .before .before .before .before .before .before .pre .1) _ refl _ (c .before .before .before .before .before .before .before .before .way-of .ensures) _ (c .before .before .before .before .before .before .moves .given .1) _ _ (c .before .before .step-moves .ensures), c .before .before .before .before .before .before .before .before .before .before .before .before .before .before .before .pre .1 .leaves)
+returns-3 c =
+    let at-step-moves = c .before .before in
+    let at-moves = at-step-moves .before .before .before .before in
+    let at-way-of = at-moves .before .before in
+    let at-start = at-way-of .before .before .before .before .before .before .before in (
+      several-done (at-start .pre .1) _ refl _ (at-way-of .way-of .ensures) _ (at-moves .moves .given .1) _ _
+          (at-step-moves .step-moves .ensures),
+      at-start .pre .1 .leaves,
+    )
 
 same-length-3 : tie.Need-same-length-3
 same-length-3 c = search needs
@@ -81,7 +126,11 @@ same-length-4 : tie.Need-same-length-4
 same-length-4 c = search needs
 
 returns-4 : tie.Need-returns-4
-returns-4 c = (many-one (c .before .before .before .before .before .before .before .before .before .before .before .before .before .before .before .before .pre .1) _ _ (c .before .before .before .before .step-many .ensures .0), c .before .before .before .before .step-many .ensures .1)
+returns-4 c =
+    let at-step-many = c .before .before .before .before in
+    let at-start = at-step-many .before .before .before .before .before .before .before .before .before .before
+    .before .before in
+    (many-one (at-start .pre .1) _ _ (at-step-many .step-many .ensures .0), at-step-many .step-many .ensures .1)
 
 pub step-one-spec : {M : Type 1} → statement M
 step-one-spec =
