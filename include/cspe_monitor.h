@@ -13,9 +13,9 @@
  * other). The library allocates nothing and keeps nothing between calls, so calls on different buffers may run at the
  * same time.
  *
- * Stack. 54 to 63 KiB were measured on most tables, and 79 KiB where eight leaves of a residual move together and each
- * has several results (tools/stack). A start in wash hours (cspe_timed_feed) has an array of 32 KiB more and keeps no
- * residual sets: 80 and 95 KiB were measured. No proof bounds it; a thread with 128 KiB has room.
+ * Stack. 54 to 63 KiB were measured on the tables with the longest ways (tools/stack). A start in wash hours
+ * (cspe_timed_feed) has an array of 32 KiB more and keeps no residual sets: 80 KiB were measured. No proof bounds it; a
+ * thread with 128 KiB has room.
  *
  * What is returned. Each function but cspe_view returns the refusal's number, 0 where there is none (enum
  * cspe_refusal). One more word is written through the last pointer on every call: the result, the refusal's place, or
