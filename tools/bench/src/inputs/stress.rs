@@ -35,6 +35,13 @@ pub fn inputs() -> Vec<Input> {
             vec![],
             vec![0, 0],
         ),
+        cycle(
+            "stress: repeats, one lane",
+            "P = {0} -> 256 times P, alone; one residual, one leaf with 256 repeats",
+            repeats_alone(),
+            vec![],
+            vec![0, 0],
+        ),
     ];
     inputs.extend(fresh());
     inputs
@@ -120,6 +127,11 @@ fn paths() -> String {
 fn twice(set: &str) -> Vec<u16> {
     let eight = format!("04 {set} ").repeat(7) + &"05 00 ".repeat(8);
     list_of(&[&format!("03 02 00 01 00 00 00 02 00 03 02 00 05 00 02 00 05 00 01 {eight}")])
+}
+
+// def 0 = {0} -> call 1, def 1 = 256 times call 0
+fn repeats_alone() -> Vec<u16> {
+    list_of(&[&format!("{ONE_SET} 02 00 02 00 05 01 00 {}", chosen(256, "05 00"))])
 }
 
 // def 0 = {0} -> call 1, def 1 = 256 times call 0, def 2 (level 1) = eight times call 0 over {0}
