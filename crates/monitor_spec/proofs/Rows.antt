@@ -1,6 +1,6 @@
--- The worked examples hold, by computing. Assumes nothing.
+-- K1 to K12 hold, by computing. Assumes nothing.
 use mathlib.Core.Path.{refl}
-use mathlib.Core.List.{_++_, flatMap, flatten}
+use mathlib.Core.List.{flatMap, flatten}
 use Rattle.table.specs.Table.{size, sizes, bodyOf, bodyNumber, termIn, termOfDefs, termAt}
 use Rattle.table.specs.Table.{prefixesIn, enclosingIn, enclosing}
 use Rattle.numbers.specs.Number.{listBytes, bytesOf, groups}
@@ -43,13 +43,7 @@ use Rattle.monitor_spec.specs.Feed.{presentSlots, nextSlots, taking, eve
 use Rattle.monitor_spec.specs.Feed.{endingOf}
 use Rattle.monitor_spec.specs.Feed.{feedOf}
 use Rattle.monitor_spec.specs.Open.{freshMonitor, openAccepted, openOf}
-use Rattle.monitor_spec.specs.Offer.{bitOf, bitsFrom, wordBits, wordFrom, allBits, offerBits, offering, offerOf}
-use Rattle.monitor_spec.specs.View.{partBy, viewPart, wordsIn, viewOf}
-use Rattle.monitor_spec.specs.History.{standing, callOn, history, recordIn}
 use Rattle.monitor_spec.specs.Examples.{drawn, opening, rows, saysAll}
-use Rattle.monitor_spec.specs.Cases.{fed, afterCalls, afterFirst, cases, casesHold}
-use Rattle.monitor_spec.specs.PeakCases.{peakCases}
-use Rattle.monitor_spec.specs.Buffers.{deep, BuffersStand}
 
 pub marked : saysAll rows
 unfolding flatMap size sizes bodyOf bodyNumber termIn termOfDefs termAt prefixesIn enclosingIn enclosing
@@ -71,47 +65,3 @@ unfolding flatMap size sizes bodyOf bodyNumber termIn termOfDefs termAt prefixes
     endingOf feedOf measuring judging entrance agreeing entranceOn entering refusing freshMonitor openAccepted openOf
     drawn opening
 marked = refl
-
-pub further : casesHold (cases ++ peakCases)
-unfolding flatMap size sizes bodyOf bodyNumber termIn termOfDefs termAt prefixesIn enclosingIn enclosing
-    listBytes bytesOf groups listTokens trailing placeOf number pure next andThen times
-    events row setOfKind eventSet eventSets kindFits rowCount rowsOf rowsFit refOfKind setRef termOfKind termWith
-    definition definitionsOf table
-    rowNumbers setNumbers refNumbers termNumbers definitionNumbers numbersOf orElse unless
-    levelIn paramFits callFits wrongRef wrongIn wrongFrom firstWrong grow
-    widthWith widest callWidth nextWidth allWidths levelWidth reach firstAbove tooWide
-    branchesWith branchesAt bodyIn nextBranches allBranches followerAbove bodyAbove tooManyBranches
-    unlessMet placed judgeRead judge sized judgeList digit remember elem rowIn rowOf inRow recalled member bodyCount
-    pairs resolveIn resolveDef resolve afterLeaf afterPair after afterAll run fromDefinition residualsOf
-    digitBits digitBound pack termOfWord memoryOf keep nodes slotOf compareWords insertSorted canon slotsOf
-    joinTrees plant plantWord forest oneTree slotResidual held digitFits memoryFits memoriesFit reachAt reachSum
-    validSlot
-    areasMeasured workMeasured slotCount even choose chunks flatten fill
-    every allZero ascendsFrom ascends verdictFits peakFits recordFits areaFits consistent through
-    presentSlots nextSlots nextVerdict freshState stateAfter counted holding taking eventRefused takeEvent
-    endingOf feedOf measuring judging entrance agreeing entranceOn entering refusing freshMonitor openAccepted openOf
-    drawn opening
-    standing callOn history recordIn fed afterCalls afterFirst
-further = refl
-
-pub outcomes-stand : BuffersStand
-unfolding flatMap size sizes bodyOf bodyNumber termIn termOfDefs termAt prefixesIn enclosingIn enclosing
-    listBytes bytesOf groups listTokens trailing placeOf number pure next andThen times
-    events row setOfKind eventSet eventSets kindFits rowCount rowsOf rowsFit refOfKind setRef termOfKind termWith
-    definition definitionsOf table
-    rowNumbers setNumbers refNumbers termNumbers definitionNumbers numbersOf orElse unless
-    levelIn paramFits callFits wrongRef wrongIn wrongFrom firstWrong grow
-    widthWith widest callWidth nextWidth allWidths levelWidth reach firstAbove tooWide
-    branchesWith branchesAt bodyIn nextBranches allBranches followerAbove bodyAbove tooManyBranches
-    unlessMet placed judgeRead judge sized judgeList digit remember elem rowIn rowOf inRow recalled member bodyCount
-    pairs resolveIn resolveDef resolve afterLeaf afterPair after afterAll run fromDefinition residualsOf
-    digitBits digitBound pack termOfWord memoryOf keep nodes slotOf compareWords insertSorted canon slotsOf
-    joinTrees plant plantWord forest oneTree slotResidual held digitFits memoryFits memoriesFit reachAt reachSum
-    validSlot
-    areasMeasured workMeasured slotCount even choose chunks flatten fill
-    every allZero ascendsFrom ascends verdictFits peakFits recordFits areaFits consistent through
-    presentSlots nextSlots nextVerdict freshState stateAfter counted holding taking eventRefused takeEvent
-    endingOf feedOf measuring judging entrance agreeing entranceOn entering refusing freshMonitor openAccepted openOf
-    drawn opening
-    bitOf bitsFrom wordBits wordFrom allBits offerBits offering offerOf partBy viewPart wordsIn viewOf deep
-outcomes-stand = (refl, refl, refl)

@@ -35,7 +35,7 @@ use Rattle.monitor_spec.specs.Claims.{ViewsPart}
 use Rattle.monitor_spec.specs.Claims.{Judges, Answers, Histories, OffersTraces, ViewsResiduals, FeedKeeps}
 use Rattle.monitor_spec.specs.Claims.{TryIsFeed, TryUnlike, TryRefusedExactly, TryStopsExactly, TryGivesExactly}
 use Rattle.monitor_spec.specs.Claims.{TryBuffers, TryForetells, TryJudges}
-use Rattle.monitor_spec.specs.Claims.{Examples, Cases, Buffers}
+use Rattle.monitor_spec.specs.Claims.{Examples}
 use Rattle.numbers.specs.Choice.{T-true, true-T}
 use Rattle.monitor_spec.proofs.Opens as opens
 use Rattle.monitor_spec.proofs.Runs as runs
@@ -52,7 +52,7 @@ use Rattle.monitor_spec.proofs.Counts.{slot-once, counts}
 use Rattle.monitor_spec.proofs.Offers.{offers-after, views-after}
 use Rattle.monitor_spec.proofs.Keeps.{call-keeps}
 use Rattle.monitor_spec.proofs.Tries as tries
-use Rattle.monitor_spec.proofs.Rows.{marked, further, outcomes-stand}
+use Rattle.monitor_spec.proofs.Rows.{marked}
 
 -- an accepted list is a table that keeps the rules
 pub residuals-are-traces : ResidualsAreTraces
@@ -272,11 +272,3 @@ try-judges l ns t says a b first opened o calls c d es w h e H model =
 pub examples : Examples
 unfolding Examples
 examples = marked
-
-pub cases : Cases
-unfolding Cases
-cases = further
-
-pub buffers : Buffers
-unfolding Buffers
-buffers = outcomes-stand

@@ -26,7 +26,7 @@
 --     TryIsFeed, TryUnlike    Try gives Feed's answer and work words;  1 where a further area has another length
 --     TryRefusedExactly, TryStopsExactly, TryGivesExactly, TryBuffers   Try by conditions, on every input
 --     TryForetells            along a history, what Try says is what a feeding call then does;  TryJudges: by demand 3
---     Examples                K1 to K12;  Cases: further cases;  Buffers: whole outcomes with every lent word
+--     Examples                K1 to K12; further worked calls are rows of crate `monitor_examples`
 -- Every claim along a history is about a number list l that the table layer accepts as the table t. Assumes nothing.
 use Prim.Native.Nat.{ℕ, _≤_, _<_}
 use mathlib.Core.Path.{_≡_}
@@ -71,9 +71,6 @@ use Rattle.monitor_spec.specs.Offers.{OffersJust}
 use Rattle.monitor_spec.specs.Views.{PartWay}
 use Rattle.monitor_spec.specs.Tried.{Alike, TryRefused, tried, Foretells}
 use Rattle.monitor_spec.specs.Examples.{rows, saysAll}
-use Rattle.monitor_spec.specs.Cases.{cases, casesHold}
-use Rattle.monitor_spec.specs.PeakCases.{peakCases}
-use Rattle.monitor_spec.specs.Buffers.{BuffersStand}
 
 -- The trace set of some residual holds the list exactly when the residuals after it are not empty.
 unfoldable pub ResidualsAreTraces : Type 1
@@ -343,9 +340,3 @@ TryJudges =
 -- 01, "Strength of the statements": "K1 to K12 are proved together, as rows under one theorem on the definitions"
 unfoldable pub Examples : Type 0
 Examples = saysAll rows
-
-unfoldable pub Cases : Type 0
-Cases = casesHold (cases ++ peakCases)
-
-unfoldable pub Buffers : Type 0
-Buffers = BuffersStand

@@ -25,8 +25,5 @@ pub mod Stopping
 pub mod Views
 pub mod Tried
 pub mod Examples
-pub mod Cases
-pub mod PeakCases
-pub mod Buffers
 pub mod Claims
 pub mod Regular

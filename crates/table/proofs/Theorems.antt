@@ -19,8 +19,7 @@ use Rattle.table.specs.BytesRefused.Given.{refused-bytes-in}
 use Rattle.table.specs.Grammar.Rows.{passing-refused}
 use Rattle.table.specs.Before.Laws.{list-before, bytes-before, was-refused}
 use Rattle.table.specs.Equations.{branches-call, width-level}
-use Rattle.table.specs.Examples.Laws.{numbers-hold, tables-hold, counts-hold, longs-hold}
-use Rattle.table.specs.Examples.Laws.{reads-hold, writes-hold}
+use Rattle.table.specs.Examples.Laws.{numbers-hold, tables-hold, counts-hold}
 use Rattle.table.specs.Bounds.Laws.{bounds-hold}
 use Rattle.table.specs.Operations.Laws as operations
 use Rattle.table.specs.Operations.Ways.{read-ways, write-ways}
@@ -126,7 +125,7 @@ read-fills = operations.read-fills
 
 pub examples : Examples
 unfolding Examples
-examples = (numbers-hold, tables-hold, counts-hold, longs-hold, reads-hold, writes-hold)
+examples = (numbers-hold, tables-hold, counts-hold)
 
 pub bounds : Bounds
 unfolding Bounds

@@ -43,7 +43,7 @@ use Rattle.table.specs.Width.{widthWith, widest, levelWidth, reach}
 use Rattle.table.specs.Branches.{branchesAt, allBranches, branches, bodyIn}
 use Rattle.table.specs.Branches.Capped.{capped, cappedWith, allCapped}
 use Rattle.table.specs.Equations.{callCount}
-use Rattle.table.specs.Examples.{every, numberRows, tableRows, countRows, longRows, readRows, writeRows}
+use Rattle.table.specs.Examples.{every, numberRows, tableRows, countRows}
 use Rattle.table.specs.Bounds.{alphabetRows, setRows, rowRows, definitionRows, parameterRows, callRows}
 use Rattle.table.specs.Bounds.{widthRows, branchRows, orderRows}
 use Rattle.table.specs.Rules.{Rules}
@@ -164,9 +164,7 @@ unfoldable pub ReadFills : Type 0
 ReadFills = (s out work : List ℕ) → Bytes s → length (readOf s out work .output) ≡ length out
 
 unfoldable pub Examples : Type 0
-Examples =
-    T (every numberRows) × T (every tableRows) × T (every countRows) × T (every longRows) × T (every readRows)
-    × T (every writeRows)
+Examples = T (every numberRows) × T (every tableRows) × T (every countRows)
 
 -- 01, "Numbers and table": each number of it, on both sides; "When the monitor declines": "Order"
 unfoldable pub Bounds : Type 0

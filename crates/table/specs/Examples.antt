@@ -3,18 +3,15 @@
 --     inNumbers, bytesAre, listIs  a judgement as two numbers; what bytes, a number list are judged to be
 --     numberRows, tableRows        numbers and whole tables
 --     countRows                    width, branches and the number of terms
---     longRows                     "long table"
---     readRows, writeRows          Read and Write: answer, output and work words
--- That every row holds is in `Examples/Laws.antt`. Assumes nothing.
+-- That every row holds is in `Examples/Laws.antt`. Long tables, and what Read and Write leave, are rows of crate
+-- `table_examples`. Assumes nothing.
 use Prim.Native.Nat.{ℕ, zero, suc}
 use mathlib.Core.Bool.{Bool, true, _&&_}
 use mathlib.Core.List.{List, [], _∷_, _++_}
-use lib.ListN.{length, replicate}
+use lib.ListN.{length}
 use lib.Dec.{eqb}
-use Rattle.numbers.specs.Examples.{same}
 use Rattle.numbers.specs.Number.{bytesOf}
 use Rattle.table.specs.Judge.{Judgement, accepted, declined, judgeBytes, judgeList}
-use Rattle.table.specs.Operations.{Answer, done, refusal, Outcome, zeros, readOf, writeOf}
 pub mod Laws
 
 -- a judgement as two numbers: refusal and place, or 0 and how many numbers the table has
@@ -143,115 +140,7 @@ countRows =
     ∷ listIs (S0 ++ (3 ∷ 0 ∷ balanced 9) ++ (0 ∷ 0 ∷ 0 ∷ 0 ∷ [])) 5 1033
     ∷ []
 
--- ---- the order of 2 on a list
-
--- the events 0 to n - 1 before a list
-abbrev pub upTo : ℕ → List ℕ → List ℕ
-upTo zero l = l
-upTo (suc n) l = upTo n (n ∷ l)
-
 -- so many copies of a list
 abbrev pub copies : ℕ → List ℕ → List ℕ
 copies zero l = []
 copies (suc n) l = l ++ copies n l
-
--- A = 64, four kind 1 sets of full rows, and set 4, {}: 16,648 numbers
-abbrev pub overlong : List ℕ
-overlong = 64 ∷ 5 ∷ (copies 4 (1 ∷ copies 64 (64 ∷ upTo 64 [])) ++ (0 ∷ 0 ∷ []))
-
--- A = 64, three kind 1 sets of full rows, and a fourth of 59 full rows, one of n events and four of none
-abbrev pub nearlyFull : ℕ → List ℕ
-nearlyFull n =
-    let full : List ℕ = 64 ∷ upTo 64 [] in
-    64 ∷ 4 ∷ (copies 3 (1 ∷ copies 64 full) ++ (1 ∷ (copies 59 full ++ (n ∷ upTo n (replicate 4 0)))))
-
--- A = 128, one kind 1 set: 125 full rows, whose count takes two bytes, one of n events and two of none
-abbrev pub nearlyFullLarge : ℕ → List ℕ
-nearlyFullLarge n = 128 ∷ 1 ∷ 1 ∷ (copies 125 (128 ∷ upTo 128 []) ++ (n ∷ upTo n (replicate 2 0)))
-
--- 01: "A table is at most 16,384 bytes"; "2 (its bytes would be too many) stands right after 9"
-unfoldable pub longRows : List Bool
-longRows =
-    bytesAre (nearlyFull 55 ++ (1 ∷ 0 ∷ 0 ∷ [])) 0 16384
-    ∷ listIs (nearlyFull 55 ++ (1 ∷ 0 ∷ 0 ∷ [])) 0 16384
-    ∷ bytesAre (nearlyFull 56 ++ (1 ∷ 0 ∷ 0 ∷ [])) 2 0
-    ∷ listIs (nearlyFull 56 ++ (1 ∷ 0 ∷ 0 ∷ [])) 2 0
-    ∷ listIs (nearlyFullLarge 124 ++ (1 ∷ 0 ∷ 0 ∷ [])) 0 16258
-    ∷ listIs (nearlyFullLarge 125 ++ (1 ∷ 0 ∷ 0 ∷ [])) 2 0
-    ∷ listIs (overlong ++ (1 ∷ 0 ∷ 0 ∷ [])) 2 0
-    ∷ listIs (overlong ++ (1 ∷ 0 ∷ 5 ∷ 9 ∷ [])) 7 16651
-    ∷ listIs (overlong ++ (1 ∷ 0 ∷ copies 8 (4 ∷ 4 ∷ 0 ∷ [])) ++ (0 ∷ [])) 8 0
-    ∷ listIs (overlong ++ (1 ∷ 0 ∷ 3 ∷ balanced 8) ++ (0 ∷ [])) 9 0
-    ∷ []
-
--- ---- Read and Write
-
--- an answer as two numbers: refusal and place, or 0 and the count
-abbrev pub answers : Answer → ℕ → ℕ → Bool
-answers (done n) m at = eqb m 0 && eqb n at
-answers (refusal n p) m at = eqb n m && eqb p at
-
--- the answer, the output and the work words
-abbrev pub outcomeIs : Outcome → ℕ → ℕ → List ℕ → List ℕ → Bool
-outcomeIs o n at out work = answers (o .answer) n at && (same (o .output) out && same (o .work) work)
-
--- what stood in an area before
-abbrev pub junk : ℕ → List ℕ
-junk n = replicate n 7
-
--- a refusal of Read, 2 to 9: "Read's output is zeroed on 2 to 9", and the work area is
-abbrev pub readRefuses : List ℕ → ℕ → ℕ → Bool
-readRefuses s n at = outcomeIs (readOf s (junk 16384) (junk 8192)) n at (zeros 16384) (zeros 8192)
-
--- a refusal of Write, 2 to 9: the output is kept
-abbrev pub writeRefuses : List ℕ → ℕ → ℕ → Bool
-writeRefuses l n at = outcomeIs (writeOf l (junk 20) (junk 8192)) n at (junk 20) (zeros 8192)
-
--- tables with each refusal of 5, 7, 8 and 9
-abbrev pub offScale : List ℕ
-offScale = 3 ∷ 1 ∷ 0 ∷ 2 ∷ 1 ∷ 1 ∷ []
-
-abbrev pub wrongReference : List ℕ
-wrongReference = S0 ++ (1 ∷ 0 ∷ 5 ∷ 0 ∷ [])
-
-abbrev pub tooManyHands : List ℕ
-tooManyHands = S0 ++ (1 ∷ 2 ∷ beside 8 (1 ∷ []))
-
-abbrev pub tooManyOpenings : List ℕ
-tooManyOpenings = S0 ++ (1 ∷ 0 ∷ 3 ∷ balanced 8) ++ (0 ∷ [])
-
--- 01, "Operations", Read; "When the monitor declines": lent lengths come first, and then all is kept
-unfoldable pub readRows : List Bool
-readRows =
-    outcomeIs (readOf tableB (junk 16384) (junk 8192)) 0 16 (tableB ++ zeros 16368) (zeros 8192)
-    ∷ outcomeIs (readOf tableB (junk 16383) (junk 8192)) 1 0 (junk 16383) (junk 8192)
-    ∷ outcomeIs (readOf tableB (junk 16385) (junk 8192)) 1 0 (junk 16385) (junk 8192)
-    ∷ outcomeIs (readOf tableB (junk 16384) (junk 8191)) 1 0 (junk 16384) (junk 8191)
-    ∷ outcomeIs (readOf (zeros 16385) (junk 16384) (junk 8193)) 1 0 (junk 16384) (junk 8193)
-    ∷ readRefuses (zeros 16385) 2 0
-    ∷ readRefuses (3 ∷ 2 ∷ 0 ∷ []) 3 3
-    ∷ readRefuses (128 ∷ 0 ∷ []) 4 0
-    ∷ readRefuses offScale 5 5
-    ∷ readRefuses (tableB ++ (0 ∷ [])) 6 16
-    ∷ readRefuses wrongReference 7 8
-    ∷ readRefuses tooManyHands 8 2
-    ∷ readRefuses tooManyOpenings 9 0
-    ∷ []
-
--- 01, "Operations", Write; "Write's short output is 1, last of all", also where one byte is missing
-unfoldable pub writeRows : List Bool
-writeRows =
-    outcomeIs (writeOf tableB (junk 20) (junk 8192)) 0 16 (tableB ++ junk 4) (zeros 8192)
-    ∷ outcomeIs (writeOf tableB (junk 16) (junk 8192)) 0 16 tableB (zeros 8192)
-    ∷ outcomeIs (writeOf tableB (junk 15) (junk 8192)) 1 0 (junk 15) (zeros 8192)
-    ∷ outcomeIs (writeOf tableB (junk 20) (junk 8191)) 1 0 (junk 20) (junk 8191)
-    ∷ outcomeIs (writeOf (tableB ++ (0 ∷ [])) (junk 20) (junk 8193)) 1 0 (junk 20) (junk 8193)
-    ∷ outcomeIs (writeOf (tableB ++ (0 ∷ [])) [] (junk 8192)) 6 16 [] (zeros 8192)
-    ∷ writeRefuses (nearlyFull 56 ++ (1 ∷ 0 ∷ 0 ∷ [])) 2 0
-    ∷ writeRefuses (3 ∷ 2 ∷ 0 ∷ []) 3 3
-    ∷ writeRefuses offScale 5 5
-    ∷ writeRefuses (tableB ++ (0 ∷ [])) 6 16
-    ∷ writeRefuses wrongReference 7 8
-    ∷ writeRefuses tooManyHands 8 2
-    ∷ writeRefuses tooManyOpenings 9 0
-    ∷ []

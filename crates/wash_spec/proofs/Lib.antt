@@ -6,4 +6,3 @@ pub mod Onward
 pub mod Standing
 pub mod Calls
 pub mod Histories
-pub mod Rows

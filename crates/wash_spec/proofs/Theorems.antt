@@ -7,11 +7,10 @@ use Rattle.timetable.specs.Timetable.{inForce}
 use Rattle.timetable.specs.Windows.Laws.{good-in}
 use Rattle.wash_spec.specs.Taking.{drawingAt}
 use Rattle.wash_spec.specs.Claims.{DrawingExactly, TimedRefusedExactly, TimedStopsExactly, TimedGivesExactly}
-use Rattle.wash_spec.specs.Claims.{TimedBuffers, TimedHistories, JoinsBeforeRefused, TimedRows}
+use Rattle.wash_spec.specs.Claims.{TimedBuffers, TimedHistories, JoinsBeforeRefused}
 use Rattle.wash_spec.proofs.Gate.{timed-refused, timed-work, timed-keeps}
 use Rattle.wash_spec.proofs.Onward.{timed-stops, timed-gives}
 use Rattle.wash_spec.proofs.Histories as histories
-use Rattle.wash_spec.proofs.Rows.{rows-stand}
 
 pub drawing-exactly : DrawingExactly
 unfolding DrawingExactly drawingAt choose
@@ -47,7 +46,3 @@ pub joins-before-refused : JoinsBeforeRefused
 unfolding JoinsBeforeRefused
 joins-before-refused l k windows ns os t u says tells good n low high calls c =
     histories.joins-before l k windows ns os t u says tells (good-in windows good) n low high calls c
-
-pub timed-rows : TimedRows
-unfolding TimedRows
-timed-rows = rows-stand

@@ -6,7 +6,6 @@
 --     TimedGivesExactly       a call that takes all events;  TimedBuffers: areas and work words on every input
 --     TimedHistories          over lists of calls, from the first event on: every start to the next
 --     JoinsBeforeRefused      what a call along such a list joins
---     TimedRows               worked calls
 -- Assumes nothing.
 use Prim.Native.Nat.{ℕ, _≤_}
 use mathlib.Core.Path.{_≡_}
@@ -27,7 +26,6 @@ use Rattle.wash_spec.specs.Joined.{TimedCall, timedJoined}
 use Rattle.wash_spec.specs.History.{unstarted, timedHistory, TimedLeaves, TimedAlong, TimedJoins, TimedAfter}
 use Rattle.wash_spec.specs.Refusals.{TimedRefused, TimedWorkLeft}
 use Rattle.wash_spec.specs.Progress.{TimedLeavesAt, TimedStops, TimedGives}
-use Rattle.wash_spec.specs.Rows.{RowsStand}
 
 -- "In wash hours another drawing applies."
 unfoldable pub DrawingExactly : Type 0
@@ -89,6 +87,3 @@ JoinsBeforeRefused =
     → (calls : List TimedCall) (c : TimedCall)
     → TimedJoins (timedJoined t u windows n calls) (timedJoined t u windows n (calls ++ c ∷ [])) c
     (timedOf l k windows (timedHistory l k windows (unstarted n) calls) (c .events) (c .minutes) (c .work) .answer)
-
-unfoldable pub TimedRows : Type 0
-TimedRows = RowsStand

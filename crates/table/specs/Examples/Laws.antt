@@ -1,5 +1,5 @@
 -- Every row of `Examples` holds, by computing.
---     numbers-hold, tables-hold, counts-hold, longs-hold, reads-hold, writes-hold
+--     numbers-hold, tables-hold, counts-hold
 -- Assumes nothing.
 use mathlib.Core.List.{flatMap}
 use lib.Dec.{T}
@@ -18,10 +18,8 @@ use Rattle.table.specs.Width.{widthWith, widest, callWidth, nextWidth, a
 use Rattle.table.specs.Branches.{branchesWith, branchesAt, bodyIn, nextBranches, allBranches, followerAbove}
 use Rattle.table.specs.Branches.{bodyAbove}
 use Rattle.table.specs.Branches.{tooManyBranches}
-use Rattle.table.specs.Operations.{measured, readJudged, readOf, writeJudged, writeOf}
 use Rattle.table.specs.Judge.{unlessMet, placed, judgeRead, judge, judgeBytes, sized, judgeList}
-use Rattle.table.specs.Examples.{bytesAre, listIs, every, numberRows, tableRows, countRows, longRows}
-use Rattle.table.specs.Examples.{readRows, writeRows}
+use Rattle.table.specs.Examples.{bytesAre, listIs, every, numberRows, tableRows, countRows}
 
 pub numbers-hold : T (every numberRows)
 unfolding numberRows bytesAre judgeBytes judge judgeRead byteTokens byteTokensWith byteToken readNumber scanWith carry
@@ -47,32 +45,3 @@ unfolding countRows bytesAre listIs judgeBytes judge judgeRead byteTokens byteTo
     firstAbove tooWide branchesWith branchesAt bodyIn nextBranches allBranches followerAbove bodyAbove tooManyBranches
     judgeList sized listBytes bytesOf groups
 counts-hold = tt
-
-pub longs-hold : T (every longRows)
-unfolding longRows bytesAre listIs judgeBytes byteTokens byteTokensWith byteToken readNumber scanWith carry later judge
-    judgeRead table number andThen next pure times events row setOfKind eventSet eventSets kindFits rowCount rowsOf
-    rowsFit refOfKind setRef termOfKind termWith definition definitionsOf size listTokens unlessMet placed placeOf
-    trailing firstWrong wrongFrom wrongIn wrongRef paramFits callFits levelIn orElse unless rowNumbers setNumbers
-    refNumbers termNumbers definitionNumbers flatMap numbersOf widthWith widest callWidth nextWidth allWidths grow
-    firstAbove tooWide branchesWith branchesAt bodyIn nextBranches allBranches followerAbove bodyAbove tooManyBranches
-    judgeList sized listBytes bytesOf groups
-longs-hold = tt
-
-pub reads-hold : T (every readRows)
-unfolding readRows readOf measured readJudged judgeBytes byteTokens byteTokensWith byteToken readNumber scanWith carry
-    later judge judgeRead table number andThen next pure times events row setOfKind eventSet eventSets kindFits rowCount
-    rowsOf rowsFit refOfKind setRef termOfKind termWith definition definitionsOf size listTokens unlessMet placed
-    placeOf trailing firstWrong wrongFrom wrongIn wrongRef paramFits callFits levelIn orElse unless rowNumbers
-    setNumbers refNumbers termNumbers definitionNumbers flatMap numbersOf widthWith widest callWidth nextWidth allWidths
-    grow firstAbove tooWide branchesWith branchesAt bodyIn nextBranches allBranches followerAbove bodyAbove
-    tooManyBranches
-reads-hold = tt
-
-pub writes-hold : T (every writeRows)
-unfolding writeRows writeOf measured writeJudged judge judgeRead table number andThen next pure times events row
-    setOfKind eventSet eventSets kindFits rowCount rowsOf rowsFit refOfKind setRef termOfKind termWith definition
-    definitionsOf size listTokens unlessMet placed placeOf trailing firstWrong wrongFrom wrongIn wrongRef paramFits
-    callFits levelIn orElse unless rowNumbers setNumbers refNumbers termNumbers definitionNumbers flatMap numbersOf
-    widthWith widest callWidth nextWidth allWidths grow firstAbove tooWide branchesWith branchesAt bodyIn nextBranches
-    allBranches followerAbove bodyAbove tooManyBranches judgeList sized listBytes bytesOf groups
-writes-hold = tt

@@ -1,4 +1,4 @@
--- The worked examples hold, by computing. Assumes nothing.
+-- The worked calls in wash hours hold, by computing. Assumes nothing.
 use mathlib.Core.Path.{refl}
 use mathlib.Core.List.{flatMap, flatten}
 use Rattle.table.specs.Table.{size, sizes, bodyOf, bodyNumber, termIn, termOfDefs, termAt}
@@ -44,10 +44,10 @@ use Rattle.monitor_spec.specs.Open.{freshMonitor}
 use Rattle.monitor_spec.specs.Examples.{drawn}
 use Rattle.timetable.specs.Timetable.{goodWindow, goodFrom, goodTimetable, someWindow, holds, washAt, inForce}
 use Rattle.timetable.specs.Timetable.{distance, beginsBy, begins, gapsFrom, changes}
 use Rattle.wash_spec.specs.Taking.{drawingAt, clockBack, startDue, takeFresh, takeOn, atMinute, takeTimed}
 use Rattle.wash_spec.specs.Entering.{timedMeasured, agreesBy, timedConsistent, scheduling, timedEntrance}
 use Rattle.wash_spec.specs.Feed.{timedPairs, timedEnding, timedRefusing, timedGoing, timedOf}
-use Rattle.wash_spec.specs.Rows.{RowsStand}
+use Rattle.monitor_examples.specs.TimedRows.{RowsStand}
 
 pub rows-stand : RowsStand
 unfolding flatMap size sizes bodyOf bodyNumber termIn termOfDefs termAt prefixesIn enclosingIn enclosing

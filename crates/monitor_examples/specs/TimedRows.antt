@@ -1,5 +1,5 @@
 -- Worked calls in wash hours (ours, from 02, W5): whole outcomes with every lent word, beside what is expected.
---     Left    what a call leaves;  RowsStand: that each leaves what is expected
+--     TimedLeft    what a call leaves;  RowsStand: that each leaves what is expected
 -- Table B of document 01 is the everyday one, but in one row `twofold`; the tables of the wash hours are `rinse`,
 -- `forked` and `twofold`.
 -- Assumes nothing.
@@ -14,11 +14,11 @@ use Rattle.table.specs.Examples.{tableB}
 use Rattle.monitor_spec.specs.State.{running, failedAt}
 use Rattle.monitor_spec.specs.Feed.{counterMost}
 use Rattle.monitor_spec.specs.Examples.{drawn, a, b}
-use Rattle.monitor_spec.specs.Cases.{peaked, st, def, oneNode, word}
+use Rattle.monitor_examples.specs.Cases.{peaked, st, def, oneNode, word}
 use Rattle.timetable.specs.Timetable.{week, minuteBound}
 use Rattle.wash_spec.specs.Timed.{TimedState, notStarted, started, TimedMonitor, TimedAnswer, given, refused}
 use Rattle.wash_spec.specs.Timed.{stopped, TimedOutcome}
 use Rattle.wash_spec.specs.Feed.{timedOf}
 
 -- words that nobody wrote
 abbrev sevens : ℕ → List ℕ
@@ -62,22 +62,22 @@ after k = mon (first k) (zeros 16) (oneNode (word 1 0))
 abbrev hour : List ℕ
 hour = 60 ∷ 120 ∷ []
 
-pub record Left : Type 0 where
+pub record TimedLeft : Type 0 where
   pub got : TimedOutcome
   pub expected : TimedOutcome
 
-abbrev timedLeaves : TimedOutcome → TimedAnswer → List ℕ → List ℕ → List ℕ → Left
+abbrev timedLeaves : TimedOutcome → TimedAnswer → List ℕ → List ℕ → List ℕ → TimedLeft
 timedLeaves o r x y w = record { got = o; expected = record { answer = r; area0 = x; area1 = y; work = w } }
 
 -- table B, the wash table l, a timetable: what stands after the events, with one slot
-abbrev goes : List ℕ → List ℕ → TimedMonitor → List ℕ → List ℕ → TimedAnswer → List ℕ → List ℕ → Left
+abbrev goes : List ℕ → List ℕ → TimedMonitor → List ℕ → List ℕ → TimedAnswer → List ℕ → List ℕ → TimedLeft
 goes l ws m es ms r x y = timedLeaves (timedOf tableB l ws m es ms (sevens 8192)) r x y (zeros 8192)
 
 -- what stands after an odd number of events on `rinse`
-abbrev rinsed : List ℕ → List ℕ → List ℕ → TimedState → Left
+abbrev rinsed : List ℕ → List ℕ → List ℕ → TimedState → TimedLeft
 rinsed ws es ms s = goes rinse ws fresh es ms (given s) (zeros 16) (oneNode 0)
 
-abbrev pub started-rows : List Left
+abbrev pub started-rows : List TimedLeft
 started-rows =
     -- "The monitor starts with its first event, on the drawing in force at that minute": a window's first minute is
     -- included, its last excluded
@@ -114,7 +114,7 @@ started-rows =
     ∷ goes rinse hour (after 59) [] [] (given (first 59)) (zeros 16) (oneNode (word 1 0))
     ∷ []
 
-abbrev pub refused-rows : List Left
+abbrev pub refused-rows : List TimedLeft
 refused-rows =
     -- 17: "a minute below the last or 2^48 or more", checked before crowded settling and 11; what stood still stands
     goes rinse hour fresh (9 ∷ []) (281474976710656 ∷ []) (stopped 17 0 notStarted) (zeros 16) (zeros 16)
@@ -166,8 +166,8 @@ refused-rows =
     (sevens 16) (sevens 32) (sevens 8192)
     ∷ []
 
-abbrev stand : List Left → Type 0
-stand rs = map (λ (x : Left). x .got) rs ≡ map (λ (x : Left). x .expected) rs
+abbrev stand : List TimedLeft → Type 0
+stand rs = map (λ (x : TimedLeft). x .got) rs ≡ map (λ (x : TimedLeft). x .expected) rs
 
 abbrev pub RowsStand : Type 0
 RowsStand = stand started-rows × stand refused-rows

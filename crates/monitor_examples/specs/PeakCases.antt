@@ -6,11 +6,11 @@ use mathlib.Core.List.{List, [], _∷_, _++_}
 use Rattle.table.specs.Table.{fixed, stop, par}
 use Rattle.table.specs.Operations.{zeros}
 use Rattle.table.specs.Examples.{tableB}
 use Rattle.monitor_spec.specs.State.{running, failedAt, refused, stopped}
 use Rattle.monitor_spec.specs.Examples.{drawn, a, opening}
-use Rattle.monitor_spec.specs.Cases.{Case, is, peaked, st, givenAtPeak, givenPeak, fed, afterOpen, feeds, oneNode}
-use Rattle.monitor_spec.specs.Cases.{word}
-use Rattle.monitor_spec.specs.Cases.{afterFirst, eight}
+use Rattle.monitor_examples.specs.Cases.{Case, is, peaked, st, givenAtPeak, givenPeak, fed, afterOpen, feeds, oneNode}
+use Rattle.monitor_examples.specs.Cases.{word}
+use Rattle.monitor_examples.specs.Cases.{afterFirst, eight}
 
 -- (0 to STOP) three times, over {}: one residual, then three
 abbrev three : List ℕ

@@ -1,0 +1,3 @@
+-- The proofs of this crate. Assumes nothing.
+pub mod Rows
+pub mod Theorems
