@@ -1,5 +1,3 @@
 -- What Feed's parts promise in terms of its definition. Assumes nothing.
 pub mod Feeding
-pub mod Runs
-pub mod OverSets
-pub mod Learning
+pub mod Alone

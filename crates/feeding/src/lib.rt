@@ -1,12 +1,9 @@
-// Feed (document 01, "Operations"), proved equal to its definition in crate monitor_spec: one
-// event, and all of a call.
-mod event;
+// Feed (document 01, "Operations"), proved equal to its definition in crate monitor_spec: all
+// events of a call.
 mod feeder;
-mod met;
-mod run;
 
-pub use event::Taken;
-pub use event::take_anew;
 pub use feeder::feed;
 pub use feeder::take_all;
 pub use set_step::STORE_WORDS;
+pub use taking::Taken;
+pub use taking::take_anew;

@@ -26,8 +26,8 @@ use Rattle.monitor_spec.specs.Consistent.{consistent}
 use Rattle.monitor_spec.specs.Entering.{judging, entering}
 use Rattle.state.specs.declared.record.State.{State}
 use Rattle.state.specs.Record.{monitorOf}
-use Rattle.feeding.specs.declared.event.Taken.{Taken}
-use Rattle.feeding.specs.declared.event.Taken.the-variants.{Went, Stopped}
+use Rattle.taking.specs.declared.event.Taken.{Taken}
+use Rattle.taking.specs.declared.event.Taken.the-variants.{Went, Stopped}
 use Rattle.feeding.specs.Feeding.{Empty, Standing}
 use Rattle.timetable.specs.Timetable.{goodTimetable, inForce}
 use Rattle.wash_spec.specs.Timed.{TimedMonitor}

@@ -1,11 +1,13 @@
 -- The outcomes of Feed, by what stands before its events.
 --     feed-enters                      what `take_all` asks for, of an operation that is entered
 --     feed-declined, feed-fed          refusals 1 to 10; the events
+--     ended-all                        a run from the first event is a whole call's
 -- Assumes nothing.
 use Prim.Native.Nat.{ℕ}
 use mathlib.Core.Path.{_≡_, ap, sym, _∙_}
 use mathlib.Core.List.{List}
 use lib.ListN.{length}
+use Rattle.table.specs.Table.{Table}
 use Rattle.table.specs.Operations.{zeros}
 use Rattle.table_index.specs.Index.{tableIn, Indexed}
 use Rattle.table.specs.declared.answer.Refusal.{Refusal}
@@ -23,7 +25,9 @@ use Rattle.state.specs.declared.answer.Answer.the-variants.{Refused}
 use Rattle.state.specs.Answers.{outcome}
 use Rattle.entering.specs.Entered.{Entered}
 use Rattle.entering.specs.Entered.Laws.{entered-shut, entered-open, open-on}
-use Rattle.feeding.specs.Feeding.{Standing, EndedBy}
+use Rattle.taking.specs.Taking.{Standing}
+use Rattle.taking.specs.Runs.{EndedFrom}
+use Rattle.feeding.specs.Feeding.{EndedBy}
 
 module _ (l : List ℕ) (m : Monitor) (work : List ℕ) (j : Judged) (work₁ : List ℕ)
     (h : Entered (entranceOn l m work) l j work₁) where
@@ -46,3 +50,8 @@ module _ (l : List ℕ) (m : Monitor) (work : List ℕ) (j : Judged) (work₁ : 
   feed-fed q es r a b work₂ f z k =
       ap (outcome r a b) (z ∙ ap zeros k) ∙ f (length work)
       ∙ sym (feed-admits l m es work (tableIn l) (entered-open (entranceOn l m work) l j work₁ h q .0))
+
+pub ended-all : (t : Table) (m : Monitor) (es : List ℕ) (r : Answer) (a b : List ℕ) → EndedFrom t m es 0 r a b
+    → EndedBy t m es r a b
+unfolding EndedFrom EndedBy
+ended-all t m es r a b h n = h n

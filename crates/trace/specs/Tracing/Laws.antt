@@ -24,8 +24,8 @@ use Rattle.state.specs.declared.record.State.{State}
 use Rattle.state.specs.declared.answer.EventBits.{EventBits}
 use Rattle.state.specs.Record.{verdictOf, monitorOf}
 use Rattle.state.specs.Answers.{bitsOf}
-use Rattle.feeding.specs.declared.event.Taken.{Taken}
-use Rattle.feeding.specs.declared.event.Taken.the-variants as taking
+use Rattle.taking.specs.declared.event.Taken.{Taken}
+use Rattle.taking.specs.declared.event.Taken.the-variants as taking
 use Rattle.feeding.specs.Feeding.{Standing, TakenBy}
 use Rattle.trace_spec.specs.TraceLine.{takes, refuses}
 use Rattle.trace_spec.specs.Trace.{permittedBy, traceOf}

@@ -11,8 +11,8 @@ use Rattle.table_index.specs.Index.{tableIn, Indexed}
 use Rattle.monitor_spec.specs.State.{slotCount, even, choose}
 use Rattle.state.specs.declared.record.State.{State}
 use Rattle.state.specs.Record.{monitorOf}
-use Rattle.feeding.specs.declared.event.Taken.{Taken}
-use Rattle.feeding.specs.declared.event.Taken.the-variants.{Went, Stopped}
+use Rattle.taking.specs.declared.event.Taken.{Taken}
+use Rattle.taking.specs.declared.event.Taken.the-variants.{Went, Stopped}
 use Rattle.feeding.specs.Feeding.{Standing, TakenBy}
 use Rattle.wash_spec.specs.Taking.{takeFresh, takeOn}
 use Rattle.wash_state.specs.declared.answer.TimedState.{TimedState}

@@ -19,8 +19,8 @@ use Rattle.monitor_spec.specs.State.{areasMeasured}
 use Rattle.monitor_spec.specs.Fold.{Ended, through}
 use Rattle.monitor_spec.specs.Fold.Laws.{through-went, through-stops}
 use Rattle.state.specs.declared.record.State.{State}
-use Rattle.feeding.specs.declared.event.Taken.{Taken}
-use Rattle.feeding.specs.declared.event.Taken.the-variants.{Went, Stopped}
+use Rattle.taking.specs.declared.event.Taken.{Taken}
+use Rattle.taking.specs.declared.event.Taken.the-variants.{Went, Stopped}
 use Rattle.wash_spec.specs.Timed.{TimedMonitor}
 use Rattle.wash_spec.specs.Taking.{takeTimed}
 use Rattle.wash_spec.specs.Feed.{timedPairs, timedEnding}

@@ -21,8 +21,8 @@ use Rattle.state.specs.declared.record.State.{State}
 use Rattle.state.specs.Record.{monitorOf}
 use Rattle.entering.specs.Entered.Laws.{areas-same}
 use Rattle.opening.specs.Opening.Laws.{areas-cleared}
-use Rattle.feeding.specs.declared.event.Taken.{Taken}
-use Rattle.feeding.specs.declared.event.Taken.the-variants.{Went, Stopped}
+use Rattle.taking.specs.declared.event.Taken.{Taken}
+use Rattle.taking.specs.declared.event.Taken.the-variants.{Went, Stopped}
 use Rattle.feeding.specs.Feeding.{Empty}
 use Rattle.wash_spec.specs.Taking.{takeFresh}
 use Rattle.washing.specs.Washing.{FirstBy, AfreshBy, Free}

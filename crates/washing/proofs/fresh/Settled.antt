@@ -37,8 +37,8 @@ use Rattle.state.specs.Record.{stateOf, monitorOf}
 use Rattle.entering.specs.Entered.{Entered}
 use Rattle.opening.specs.Opening.{Resolved}
 use Rattle.opening.specs.Opening.Laws.{fresh-same}
-use Rattle.feeding.specs.declared.event.Taken.{Taken}
-use Rattle.feeding.specs.declared.event.Taken.the-variants.{Went, Stopped}
+use Rattle.taking.specs.declared.event.Taken.{Taken}
+use Rattle.taking.specs.declared.event.Taken.the-variants.{Went, Stopped}
 use Rattle.feeding.specs.Feeding.{TakenBy}
 use Rattle.wash_spec.specs.Taking.Laws.{fresh-crowded, fresh-room}
 use Rattle.washing.specs.Washing.{ListAccepted, FirstBy}

@@ -6,7 +6,8 @@ use Rattle.table_index.specs.Index.{tableIn}
 use Rattle.monitor_spec.specs.State.{Monitor}
 use Rattle.state.specs.Record.{monitorOf}
 use Rattle.set_step.specs.Memo.Laws.{store-zeros}
-use Rattle.feeding.proofs.run.Turn.{ended-then, ended-done, ended-all, run-ended, run-left}
+use Rattle.taking.specs.Runs.Laws.{ended-then, ended-done, run-ended, run-left}
+use Rattle.feeding.specs.Feeding.Laws.{ended-all}
 use borrow.Author.Needs.{needs}
 use Rattle.feeding.proofs.feeder.take_all.Statement.{statement}
 use Rattle.feeding.proofs.feeder.take_all.Tie as tie

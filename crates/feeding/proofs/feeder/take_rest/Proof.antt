@@ -4,7 +4,7 @@ use Rattle.table.specs.Table.{Table}
 use Rattle.table_index.specs.Index.{tableIn}
 use Rattle.monitor_spec.specs.State.{Monitor}
 use Rattle.state.specs.Record.{monitorOf}
-use Rattle.feeding.proofs.run.Turn.{ended-then, ended-done, run-ended, run-left}
+use Rattle.taking.specs.Runs.Laws.{ended-then, ended-done, run-ended, run-left}
 use borrow.Author.Needs.{needs}
 use Rattle.feeding.proofs.feeder.take_rest.Statement.{statement}
 use Rattle.feeding.proofs.feeder.take_rest.Tie as tie

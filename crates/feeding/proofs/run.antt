@@ -1,2 +1,0 @@
--- What the proofs on runs over events share. Assumes nothing.
-pub mod Turn
