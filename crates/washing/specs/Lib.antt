@@ -1,2 +1,2 @@
--- What the functions of this crate ask for and promise, in the terms of crate wash_spec. Assumes nothing.
+-- What the run of a call promises, in the terms of crate wash_spec. Assumes nothing.
 pub mod Washing

@@ -3,14 +3,15 @@ ghost use mathlib.Core.Path.{_≡_};
 ghost use lib.ListN.{length};
 ghost use Rattle.wash_spec.specs.Feed.{timedOf};
 ghost use Rattle.wash_state.specs.Answers.{timedMonitorOf, timedOutcome};
-ghost use Rattle.washing.specs.Washing.{Ready, TimedEndedBy};
-use crate::entry::enter_timed;
-use crate::event::take_timed;
+ghost use Rattle.wash_start.specs.Standing.{Ready};
+ghost use Rattle.washing.specs.Washing.{TimedEndedBy};
 use feeding::STORE_WORDS;
 use feeding::Taken;
 use state::clear_all;
 use table::Judged;
 use table::Refusal;
+use wash_entering::enter_timed;
+use wash_event::take_timed;
 use wash_state::TimedAnswer;
 use wash_state::TimedState;
 

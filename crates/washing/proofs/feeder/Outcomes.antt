@@ -26,7 +26,9 @@ use Rattle.wash_state.specs.declared.answer.TimedState.{TimedState}
 use Rattle.wash_state.specs.declared.answer.TimedAnswer.{TimedAnswer}
 use Rattle.wash_state.specs.declared.answer.TimedAnswer.the-variants.{Refused}
 use Rattle.wash_state.specs.Answers.{timedMonitorOf, timedOutcome}
-use Rattle.washing.specs.Washing.{Ready, TimedEntered, TimedEndedBy}
+use Rattle.wash_start.specs.Standing.{Ready}
+use Rattle.wash_entering.specs.Entering.{TimedEntered}
+use Rattle.washing.specs.Washing.{TimedEndedBy}
 
 module _ (everyday wash windows : List ℕ) (x : TimedState) (a b es ms w : List ℕ) (j : Judged) (w₁ : List ℕ)
     (h : TimedEntered (timedEntrance everyday wash windows (timedMonitorOf x a b)

@@ -28,7 +28,9 @@ use Rattle.wash_state.specs.declared.answer.TimedState.{TimedState}
 use Rattle.wash_state.specs.declared.answer.TimedState.the-variants.{Started}
 use Rattle.wash_state.specs.declared.answer.TimedAnswer.the-variants as answer
 use Rattle.wash_state.specs.Answers.{timedMonitorOf}
-use Rattle.washing.specs.Washing.{Ready, TimedBy, TimedEndedBy}
+use Rattle.wash_start.specs.Standing.{Ready}
+use Rattle.wash_event.specs.Event.{TimedBy}
+use Rattle.washing.specs.Washing.{TimedEndedBy}
 
 -- ---- the events left
 pairs-drop : (i : ℕ) (es ms : List ℕ) → drop i (timedPairs es ms) ≡ timedPairs (drop i es) (drop i ms)
