@@ -1,6 +1,6 @@
 -- What `specs/Claims.antt` says, proved. Assumes nothing.
 use lib.ListN.{take}
-use Rattle.trace_monitor.specs.Course.{FrontTold}
+use Rattle.trace_monitor.specs.FrontTold.{FrontTold}
 use Rattle.trace_monitor.specs.LastSaid.Laws.{ended-said, refused-said, cut-short-said}
 use Rattle.trace_monitor.specs.Claims.{EndIsLine, RefusalIsLine, CutShortIsLine}
 

@@ -14,10 +14,11 @@ use Rattle.input.specs.declared.reading.End.{End}
 use Rattle.trace_spec.specs.Trace.{traceOf, lineBy}
 use Rattle.trace_spec.specs.Reads.{Decided}
 use Rattle.trace_front.specs.declared.reader.Front.the-variants as read
-use Rattle.trace_monitor.specs.declared.print.Said.{Said}
-use Rattle.trace_monitor.specs.declared.course.Told.the-variants.{Ended, Refused}
-use Rattle.trace_monitor.specs.Spoken.{saidLine, saidOf}
-use Rattle.trace_monitor.specs.Course.{Says, FrontTold}
+use Rattle.saying.specs.declared.print.Said.{Said}
+use Rattle.course_spec.specs.declared.answer.Told.the-variants.{Ended, Refused}
+use Rattle.saying.specs.Spoken.{saidLine, saidOf}
+use Rattle.course_spec.specs.Course.{Says}
+use Rattle.trace_monitor.specs.FrontTold.{FrontTold}
 use Rattle.trace_monitor.specs.LastSaid.{AfterReads, WhateverFollows}
 
 -- "its last verdict is `line_monitor`'s line of the same input": of the front s and the reads until the end

@@ -11,8 +11,8 @@ use lib.ListN.{length}
 use Rattle.line_spec.specs.Line.{lineOf}
 use Rattle.trace_spec.specs.TraceLine.{TraceLine}
 use Rattle.trace_spec.specs.Trace.{traceOf, lineBy}
-use Rattle.trace_monitor.specs.Spoken.{Counted, Utterance}
-use Rattle.trace_monitor.specs.Course.{LastLine, EachSome}
+use Rattle.saying.specs.Spoken.{Counted, Utterance}
+use Rattle.course_spec.specs.Course.{LastLine, EachSome}
 pub mod Laws
 
 pub record LastSaid (s : List ℕ) (x : TraceLine) : Type 0 where

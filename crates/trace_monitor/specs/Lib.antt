@@ -1,6 +1,4 @@
--- What the program's functions promise, in reading order: a line that was said; the course of an input; its last line.
--- Then what is claimed. Assumes nothing.
-pub mod Spoken
-pub mod Course
+-- What the program's function promises; the line that was said last. Then what is claimed. Assumes nothing.
+pub mod FrontTold
 pub mod LastSaid
 pub mod Claims

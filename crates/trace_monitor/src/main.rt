@@ -1,15 +1,12 @@
 // The program that judges an input as it arrives: a table and events on standard input, as
 // `line_monitor` has them; on standard output a line at the start and after each event.
-//     course     the line at the start, and then those of the events, through crate `trace`
-//     print      a line
+// Crate `course` says the line at the start, and then those of the events; the reads of the front
+// are those of crate `trace_front`.
 // Nothing waits for a full buffer. That of the front has room for a length number and the longest
 // table; no event is read with it. An input that cannot be read gets a message on standard error
 // and no further line.
-mod course;
-mod print;
-
 ghost use Rattle.trace_front.specs.Front.{FrontRead};
-ghost use Rattle.trace_monitor.specs.Course.{FrontTold};
+ghost use Rattle.trace_monitor.specs.FrontTold.{FrontTold};
 use course::Told;
 use trace_front::Front;
 

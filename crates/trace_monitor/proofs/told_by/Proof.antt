@@ -1,7 +1,7 @@
 -- `told_by` meets its contract, by what was read of the front. Assumes nothing.
 use mathlib.Core.Path.{sym}
 use lib.Seq.{length-take-le}
-use Rattle.trace_monitor.specs.Course.Fronts.{whole-held, ended-held, told-whole, told-ended, told-broken}
+use Rattle.trace_monitor.specs.FrontTold.Laws.{whole-held, ended-held, told-whole, told-ended, told-broken}
 use borrow.Author.Needs.{needs}
 use Rattle.trace_monitor.proofs.told_by.Statement.{statement}
 use Rattle.trace_monitor.proofs.told_by.Tie as tie

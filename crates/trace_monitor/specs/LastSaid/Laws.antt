@@ -20,10 +20,11 @@ use Rattle.trace_spec.specs.Trace.{lineBy}
 use Rattle.trace_spec.specs.Trace.Last.{last-same, last-line}
 use Rattle.trace_spec.specs.Reads.{at, ended, reachedIn, reachedAt, reachedAfter, reachedFrom, reachedBy, Decided}
 use Rattle.trace_spec.specs.Reads.Laws.{ended-stands}
-use Rattle.trace_monitor.specs.declared.print.Said.{Said}
-use Rattle.trace_monitor.specs.declared.course.Told.the-variants.{Ended, Refused}
-use Rattle.trace_monitor.specs.Spoken.{saidLine, Counted, Utterance, saidOf, firstSaid}
-use Rattle.trace_monitor.specs.Course.{LastLine, RefusedAfter, Followed, SaysBy, Says, EndSaid}
+use Rattle.saying.specs.declared.print.Said.{Said}
+use Rattle.course_spec.specs.declared.answer.Told.the-variants.{Ended, Refused}
+use Rattle.saying.specs.Spoken.{saidLine, Counted, Utterance, saidOf, firstSaid}
+use Rattle.course_spec.specs.Course.{LastLine, RefusedAfter, Followed, SaysBy, Says}
+use Rattle.trace_monitor.specs.FrontTold.{EndSaid}
 use Rattle.trace_monitor.specs.LastSaid.{LastSaid, AfterReads, WhateverFollows}
 
 -- ---- the last line of a trace
