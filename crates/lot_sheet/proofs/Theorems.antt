@@ -10,8 +10,8 @@ use lib.Seq.{take-all, length-take-le}
 use Rattle.input.specs.declared.reading.Part.{Part}
 use Rattle.lot_book.specs.declared.entry.Lot.{Lot}
 use Rattle.lot_book.specs.Book.{Book, lots, bad, bookOf, takenSum}
-use Rattle.sheet.specs.Sheet.{Outcome, sheetSize, sheetOf}
-use Rattle.sheet.specs.Sheet.Laws.{sheet-bad, sheet-over, sheet-given}
+use Rattle.sheet_spec.specs.Sheet.{Outcome, sheetSize, sheetOf}
+use Rattle.sheet_spec.specs.Sheet.Laws.{sheet-bad, sheet-over, sheet-given}
 use Rattle.lot_sheet.specs.Told.{refusedAs, tellBook, tellOf, ReadInto}
 use Rattle.lot_sheet.specs.Told.{ToldWay, toldLong, toldBad, toldOver, toldSheet}
 use Rattle.lot_sheet.specs.Room.{few-records}

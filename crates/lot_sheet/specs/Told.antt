@@ -15,7 +15,7 @@ use Rattle.input.specs.declared.reading.Part.{Part}
 use Rattle.input.specs.Reading.{Parts}
 use Rattle.lot_book.specs.declared.entry.Lot.{Lot}
 use Rattle.lot_book.specs.Book.{lots, bad, bookOf, takenSum}
-use Rattle.sheet.specs.Sheet.{Outcome, given, refused, sheetText, sheetSize, sheetOf}
+use Rattle.sheet_spec.specs.Sheet.{Outcome, given, refused, sheetText, sheetSize, sheetOf}
 use Rattle.lot_sheet.specs.declared.office.Told.{Told}
 use Rattle.lot_sheet.specs.declared.office.Told.the-variants.{Sheet, BadRecord, TotalOver, TooLong}
 pub mod Laws

@@ -42,8 +42,8 @@ use Rattle.monitor_spec.specs.Fold.{through}
 use Rattle.monitor_spec.specs.Feed.{presentSlots, nextSlots, taking, eventRefused, takeEvent}
 use Rattle.monitor_spec.specs.Open.{freshMonitor}
 use Rattle.monitor_spec.specs.Examples.{drawn}
-use Rattle.timetable.specs.Timetable.{goodWindow, goodFrom, goodTimetable, someWindow, holds, washAt, inForce}
-use Rattle.timetable.specs.Timetable.{distance, beginsBy, begins, gapsFrom, changes}
+use Rattle.timetable_spec.specs.Timetable.{goodWindow, goodFrom, goodTimetable, someWindow, holds, washAt, inForce}
+use Rattle.timetable_spec.specs.Timetable.{distance, beginsBy, begins, gapsFrom, changes}
 use Rattle.wash_spec.specs.Taking.{drawingAt, clockBack, startDue, takeFresh, takeOn, atMinute, takeTimed}
 use Rattle.wash_spec.specs.Entering.{timedMeasured, agreesBy, timedConsistent, scheduling, timedEntrance}
 use Rattle.wash_spec.specs.Feed.{timedPairs, timedEnding, timedRefusing, timedGoing, timedOf}

@@ -15,7 +15,7 @@ use Rattle.monitor_spec.specs.State.{running, failedAt}
 use Rattle.monitor_spec.specs.Feed.{counterMost}
 use Rattle.monitor_spec.specs.Examples.{drawn, a, b}
 use Rattle.monitor_examples.specs.Cases.{peaked, st, def, oneNode, word}
-use Rattle.timetable.specs.Timetable.{week, minuteBound}
+use Rattle.timetable_spec.specs.Timetable.{week, minuteBound}
 use Rattle.wash_spec.specs.Timed.{TimedState, notStarted, started, TimedMonitor, TimedAnswer, given, refused}
 use Rattle.wash_spec.specs.Timed.{stopped, TimedOutcome}
 use Rattle.wash_spec.specs.Feed.{timedOf}

@@ -3,10 +3,10 @@ ghost use mathlib.Core.Path.{_≡_};
 ghost use Prim.Native.Nat.{_≤_, _<_};
 ghost use mathlib.Core.List.{_++_};
 ghost use lib.ListN.{length, drop};
-ghost use Rattle.sheet.specs.Line.{spaces, Room, lotLine, totalLine};
-ghost use Rattle.sheet.specs.Line.{right as inRight};
-ghost use Rattle.sheet.specs.Line.{left as inLeft};
-ghost use Rattle.sheet.specs.Line.{verdict as verdictWord};
+ghost use Rattle.sheet_spec.specs.Line.{spaces, Room, lotLine, totalLine};
+ghost use Rattle.sheet_spec.specs.Line.{right as inRight};
+ghost use Rattle.sheet_spec.specs.Line.{left as inLeft};
+ghost use Rattle.sheet_spec.specs.Line.{verdict as verdictWord};
 use lot_book::Lot;
 
 // Spaces everywhere.

@@ -1,10 +1,10 @@
 // A book is judged, then written.
 ghost use mathlib.Core.Path.{_≡_};
-ghost use Rattle.sheet.specs.Sheet.{sheetOutcome as said, sheetOf};
-use crate::answer::Sheet;
+ghost use Rattle.sheet_spec.specs.Sheet.{sheetOutcome as said, sheetOf};
 use crate::writing::write;
 use lot_book::Judged;
 use lot_book::Total;
+use sheet_spec::Sheet;
 use table::Refusal;
 
 // Nothing is written, and why.

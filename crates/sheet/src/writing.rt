@@ -1,6 +1,6 @@
 // The lines of a sheet, one after the other.
 ghost use mathlib.Core.Path.{_≡_};
-ghost use Rattle.sheet.specs.Sheet.{Writable, given, sheetOf};
+ghost use Rattle.sheet_spec.specs.Sheet.{Writable, given, sheetOf};
 use crate::line::lot_line;
 use crate::line::total_line;
 use lot_book::Entry;

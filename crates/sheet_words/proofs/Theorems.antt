@@ -7,8 +7,8 @@ use lib.Dec.{eqb, ltb}
 use lib.ListN.{length, drop}
 use Rattle.lot_book.specs.declared.entry.Lot.{Lot}
 use Rattle.lot_book.specs.Book.{Book, lots, bad, bookOf, takenSum}
-use Rattle.sheet.specs.Sheet.{Outcome, given, refused, sheetOf, outcomeOf, printed}
-use Rattle.sheet.specs.Sheet.{sheetText, sheetSize}
+use Rattle.sheet_spec.specs.Sheet.{Outcome, given, refused, sheetOf, outcomeOf, printed}
+use Rattle.sheet_spec.specs.Sheet.{sheetText, sheetSize}
 use Rattle.sheet_words.specs.Call.{isGiven, callOf, sheetCall, SheetWay, sheetGiven, sheetRefused}
 use Rattle.sheet_words.specs.Claims.{SheetTells, ZeroExactly}
 

@@ -8,9 +8,9 @@ use Prim.Native.Nat.{ℕ}
 use mathlib.Core.Path.{_≡_}
 use mathlib.Core.Bool.{Bool, true, false}
 use mathlib.Core.List.{List}
-use Rattle.sheet.specs.declared.answer.Sheet.{Sheet}
-use Rattle.sheet.specs.declared.answer.Sheet.the-variants.{Given, Refused}
-use Rattle.sheet.specs.Sheet.{Outcome, given, refused, sheetOf}
+use Rattle.sheet_spec.specs.declared.answer.Sheet.{Sheet}
+use Rattle.sheet_spec.specs.declared.answer.Sheet.the-variants.{Given, Refused}
+use Rattle.sheet_spec.specs.Sheet.{Outcome, given, refused, sheetOf}
 pub mod Laws
 
 pub record SheetCall : Type 0 where

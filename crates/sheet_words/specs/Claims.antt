@@ -7,7 +7,7 @@ use Prim.Native.Nat.{ℕ}
 use mathlib.Core.Path.{_≡_}
 use mathlib.Core.List.{List}
 use lib.Dec.{eqb}
-use Rattle.sheet.specs.Sheet.{sheetOf}
+use Rattle.sheet_spec.specs.Sheet.{sheetOf}
 use Rattle.sheet_words.specs.Call.{isGiven, sheetCall, SheetWay}
 
 unfoldable pub SheetTells : Type 0

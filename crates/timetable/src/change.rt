@@ -3,9 +3,9 @@
 // hours, a gap between its windows in wash hours.
 ghost use mathlib.Core.Path.{_≡_};
 ghost use Prim.Native.Nat.{_-_, _<_};
-ghost use Rattle.timetable.specs.Timetable.{week, beginsBy, begins, gapsFrom};
-ghost use Rattle.timetable.specs.Timetable.{distance as distanceTo};
-ghost use Rattle.timetable.specs.Timetable.{changes as changed};
+ghost use Rattle.timetable_spec.specs.Timetable.{week, beginsBy, begins, gapsFrom};
+ghost use Rattle.timetable_spec.specs.Timetable.{distance as distanceTo};
+ghost use Rattle.timetable_spec.specs.Timetable.{changes as changed};
 use crate::WEEK;
 use crate::force::in_force;
 

@@ -1,6 +1,6 @@
 // Which table is in force at a minute.
 ghost use mathlib.Core.Path.{_≡_};
-ghost use Rattle.timetable.specs.Timetable.{holds, washAt, inForce};
+ghost use Rattle.timetable_spec.specs.Timetable.{holds, washAt, inForce};
 use crate::WEEK;
 
 // Whether a window holds a minute of the week.

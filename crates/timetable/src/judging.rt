@@ -1,6 +1,6 @@
 // Whether a list is a timetable.
 ghost use mathlib.Core.Path.{_≡_};
-ghost use Rattle.timetable.specs.Timetable.{goodWindow, goodTimetable};
+ghost use Rattle.timetable_spec.specs.Timetable.{goodWindow, goodTimetable};
 
 // Where the last window of the week may end.
 const WEEK_END: u16 = 10080;

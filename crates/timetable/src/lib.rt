@@ -1,5 +1,5 @@
-// A timetable of wash hours (document 02, W5), a flat list of windows: first minute, last minute,
-// and so on. The definitions are in `specs/Timetable.antt`.
+// A timetable of wash hours (document 02, W5) in code, proved equal to the definitions of crate
+// `timetable_spec`.
 //     good_timetable          whether a list is a timetable
 //     in_force                whether the table for wash hours is in force at an absolute minute
 //     changes                 whether the table in force changes after one minute, up to another

@@ -24,7 +24,7 @@ use Rattle.monitor_spec.specs.Fold.{Ended, through, took, extendBy, extendAll}
 use Rattle.monitor_spec.specs.Fold.Laws as fold
 use Rattle.monitor_spec.specs.Fold.Joined.{Follows, extended}
 use Rattle.monitor_spec.specs.Refusals.Laws.{accepts, clash}
-use Rattle.timetable.specs.Timetable.{goodTimetable}
+use Rattle.timetable_spec.specs.Timetable.{goodTimetable}
 use Rattle.wash_spec.specs.Timed.{TimedMonitor, TimedAnswer, given, stopped, TimedOutcome}
 use Rattle.wash_spec.specs.Taking.{takeTimed}
 use Rattle.wash_spec.specs.Taking.Laws.{timed-range}

@@ -21,9 +21,9 @@ use Rattle.monitor_spec.specs.State.{areasMeasured, workMeasured}
 use Rattle.monitor_spec.specs.Fold.{Ended, through}
 use Rattle.monitor_spec.specs.Refusals.{IsTable}
 use Rattle.monitor_spec.specs.Refusals.Laws.{measured-in, is-table-in, is-table-out, accepts, clash}
-use Rattle.timetable.specs.Timetable.{goodTimetable}
-use Rattle.timetable.specs.Windows.{Windows}
-use Rattle.timetable.specs.Windows.Laws.{good-in, good-out}
+use Rattle.timetable_spec.specs.Timetable.{goodTimetable}
+use Rattle.timetable_spec.specs.Windows.{Windows}
+use Rattle.timetable_spec.specs.Windows.Laws.{good-in, good-out}
 use Rattle.wash_spec.specs.Timed.{TimedMonitor, TimedAnswer, refused, TimedOutcome}
 use Rattle.wash_spec.specs.Taking.{takeTimed}
 use Rattle.wash_spec.specs.Entering.{timedMeasured, timedConsistent}

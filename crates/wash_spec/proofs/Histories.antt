@@ -30,7 +30,7 @@ use Rattle.monitor_spec.specs.History.Peaks.{record-greatest}
 use Rattle.monitor_spec.specs.History.After.{after-events}
 use Rattle.monitor_spec.specs.Refusals.{Measured}
 use Rattle.monitor_spec.specs.Refusals.Laws.{measured-in, accepts}
-use Rattle.timetable.specs.Timetable.{goodTimetable, inForce}
+use Rattle.timetable_spec.specs.Timetable.{goodTimetable, inForce}
 use Rattle.wash_spec.specs.Timed.{TimedMonitor, stamped, TimedOutcome}
 use Rattle.wash_spec.specs.Taking.{drawingAt, takeTimed}
 use Rattle.wash_spec.specs.Feed.{eventsOf, minutesOf, timedEnding, timedOf}

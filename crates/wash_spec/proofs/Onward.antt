@@ -10,8 +10,8 @@ use Rattle.table.specs.Table.{Table}
 use Rattle.monitor_spec.specs.Regular.{Regular}
 use Rattle.monitor_spec.specs.Fold.{through}
 use Rattle.monitor_spec.specs.Refusals.Laws.{is-table-in, accepts}
-use Rattle.timetable.specs.Timetable.{goodTimetable}
-use Rattle.timetable.specs.Windows.Laws.{good-in}
+use Rattle.timetable_spec.specs.Timetable.{goodTimetable}
+use Rattle.timetable_spec.specs.Windows.Laws.{good-in}
 use Rattle.wash_spec.specs.Timed.{TimedMonitor, TimedOutcome}
 use Rattle.wash_spec.specs.Taking.{drawingAt, takeTimed}
 use Rattle.wash_spec.specs.Feed.{timedPairs, timedEnding, timedOf}

@@ -19,7 +19,7 @@ use Rattle.monitor_spec.specs.State.{areasMeasured, choose}
 use Rattle.monitor_spec.specs.State.Areas.{both-true, zero-zeros}
 use Rattle.monitor_spec.specs.History.Laws.{after-measured, after-consistent}
 use Rattle.monitor_spec.specs.Refusals.Laws.{accepts}
-use Rattle.timetable.specs.Timetable.{goodTimetable, inForce}
+use Rattle.timetable_spec.specs.Timetable.{goodTimetable, inForce}
 use Rattle.wash_spec.specs.Timed.{TimedMonitor}
 use Rattle.wash_spec.specs.Taking.{drawingAt}
 use Rattle.wash_spec.specs.Taking.Laws.{drawing-regular}

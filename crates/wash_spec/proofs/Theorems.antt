@@ -3,8 +3,8 @@ use mathlib.Core.Path.{_≡_, refl}
 use mathlib.Core.Bool.{Bool, true, false}
 use lib.Dec.{T}
 use Rattle.monitor_spec.specs.State.{choose}
-use Rattle.timetable.specs.Timetable.{inForce}
-use Rattle.timetable.specs.Windows.Laws.{good-in}
+use Rattle.timetable_spec.specs.Timetable.{inForce}
+use Rattle.timetable_spec.specs.Windows.Laws.{good-in}
 use Rattle.wash_spec.specs.Taking.{drawingAt}
 use Rattle.wash_spec.specs.Claims.{DrawingExactly, TimedRefusedExactly, TimedStopsExactly, TimedGivesExactly}
 use Rattle.wash_spec.specs.Claims.{TimedBuffers, TimedHistories, JoinsBeforeRefused}

@@ -17,8 +17,8 @@ use Rattle.table.specs.Table.{Table}
 use Rattle.table.specs.Judge.{accepted, judgeList}
 use Rattle.meaning.specs.Figure1.{Term}
 use Rattle.meaning.specs.Figure2.{TraceSet, Model}
-use Rattle.timetable.specs.Timetable.{inForce}
-use Rattle.timetable.specs.Windows.{Windows}
+use Rattle.timetable_spec.specs.Timetable.{inForce}
+use Rattle.timetable_spec.specs.Windows.{Windows}
 use Rattle.wash_spec.specs.Timed.{TimedMonitor, refused}
 use Rattle.wash_spec.specs.Taking.{drawingAt}
 use Rattle.wash_spec.specs.Feed.{timedOf}

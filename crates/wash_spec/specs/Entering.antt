@@ -15,7 +15,7 @@ use Rattle.table.specs.Operations.{zeros}
 use Rattle.monitor_spec.specs.State.{areasMeasured, workMeasured}
 use Rattle.monitor_spec.specs.Consistent.{allZero, consistent}
 use Rattle.monitor_spec.specs.Entering.{judging, entrance, entering}
-use Rattle.timetable.specs.Timetable.{goodTimetable}
+use Rattle.timetable_spec.specs.Timetable.{goodTimetable}
 use Rattle.wash_spec.specs.Timed.{TimedState, notStarted, started, TimedMonitor, plain}
 use Rattle.wash_spec.specs.Taking.{drawingAt}
 pub mod Laws

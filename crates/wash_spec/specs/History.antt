@@ -22,7 +22,7 @@ use Rattle.monitor_spec.specs.State.{State, workMeasured, slotCount}
 use Rattle.monitor_spec.specs.Open.{openOf}
 use Rattle.monitor_spec.specs.Refusals.{Measured}
 use Rattle.monitor_spec.specs.History.{Leaves, AfterEvents}
-use Rattle.timetable.specs.Timetable.{inForce}
+use Rattle.timetable_spec.specs.Timetable.{inForce}
 use Rattle.wash_spec.specs.Timed.{TimedState, notStarted, started, TimedMonitor, plain, TimedAnswer, given}
 use Rattle.wash_spec.specs.Timed.{refused, stopped, TimedOutcome}
 use Rattle.wash_spec.specs.Taking.{drawingAt}

@@ -15,7 +15,7 @@ use Rattle.table.specs.Table.{Table}
 use Rattle.monitor_spec.specs.State.{workMeasured}
 use Rattle.monitor_spec.specs.Fold.{extendAll}
 use Rattle.monitor_spec.specs.Joined.{residualCount, halts}
-use Rattle.timetable.specs.Timetable.{minuteBound, changes}
+use Rattle.timetable_spec.specs.Timetable.{minuteBound, changes}
 use Rattle.wash_spec.specs.Taking.{drawingAt}
 use Rattle.wash_spec.specs.Feed.{timedPairs}
 pub mod Laws

@@ -18,8 +18,8 @@ use Rattle.monitor_spec.specs.Expected.{monitorOnward}
 use Rattle.monitor_spec.specs.Sensible.{Laid}
 use Rattle.monitor_spec.specs.Refusals.{IsTable}
 use Rattle.monitor_spec.specs.Progress.{Meets, Passes}
-use Rattle.timetable.specs.Timetable.{Changes}
-use Rattle.timetable.specs.Windows.{Windows}
+use Rattle.timetable_spec.specs.Timetable.{Changes}
+use Rattle.timetable_spec.specs.Windows.{Windows}
 use Rattle.wash_spec.specs.Timed.{TimedState, notStarted, started, TimedMonitor, plain, stamped, stopped}
 use Rattle.wash_spec.specs.Timed.{TimedOutcome}
 use Rattle.wash_spec.specs.Taking.{drawingAt}

@@ -14,7 +14,7 @@ use Rattle.table.specs.Operations.{zeros}
 use Rattle.monitor_spec.specs.State.{slotCount}
 use Rattle.monitor_spec.specs.Sensible.{Laid}
 use Rattle.monitor_spec.specs.Refusals.{Measured, IsTable}
-use Rattle.timetable.specs.Windows.{Windows}
+use Rattle.timetable_spec.specs.Windows.{Windows}
 use Rattle.wash_spec.specs.Timed.{TimedState, notStarted, started, TimedMonitor, plain}
 use Rattle.wash_spec.specs.Taking.{drawingAt}
 pub mod Laws

@@ -16,7 +16,7 @@ use Rattle.monitor_spec.specs.State.{Monitor, slotCount, choose}
 use Rattle.monitor_spec.specs.Fold.{StepEnd, went, stops}
 use Rattle.monitor_spec.specs.Feed.{takeEvent}
 use Rattle.monitor_spec.specs.Open.{freshMonitor}
-use Rattle.timetable.specs.Timetable.{minuteBound, inForce, changes}
+use Rattle.timetable_spec.specs.Timetable.{minuteBound, inForce, changes}
 use Rattle.wash_spec.specs.Timed.{TimedState, notStarted, started, TimedMonitor, plain, stamped}
 pub mod Laws
 

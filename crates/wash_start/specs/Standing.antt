@@ -12,7 +12,7 @@ use Rattle.table_index.specs.Index.{tableIn, Indexed}
 use Rattle.monitor_spec.specs.State.{areasMeasured, choose}
 use Rattle.state.specs.Record.{monitorOf}
 use Rattle.feeding.specs.Feeding.{Empty, Standing}
-use Rattle.timetable.specs.Timetable.{goodTimetable, inForce}
+use Rattle.timetable_spec.specs.Timetable.{goodTimetable, inForce}
 use Rattle.wash_state.specs.declared.answer.TimedState.{TimedState}
 use Rattle.wash_state.specs.declared.answer.TimedState.the-variants.{NotStarted, Started}
 use Rattle.wash_start.specs.Fresh.{ListAccepted}

@@ -15,7 +15,7 @@ use Rattle.residuals.specs.Slots.{slotsOf}
 use Rattle.monitor_spec.specs.State.{Monitor, slotCount}
 use Rattle.monitor_spec.specs.Fold.{StepEnd, went, stops, Ended}
 use Rattle.monitor_spec.specs.Entering.{measuring, judging, entrance, entering}
-use Rattle.timetable.specs.Timetable.{goodTimetable}
+use Rattle.timetable_spec.specs.Timetable.{goodTimetable}
 use Rattle.words.specs.Calls.{unmeasured}
 use Rattle.words.specs.Nonzero.{list-some, Why, Stop, event-stop, through-why}
 use Rattle.wash_spec.specs.Timed.{TimedState, notStarted, started, TimedMonitor, plain, TimedOutcome}

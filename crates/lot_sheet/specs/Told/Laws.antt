@@ -15,10 +15,10 @@ use borrow.Author.Tests.{eq-eqb, ne-eqb, ltb-false}
 use Rattle.table.specs.declared.answer.Refusal.{Refusal}
 use Rattle.lot_book.specs.declared.entry.Lot.{Lot}
 use Rattle.lot_book.specs.Book.{Book, lots, bad, bookOf, takenSum}
-use Rattle.sheet.specs.declared.answer.Sheet as answer
-use Rattle.sheet.specs.declared.answer.Sheet.the-variants as gave
-use Rattle.sheet.specs.Sheet.{Outcome, given, refused, sheetOf, outcomeOf, printed, sheetText, sheetSize}
-use Rattle.sheet.specs.Sheet as operation
+use Rattle.sheet_spec.specs.declared.answer.Sheet as answer
+use Rattle.sheet_spec.specs.declared.answer.Sheet.the-variants as gave
+use Rattle.sheet_spec.specs.Sheet.{Outcome, given, refused, sheetOf, outcomeOf, printed, sheetText, sheetSize}
+use Rattle.sheet_spec.specs.Sheet as operation
 use Rattle.lot_sheet.specs.declared.office.Told.{Told}
 use Rattle.lot_sheet.specs.declared.office.Told.the-variants.{Sheet, BadRecord, TotalOver, TooLong}
 use Rattle.lot_sheet.specs.Told.{TellOutcome, tellSaid, refusedAs, tellBook, tellOf, Fits}

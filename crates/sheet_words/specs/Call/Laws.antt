@@ -4,10 +4,10 @@ use Prim.Native.Nat.{ℕ}
 use mathlib.Core.Path.{_≡_, refl, ap, _∙_}
 use mathlib.Core.List.{List}
 use Rattle.table.specs.declared.answer.Refusal.{Refusal}
-use Rattle.sheet.specs.declared.answer.Sheet.{Sheet}
-use Rattle.sheet.specs.declared.answer.Sheet.the-variants.{Given, Refused}
-use Rattle.sheet.specs.Sheet.{sheetOf}
-use Rattle.sheet.specs.Sheet as operation
+use Rattle.sheet_spec.specs.declared.answer.Sheet.{Sheet}
+use Rattle.sheet_spec.specs.declared.answer.Sheet.the-variants.{Given, Refused}
+use Rattle.sheet_spec.specs.Sheet.{sheetOf}
+use Rattle.sheet_spec.specs.Sheet as operation
 use Rattle.sheet_words.specs.Call.{SheetTold, sheetSaid, sheetNumber, sheetValue, callOf, sheetCall}
 
 pub tell-given : (x : Sheet) (n : ℕ) → x ≡ Given n → SheetTold x 0 n

@@ -8,7 +8,7 @@ use mathlib.Core.Bool.{Bool, true}
 use mathlib.Core.List.{List}
 use lib.Dec.{leb}
 use borrow.Author.Tests.{lt-ltb, le-ltb}
-use Rattle.timetable.specs.Timetable.{minuteBound, changes}
+use Rattle.timetable_spec.specs.Timetable.{minuteBound, changes}
 use Rattle.wash_spec.specs.Taking.{clockBack, startDue}
 use Rattle.state.specs.declared.record.State.{State}
 use Rattle.wash_state.specs.declared.answer.TimedState.{TimedState}

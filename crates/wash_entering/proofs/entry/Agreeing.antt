@@ -25,7 +25,7 @@ use Rattle.state.specs.declared.record.State as code
 use Rattle.state.specs.Record.{stateOf, monitorOf}
 use Rattle.opening.specs.Opening.Laws.{areas-cleared}
 use Rattle.feeding.specs.Feeding.{Empty}
-use Rattle.timetable.specs.Timetable.{inForce}
+use Rattle.timetable_spec.specs.Timetable.{inForce}
 use Rattle.wash_spec.specs.Entering.{agreesBy}
 use Rattle.wash_state.specs.declared.answer.TimedState.{TimedState}
 use Rattle.wash_state.specs.declared.answer.TimedState.the-variants.{NotStarted, Started}

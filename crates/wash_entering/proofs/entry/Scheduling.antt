@@ -27,7 +27,7 @@ use Rattle.monitor_spec.specs.Entering.Laws.{entrance-judged, entrance-admits}
 use Rattle.state.specs.Record.Laws.{lengths-measured}
 use Rattle.entering.specs.Entered.{Entered}
 use Rattle.entering.specs.Entered.Laws.{entered-shut, entered-open}
-use Rattle.timetable.specs.Timetable.{goodTimetable}
+use Rattle.timetable_spec.specs.Timetable.{goodTimetable}
 use Rattle.wash_spec.specs.Timed.{TimedMonitor}
 use Rattle.wash_spec.specs.Entering.{timedConsistent, TimedEntrance, shut, admits, scheduling, timedEntrance}
 use Rattle.wash_state.specs.declared.answer.TimedState.{TimedState}

@@ -18,8 +18,8 @@ use Rattle.state.specs.Record.{monitorOf}
 use Rattle.taking.specs.declared.event.Taken.{Taken}
 use Rattle.taking.specs.declared.event.Taken.the-variants.{Went, Stopped}
 use Rattle.feeding.specs.Feeding.{Standing}
-use Rattle.timetable.specs.Timetable.{minuteBound, changes}
-use Rattle.timetable.specs.Timetable.Exact.{unchanged-same}
+use Rattle.timetable_spec.specs.Timetable.{minuteBound, changes}
+use Rattle.timetable_spec.specs.Timetable.Exact.{unchanged-same}
 use Rattle.wash_spec.specs.Taking.{clockBack, startDue, takeOn, atMinute, takeTimed}
 use Rattle.wash_spec.specs.Taking.Laws.{take-back}
 use Rattle.wash_state.specs.declared.answer.TimedState.{TimedState}

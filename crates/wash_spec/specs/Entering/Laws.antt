@@ -10,7 +10,7 @@ use Rattle.table.specs.Judge.{Judgement, accepted, declined, judgeList}
 use Rattle.table.specs.Operations.{zeros}
 use Rattle.monitor_spec.specs.Entering.{judging, entering}
 use Rattle.monitor_spec.specs.Entering.Laws.{entrance-unmeasured, entrance-declined, entrance-accepted}
-use Rattle.timetable.specs.Timetable.{goodTimetable}
+use Rattle.timetable_spec.specs.Timetable.{goodTimetable}
 use Rattle.wash_spec.specs.Timed.{TimedMonitor}
 use Rattle.wash_spec.specs.Entering.{timedConsistent, TimedEntrance, shut, admits, scheduling, timedEntrance}
 

@@ -25,7 +25,7 @@ use Rattle.monitor_spec.specs.Expected.{recordOf, monitorAfter}
 use Rattle.monitor_spec.specs.Expected.Laid.{laid-count}
 use Rattle.monitor_spec.specs.Expected.Steps.{Fed, fed-sensible, take-went, take-stops, fed-next}
 use Rattle.monitor_spec.specs.Refusals.Laws.{clash}
-use Rattle.timetable.specs.Timetable.{goodTimetable}
+use Rattle.timetable_spec.specs.Timetable.{goodTimetable}
 use Rattle.wash_spec.specs.Timed.{TimedMonitor, stamped}
 use Rattle.wash_spec.specs.Taking.{drawingAt, clockBack, startDue, takeFresh, atMinute, takeTimed}
 use Rattle.wash_spec.specs.Taking.Laws.{drawing-regular, drawing-same, take-back, take-afresh, take-onward}

@@ -29,8 +29,8 @@ use Rattle.monitor_spec.specs.Expected.Laid.{laid-count}
 use Rattle.monitor_spec.specs.Expected.Steps.{fed-sensible}
 use Rattle.monitor_spec.specs.Progress.{Passes}
 use Rattle.monitor_spec.specs.Progress.Laws as single
-use Rattle.timetable.specs.Timetable.{goodTimetable, Changes, changes}
-use Rattle.timetable.specs.Timetable.Exact.{changes-out}
+use Rattle.timetable_spec.specs.Timetable.{goodTimetable, Changes, changes}
+use Rattle.timetable_spec.specs.Timetable.Exact.{changes-out}
 use Rattle.wash_spec.specs.Timed.{TimedState, notStarted, started, TimedMonitor, plain, stamped}
 use Rattle.wash_spec.specs.Taking.{drawingAt, clockBack, atMinute, takeTimed}
 use Rattle.wash_spec.specs.Taking.Laws.{drawing-regular, drawing-same, fresh-crowded, fresh-room, take-back}

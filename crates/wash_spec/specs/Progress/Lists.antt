@@ -13,7 +13,7 @@ use Rattle.table.specs.Table.{Table}
 use Rattle.monitor_spec.specs.Regular.{Regular}
 use Rattle.monitor_spec.specs.Fold.{Ended, through}
 use Rattle.monitor_spec.specs.Fold.Laws.{through-went, through-stops}
-use Rattle.timetable.specs.Timetable.{goodTimetable}
+use Rattle.timetable_spec.specs.Timetable.{goodTimetable}
 use Rattle.wash_spec.specs.Timed.{TimedMonitor}
 use Rattle.wash_spec.specs.Taking.{drawingAt, takeTimed}
 use Rattle.wash_spec.specs.Refusals.{TimedLaid}

@@ -9,8 +9,8 @@ use borrow.Author.Tests.{leb-true, le-leb, ltb-true, ltb-false, lt-ltb}
 use Rattle.numbers.specs.Choice.{T-true, true-T}
 use Rattle.monitor_spec.specs.State.{State}
 use Rattle.monitor_spec.specs.Refusals.Laws.{clash}
-use Rattle.timetable.specs.Timetable.{minuteBound, goodTimetable, Changes, changes}
-use Rattle.timetable.specs.Timetable.Exact.{changes-in, changes-out}
+use Rattle.timetable_spec.specs.Timetable.{minuteBound, goodTimetable, Changes, changes}
+use Rattle.timetable_spec.specs.Timetable.Exact.{changes-in, changes-out}
 use Rattle.wash_spec.specs.Timed.{TimedState, notStarted, started}
 use Rattle.wash_spec.specs.Taking.{clockBack, startDue}
 use Rattle.wash_spec.specs.Progress.{ClockBack, Due}

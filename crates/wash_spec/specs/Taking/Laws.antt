@@ -24,8 +24,8 @@ use Rattle.monitor_spec.specs.Feed.{presentSlots, nextSlots, taking, takeEvent}
 use Rattle.monitor_spec.specs.Feed.Laws.{EventCase, meets, passes, event-case, metBy, take-refused, take-passes}
 use Rattle.monitor_spec.specs.Open.{freshMonitor}
 use Rattle.monitor_spec.specs.Progress.{Meets, unknown, full, exceeded}
-use Rattle.timetable.specs.Timetable.{goodTimetable, inForce, changes}
-use Rattle.timetable.specs.Timetable.Exact.{unchanged-same}
+use Rattle.timetable_spec.specs.Timetable.{goodTimetable, inForce, changes}
+use Rattle.timetable_spec.specs.Timetable.Exact.{unchanged-same}
 use Rattle.wash_spec.specs.Timed.{TimedState, notStarted, started, TimedMonitor, plain, stamped}
 use Rattle.wash_spec.specs.Taking.{drawingAt, clockBack, startDue, takeFresh, takeOn, atMinute, takeTimed}
 

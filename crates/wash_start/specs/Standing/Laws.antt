@@ -10,7 +10,7 @@ use Rattle.table_index.specs.Index.{tableIn}
 use Rattle.monitor_spec.specs.State.{areasMeasured, slotCount, choose}
 use Rattle.monitor_spec.specs.State.Areas.{choose-ap}
 use Rattle.entering.specs.Entered.Laws.{areas-same}
-use Rattle.timetable.specs.Timetable.{inForce}
+use Rattle.timetable_spec.specs.Timetable.{inForce}
 use Rattle.wash_spec.specs.Taking.{drawingAt}
 use Rattle.wash_start.specs.Standing.{listAt}
 

@@ -4,8 +4,8 @@ use native.Mathlib.Omega.{arith}
 use mathlib.Core.Path.{_≡_, refl}
 use lib.ListN.{length, take, length-set}
 use borrow.Author.Needs.{needs}
-use Rattle.sheet.specs.Line.{spaces}
-use Rattle.sheet.specs.Line.Filling.{blank-next, blank-done}
+use Rattle.sheet_spec.specs.Line.{spaces}
+use Rattle.sheet_spec.specs.Line.Filling.{blank-next, blank-done}
 use Rattle.sheet.proofs.line.blank.Statement.{statement}
 use Rattle.sheet.proofs.line.blank.Tie as tie
 

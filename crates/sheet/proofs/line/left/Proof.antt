@@ -6,7 +6,7 @@ use mathlib.Core.Path.{_≡_, refl}
 use mathlib.Core.List.{_++_}
 use lib.ListN.{length, take, drop, length-set}
 use borrow.Author.Needs.{needs}
-use Rattle.sheet.specs.Line.Filling.{spell-next, spell-done}
+use Rattle.sheet_spec.specs.Line.Filling.{spell-next, spell-done}
 use Rattle.sheet.proofs.line.left.Statement.{statement}
 use Rattle.sheet.proofs.line.left.Tie as tie
 

@@ -3,7 +3,7 @@ use native.Mathlib.Omega.{arith}
 use mathlib.Core.Path.{sym, ap, _∙_}
 use mathlib.Core.List.{[]}
 use lib.ListN.{length}
-use Rattle.sheet.specs.Line.Laws.{right-room, lot-part1, lot-part2, lot-part3, lot-part4, lot-done, lot-length}
+use Rattle.sheet_spec.specs.Line.Laws.{right-room, lot-part1, lot-part2, lot-part3, lot-part4, lot-done, lot-length}
 use borrow.Author.Needs.{needs}
 use Rattle.sheet.proofs.line.lot_line.Statement.{statement}
 use Rattle.sheet.proofs.line.lot_line.Tie as tie

@@ -3,7 +3,7 @@
 use native.Mathlib.Omega.{arith}
 use lib.ListN.{length}
 use borrow.Author.Needs.{needs}
-use Rattle.sheet.specs.Line.Filling.{Filling, fill-first, fill-next, fill-done}
+use Rattle.sheet_spec.specs.Line.Filling.{Filling, fill-first, fill-next, fill-done}
 use Rattle.sheet.proofs.line.right.Statement.{statement}
 use Rattle.sheet.proofs.line.right.Tie as tie
 

@@ -3,7 +3,7 @@ use native.Mathlib.Omega.{arith}
 use mathlib.Core.Path.{sym, ap, _∙_}
 use mathlib.Core.List.{[]}
 use lib.ListN.{length}
-use Rattle.sheet.specs.Line.Laws.{right-room, total-part2, total-done, total-length}
+use Rattle.sheet_spec.specs.Line.Laws.{right-room, total-part2, total-done, total-length}
 use borrow.Author.Needs.{needs}
 use Rattle.sheet.proofs.line.total_line.Statement.{statement}
 use Rattle.sheet.proofs.line.total_line.Tie as tie

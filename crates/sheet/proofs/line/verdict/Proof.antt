@@ -2,7 +2,7 @@
 use native.Mathlib.Omega.{arith}
 use mathlib.Core.Path.{ap}
 use lib.ListN.{length}
-use Rattle.sheet.specs.Line.Laws.{word-running, word-failed}
+use Rattle.sheet_spec.specs.Line.Laws.{word-running, word-failed}
 use borrow.Author.Needs.{needs}
 use Rattle.sheet.proofs.line.verdict.Statement.{statement}
 use Rattle.sheet.proofs.line.verdict.Tie as tie

@@ -1,7 +1,7 @@
 -- `printing::sheet` meets its contract: one law for each outcome; what is written is `write`'s. Assumes nothing.
 use native.Mathlib.Omega.{arith}
 use mathlib.Core.Path.{sym, _∙_}
-use Rattle.sheet.specs.Sheet.Laws.{out-bad, out-over, out-short, out-room}
+use Rattle.sheet_spec.specs.Sheet.Laws.{out-bad, out-over, out-short, out-room}
 use borrow.Author.Needs.{needs}
 use Rattle.sheet.proofs.printing.sheet.Statement.{statement}
 use Rattle.sheet.proofs.printing.sheet.Tie as tie

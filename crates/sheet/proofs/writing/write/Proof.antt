@@ -5,9 +5,9 @@ use native.Mathlib.Omega.{arith}
 use mathlib.Core.Path.{sym, _∙_}
 use lib.ListN.{length}
 use borrow.Author.Needs.{needs}
-use Rattle.sheet.specs.Sheet.Writing.{Writing, write-first, write-room, write-size, write-read}
-use Rattle.sheet.specs.Sheet.Writing.{write-lot, write-place}
-use Rattle.sheet.specs.Sheet.Writing.{write-less, write-next, write-done, write-total-size}
+use Rattle.sheet_spec.specs.Sheet.Writing.{Writing, write-first, write-room, write-size, write-read}
+use Rattle.sheet_spec.specs.Sheet.Writing.{write-lot, write-place}
+use Rattle.sheet_spec.specs.Sheet.Writing.{write-less, write-next, write-done, write-total-size}
 use Rattle.sheet.proofs.writing.write.Statement.{statement}
 use Rattle.sheet.proofs.writing.write.Tie as tie
 

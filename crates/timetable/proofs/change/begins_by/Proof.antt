@@ -2,7 +2,7 @@
 -- nothing.
 use borrow.Author.Tests.{lt-ltb, le-ltb}
 use borrow.Author.Needs.{needs}
-use Rattle.timetable.specs.Timetable.{beginsBy}
+use Rattle.timetable_spec.specs.Timetable.{beginsBy}
 use Rattle.timetable.proofs.change.begins_by.Statement.{statement}
 use Rattle.timetable.proofs.change.begins_by.Tie as tie
 

@@ -2,7 +2,7 @@
 use Prim.Native.Nat.{_%_}
 use mathlib.Core.Path.{sym, ap, _∙_}
 use borrow.Author.Needs.{needs}
-use Rattle.timetable.specs.Timetable.{week, begins, gapsFrom, changes}
+use Rattle.timetable_spec.specs.Timetable.{week, begins, gapsFrom, changes}
 use Rattle.timetable.proofs.change.changes.Statement.{statement}
 use Rattle.timetable.proofs.change.changes.Tie as tie
 

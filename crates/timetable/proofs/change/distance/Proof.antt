@@ -1,7 +1,7 @@
 -- `timetable::change::distance` meets its contract. Assumes nothing.
 use mathlib.Core.Path.{sym}
 use borrow.Author.Needs.{needs}
-use Rattle.timetable.specs.Timetable.Laws.{distance-above, distance-below}
+use Rattle.timetable_spec.specs.Timetable.Laws.{distance-above, distance-below}
 use Rattle.timetable.proofs.change.distance.Statement.{statement}
 use Rattle.timetable.proofs.change.distance.Tie as tie
 

@@ -5,8 +5,8 @@ use native.Mathlib.Omega.{arith}
 use mathlib.Core.Path.{_≡_, refl, sym, _∙_}
 use lib.ListN.{length, drop}
 use borrow.Author.Needs.{needs}
-use Rattle.timetable.specs.Timetable.{beginsBy, begins, gapsFrom}
-use Rattle.timetable.specs.Timetable.Pairs.{gap-next, gap-found, gap-done}
+use Rattle.timetable_spec.specs.Timetable.{beginsBy, begins, gapsFrom}
+use Rattle.timetable_spec.specs.Timetable.Pairs.{gap-next, gap-found, gap-done}
 use Rattle.timetable.proofs.change.gap_begins.Statement.{statement}
 use Rattle.timetable.proofs.change.gap_begins.Tie as tie
 

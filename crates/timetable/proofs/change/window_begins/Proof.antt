@@ -5,8 +5,8 @@ use native.Mathlib.Omega.{arith}
 use mathlib.Core.Path.{_≡_, refl, sym, _∙_}
 use lib.ListN.{length, drop}
 use borrow.Author.Needs.{needs}
-use Rattle.timetable.specs.Timetable.{beginsBy, begins}
-use Rattle.timetable.specs.Timetable.Pairs.{some-next, some-found, some-done}
+use Rattle.timetable_spec.specs.Timetable.{beginsBy, begins}
+use Rattle.timetable_spec.specs.Timetable.Pairs.{some-next, some-found, some-done}
 use Rattle.timetable.proofs.change.window_begins.Statement.{statement}
 use Rattle.timetable.proofs.change.window_begins.Tie as tie
 

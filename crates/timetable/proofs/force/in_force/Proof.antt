@@ -1,6 +1,6 @@
 -- `timetable::force::in_force` meets its contract. Assumes nothing.
 use borrow.Author.Needs.{needs}
-use Rattle.timetable.specs.Timetable.{inForce}
+use Rattle.timetable_spec.specs.Timetable.{inForce}
 use Rattle.timetable.proofs.force.in_force.Statement.{statement}
 use Rattle.timetable.proofs.force.in_force.Tie as tie
 

@@ -5,8 +5,8 @@ use native.Mathlib.Omega.{arith}
 use mathlib.Core.Path.{_≡_, refl, sym, _∙_}
 use lib.ListN.{length, drop}
 use borrow.Author.Needs.{needs}
-use Rattle.timetable.specs.Timetable.{holds, washAt}
-use Rattle.timetable.specs.Timetable.Pairs.{some-next, some-found, some-done}
+use Rattle.timetable_spec.specs.Timetable.{holds, washAt}
+use Rattle.timetable_spec.specs.Timetable.Pairs.{some-next, some-found, some-done}
 use Rattle.timetable.proofs.force.wash_at.Statement.{statement}
 use Rattle.timetable.proofs.force.wash_at.Tie as tie
 

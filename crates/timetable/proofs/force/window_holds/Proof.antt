@@ -1,7 +1,7 @@
 -- `timetable::force::window_holds` meets its contract: each return's test says which part of `holds` fails. Assumes
 -- nothing.
 use borrow.Author.Tests.{le-leb, lt-leb}
-use Rattle.timetable.specs.Timetable.{holds}
+use Rattle.timetable_spec.specs.Timetable.{holds}
 use Rattle.timetable.proofs.force.window_holds.Statement.{statement}
 use Rattle.timetable.proofs.force.window_holds.Tie as tie
 

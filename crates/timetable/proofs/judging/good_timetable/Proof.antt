@@ -5,8 +5,8 @@ use native.Mathlib.Omega.{arith}
 use mathlib.Core.Path.{_≡_, refl, sym, _∙_}
 use lib.ListN.{length, drop}
 use borrow.Author.Needs.{needs}
-use Rattle.timetable.specs.Timetable.{goodFrom, goodTimetable}
-use Rattle.timetable.specs.Timetable.Pairs.{good-next, good-bad, good-done}
+use Rattle.timetable_spec.specs.Timetable.{goodFrom, goodTimetable}
+use Rattle.timetable_spec.specs.Timetable.Pairs.{good-next, good-bad, good-done}
 use Rattle.timetable.proofs.judging.good_timetable.Statement.{statement}
 use Rattle.timetable.proofs.judging.good_timetable.Tie as tie
 

@@ -1,7 +1,7 @@
 -- `timetable::judging::good_window` meets its contract: each return's tests say which part of `goodWindow` fails.
 -- Assumes nothing.
 use borrow.Author.Tests.{lt-ltb, le-ltb, le-leb, lt-leb}
-use Rattle.timetable.specs.Timetable.{goodWindow}
+use Rattle.timetable_spec.specs.Timetable.{goodWindow}
 use Rattle.timetable.proofs.judging.good_window.Statement.{statement}
 use Rattle.timetable.proofs.judging.good_window.Tie as tie
 

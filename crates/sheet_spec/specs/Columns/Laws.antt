@@ -18,12 +18,12 @@ use Rattle.decimal.specs.Decimal.Laws.{is-decimal}
 use Rattle.decimal.specs.Decimal.Unique.{decimal-is}
 use Rattle.lot_book.specs.declared.entry.Lot.{Lot}
 use Rattle.lot_book.specs.Written.{GoodLot}
-use Rattle.sheet.specs.Line.{spaces, right, left, verdict, lotLine, totalLine}
-use Rattle.sheet.specs.Line.Filling.{right-length}
-use Rattle.sheet.specs.Line.Laws.{left-length, lot-length, total-length}
-use Rattle.sheet.specs.Sheet.{linesOf}
-use Rattle.sheet.specs.Columns.{RightAligned, LeftAligned, LotColumns, TotalColumns}
-use Rattle.sheet.specs.Columns.{Printed, last-line, lot-line}
+use Rattle.sheet_spec.specs.Line.{spaces, right, left, verdict, lotLine, totalLine}
+use Rattle.sheet_spec.specs.Line.Filling.{right-length}
+use Rattle.sheet_spec.specs.Line.Laws.{left-length, lot-length, total-length}
+use Rattle.sheet_spec.specs.Sheet.{linesOf}
+use Rattle.sheet_spec.specs.Columns.{RightAligned, LeftAligned, LotColumns, TotalColumns}
+use Rattle.sheet_spec.specs.Columns.{Printed, last-line, lot-line}
 
 -- ---- one field
 pub right-aligned : (w n : ℕ) (field : List ℕ) → n < 10 ^ 20 → field ≡ right w n → RightAligned n field

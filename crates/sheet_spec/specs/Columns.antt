@@ -11,7 +11,7 @@ use mathlib.Core.List.{List, [], _∷_, _++_}
 use lib.ListN.{length, take, drop}
 use Rattle.decimal.specs.Decimal.{IsDecimal}
 use Rattle.lot_book.specs.declared.entry.Lot.{Lot}
-use Rattle.sheet.specs.Line.{spaces}
+use Rattle.sheet_spec.specs.Line.{spaces}
 pub mod Laws
 
 abbrev pub columns : ℕ → ℕ → List ℕ → List ℕ

@@ -2,12 +2,12 @@
 -- timetables, by computing. Assumes nothing.
 use lib.Dec.{T}
 use Rattle.numbers.specs.Choice.{both-in}
-use Rattle.timetable.specs.Claims.{GoodExactly, WashExactly, ChangesExactly, WeekOrMore}
-use Rattle.timetable.specs.Examples.{lists, questions, judgedAll, askedAll, Examples}
-use Rattle.timetable.specs.Timetable.{goodWindow, goodFrom, goodTimetable, holds, washAt, inForce}
-use Rattle.timetable.specs.Timetable.{someWindow, distance, beginsBy, begins, gapsFrom, changes}
-use Rattle.timetable.specs.Timetable.Exact.{changes-out, changes-in, week-out, week-in}
-use Rattle.timetable.specs.Windows.Laws.{good-out, good-in, held-out, held-in}
+use Rattle.timetable_spec.specs.Claims.{GoodExactly, WashExactly, ChangesExactly, WeekOrMore}
+use Rattle.timetable_spec.specs.Examples.{lists, questions, judgedAll, askedAll, Examples}
+use Rattle.timetable_spec.specs.Timetable.{goodWindow, goodFrom, goodTimetable, holds, washAt, inForce}
+use Rattle.timetable_spec.specs.Timetable.{someWindow, distance, beginsBy, begins, gapsFrom, changes}
+use Rattle.timetable_spec.specs.Timetable.Exact.{changes-out, changes-in, week-out, week-in}
+use Rattle.timetable_spec.specs.Windows.Laws.{good-out, good-in, held-out, held-in}
 
 pub good-exactly : GoodExactly
 unfolding GoodExactly

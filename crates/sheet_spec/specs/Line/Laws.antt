@@ -14,8 +14,8 @@ use lib.Dec.{eqb}
 use borrow.Author.Tests.{eq-eqb, ne-eqb}
 use Rattle.numbers.specs.Choice.{cond-cases}
 use Rattle.lot_book.specs.declared.entry.Lot.{Lot}
-use Rattle.sheet.specs.Line.{spaces, right, left, verdict, lotLine, totalLine, Room}
-use Rattle.sheet.specs.Line.Filling.{right-length}
+use Rattle.sheet_spec.specs.Line.{spaces, right, left, verdict, lotLine, totalLine, Room}
+use Rattle.sheet_spec.specs.Line.Filling.{right-length}
 
 -- ---- parts of spaces
 length-spaces : (k : ℕ) → length (spaces k) ≡ k

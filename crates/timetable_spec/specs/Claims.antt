@@ -10,8 +10,8 @@ use Prim.Native.Nat.{ℕ, _+_, _≤_}
 use mathlib.Core.List.{List}
 use mathlib.Core.Logic.{_↔_, _≢_}
 use lib.Dec.{T}
-use Rattle.timetable.specs.Timetable.{week, goodTimetable, washAt, inForce, Changes, changes}
-use Rattle.timetable.specs.Windows.{Window, numbersOf, Held, Windows}
+use Rattle.timetable_spec.specs.Timetable.{week, goodTimetable, washAt, inForce, Changes, changes}
+use Rattle.timetable_spec.specs.Windows.{Window, numbersOf, Held, Windows}
 
 -- 02, W5: "A timetable lists windows in minutes of the week as pairs"
 unfoldable pub GoodExactly : Type 0

@@ -9,8 +9,8 @@ use lib.ListN.{length, drop}
 use Rattle.lot_book.specs.declared.entry.Lot.{Lot}
 use Rattle.lot_book.specs.Book.{takenSum}
 use Rattle.lot_book.specs.Written.{bookBytes, GoodBook, BadAt}
-use Rattle.sheet.specs.Sheet.{Outcome, given, refused}
-use Rattle.sheet.specs.Columns.{Printed}
+use Rattle.sheet_spec.specs.Sheet.{Outcome, given, refused}
+use Rattle.sheet_spec.specs.Columns.{Printed}
 pub mod Laws
 
 pub record GoodBytes (book : List ℕ) (rs : List Lot) : Type 0 where

@@ -7,7 +7,7 @@ use Prim.Native.Nat.{ℕ}
 use mathlib.Core.Bool.{Bool, true, false, Bool·beq, _&&_}
 use mathlib.Core.List.{List, [], _∷_}
 use lib.Dec.{T}
-use Rattle.timetable.specs.Timetable.{goodTimetable, inForce, changes}
+use Rattle.timetable_spec.specs.Timetable.{goodTimetable, inForce, changes}
 
 pub record Judged : Type 0 where
   pub list : List ℕ

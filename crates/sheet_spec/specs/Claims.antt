@@ -13,10 +13,10 @@ use lib.ListN.{replicate}
 use Rattle.numbers.specs.Number.{Bytes}
 use Rattle.lot_book.specs.declared.entry.Lot.{Lot}
 use Rattle.lot_book.specs.Written.{GoodLot}
-use Rattle.sheet.specs.Line.{spaces, lotLine, totalLine}
-use Rattle.sheet.specs.Sheet.{Outcome, given, sheetOf}
-use Rattle.sheet.specs.Columns.{LotColumns, TotalColumns}
-use Rattle.sheet.specs.Outcomes.{Comes}
+use Rattle.sheet_spec.specs.Line.{spaces, lotLine, totalLine}
+use Rattle.sheet_spec.specs.Sheet.{Outcome, given, sheetOf}
+use Rattle.sheet_spec.specs.Columns.{LotColumns, TotalColumns}
+use Rattle.sheet_spec.specs.Outcomes.{Comes}
 
 -- 02, W2: "lot in columns 1 to 10, taken 12 to 31, verdict word 33 to 39, place 41 to 48, numbers right aligned, words
 -- left, spaces elsewhere"

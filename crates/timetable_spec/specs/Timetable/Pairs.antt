@@ -15,8 +15,8 @@ use lib.ListN.{length, getD, drop, drop-of-length-le}
 use lib.Seq.{drop-cons}
 use lib.Dec.{eqb}
 use borrow.Author.Tests.{eq-eqb, ne-eqb}
-use Rattle.timetable.specs.Timetable.{week, goodWindow, goodFrom, someWindow, gapsFrom}
-use Rattle.timetable.specs.Timetable.Laws.{gaps-none, gaps-odd, gaps-pair}
+use Rattle.timetable_spec.specs.Timetable.{week, goodWindow, goodFrom, someWindow, gapsFrom}
+use Rattle.timetable_spec.specs.Timetable.Laws.{gaps-none, gaps-odd, gaps-pair}
 
 -- ---- what stands at a position
 module _ (w : List ℕ) (i : ℕ) where

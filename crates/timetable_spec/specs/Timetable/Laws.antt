@@ -13,8 +13,8 @@ use mathlib.Core.List.{List, [], _∷_}
 use lib.Dec.{T, ltb, leb, ltb→lt, leb→le}
 use borrow.Author.Tests.{lt-ltb, le-ltb, le-leb, lt-leb}
 use Rattle.numbers.specs.Choice.{both}
-use Rattle.timetable.specs.Timetable.{week, goodWindow, goodFrom, someWindow, holds, washAt}
-use Rattle.timetable.specs.Timetable.{distance, gapsFrom}
+use Rattle.timetable_spec.specs.Timetable.{week, goodWindow, goodFrom, someWindow, holds, washAt}
+use Rattle.timetable_spec.specs.Timetable.{distance, gapsFrom}
 
 -- ---- distances
 pub distance-above : (r p : ℕ) → r < p → distance r p ≡ p - r

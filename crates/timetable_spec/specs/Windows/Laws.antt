@@ -13,9 +13,9 @@ use mathlib.Core.List.{List, [], _∷_}
 use lib.Dec.{T, ltb, leb, ltb→lt, leb→le, lt→ltb, le→leb}
 use Rattle.numbers.specs.Every.{All, all-imp, all-and}
 use Rattle.numbers.specs.Choice.{both, both-in, either, either-left, either-right}
-use Rattle.timetable.specs.Timetable.{week, goodWindow, goodFrom, goodTimetable, someWindow, holds, washAt}
-use Rattle.timetable.specs.Timetable.Laws.{good-pair}
-use Rattle.timetable.specs.Windows.{Window, numbersOf, Holds, Held, GoodWindow, Before, InOrder, Windows}
+use Rattle.timetable_spec.specs.Timetable.{week, goodWindow, goodFrom, goodTimetable, someWindow, holds, washAt}
+use Rattle.timetable_spec.specs.Timetable.Laws.{good-pair}
+use Rattle.timetable_spec.specs.Windows.{Window, numbersOf, Holds, Held, GoodWindow, Before, InOrder, Windows}
 
 -- ---- from the judgement to the conditions
 pub record From (floor : ℕ) (w : List ℕ) : Type 0 where

@@ -15,7 +15,7 @@ use lib.ListN.{replicate-append-replicate, drop-of-length-le}
 use lib.Seq.{take-suc-set, take-set-le, set-split, drop-cons, take-suc, take-all, set-at, length-take-le}
 use Rattle.decimal.specs.Decimal.{decimal}
 use Rattle.decimal.specs.Decimal.Unique.{decimal-one, decimal-more, decimal-short}
-use Rattle.sheet.specs.Line.{spaces, right}
+use Rattle.sheet_spec.specs.Line.{spaces, right}
 
 -- ---- spaces from the front
 replicate-last : (i : ℕ) → spaces i ++ (32 ∷ []) ≡ spaces (suc i)

@@ -6,11 +6,11 @@ use Rattle.numbers.specs.Number.{carry, later, scanWith}
 use Rattle.decimal.specs.Decimal.{decimal, decimalWithin}
 use Rattle.lot_book.specs.Lot.{andThen, readLot}
 use Rattle.lot_book.specs.Book.{sound, add, step, unlessNone, readBook, bookFrom, bookOf, takenSum}
-use Rattle.sheet.specs.Line.{right, left, verdict, lotLine, totalLine}
-use Rattle.sheet.specs.Sheet.{linesOf, sheetText, sheetSize, printed, outcomeOf, sheetOf}
-use Rattle.sheet.specs.Columns.Laws.{lot-columns, columns-lot, total-columns, columns-total}
-use Rattle.sheet.specs.Outcomes.Laws.{comes-out, comes-in}
-use Rattle.sheet.specs.Claims.{LotLine, TotalLine, Outcomes, Rows}
+use Rattle.sheet_spec.specs.Line.{right, left, verdict, lotLine, totalLine}
+use Rattle.sheet_spec.specs.Sheet.{linesOf, sheetText, sheetSize, printed, outcomeOf, sheetOf}
+use Rattle.sheet_spec.specs.Columns.Laws.{lot-columns, columns-lot, total-columns, columns-total}
+use Rattle.sheet_spec.specs.Outcomes.Laws.{comes-out, comes-in}
+use Rattle.sheet_spec.specs.Claims.{LotLine, TotalLine, Outcomes, Rows}
 
 pub lot-line : LotLine
 unfolding LotLine

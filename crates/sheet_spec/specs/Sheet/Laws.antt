@@ -14,8 +14,8 @@ use Rattle.lot_book.specs.declared.judging.Total.the-variants.{Within, Over}
 use Rattle.lot_book.specs.declared.judging.Judged.the-variants.{Lots, Bad}
 use Rattle.lot_book.specs.Book.{Book, lots, bad, bookOf, takenSum, totalOf, judgedOf, judgement}
 use Rattle.lot_book.specs.Book.Laws.{within-total, over-total}
-use Rattle.sheet.specs.Sheet.{sheetText, sheetSize, given, refused, printed, outcomeOf, sheetOf}
-use Rattle.sheet.specs.Sheet.{Writable}
+use Rattle.sheet_spec.specs.Sheet.{sheetText, sheetSize, given, refused, printed, outcomeOf, sheetOf}
+use Rattle.sheet_spec.specs.Sheet.{Writable}
 
 -- ---- the outcomes
 module _ (book out : List ℕ) where

@@ -13,10 +13,10 @@ use Rattle.lot_book.specs.Book.{Book, lots, bad, bookOf, takenSum}
 use Rattle.lot_book.specs.Written.Good.{book-good}
 use Rattle.lot_book.specs.Written.Laws.{written-book, read-back}
 use Rattle.lot_book.specs.Written.Faults.{bad-out, bad-in}
-use Rattle.sheet.specs.Sheet.{sheetText, sheetSize, Outcome, sheetOf}
-use Rattle.sheet.specs.Sheet.Laws.{sheet-bad, sheet-over, sheet-short, sheet-given}
-use Rattle.sheet.specs.Columns.Laws.{text-printed, printed-text}
-use Rattle.sheet.specs.Outcomes.{GoodBytes, Comes, comes-14, comes-15, comes-1, comes-given}
+use Rattle.sheet_spec.specs.Sheet.{sheetText, sheetSize, Outcome, sheetOf}
+use Rattle.sheet_spec.specs.Sheet.Laws.{sheet-bad, sheet-over, sheet-short, sheet-given}
+use Rattle.sheet_spec.specs.Columns.Laws.{text-printed, printed-text}
+use Rattle.sheet_spec.specs.Outcomes.{GoodBytes, Comes, comes-14, comes-15, comes-1, comes-given}
 
 good-read : (book : List ℕ) (rs : List Lot) → Bytes book → bookOf book ≡ lots rs → GoodBytes book rs
 unfolding bookOf

@@ -16,10 +16,10 @@ use Rattle.lot_book.specs.Lot.{entryAt}
 use Rattle.lot_book.specs.Lot.Laws.{lot-stands, lot-unread}
 use Rattle.lot_book.specs.Book.{lots, bookFrom, bookOf}
 use Rattle.lot_book.specs.Book.Laws.{First, book-first, book-not-unread, book-end}
-use Rattle.sheet.specs.Line.{lotLine, totalLine}
-use Rattle.sheet.specs.Line.Laws.{put, lot-length, total-length}
-use Rattle.sheet.specs.Sheet.{linesOf, sheetText, sheetSize, given, sheetOf, Writable}
-use Rattle.sheet.specs.Sheet.Laws.{sheet-given}
+use Rattle.sheet_spec.specs.Line.{lotLine, totalLine}
+use Rattle.sheet_spec.specs.Line.Laws.{put, lot-length, total-length}
+use Rattle.sheet_spec.specs.Sheet.{linesOf, sheetText, sheetSize, given, sheetOf, Writable}
+use Rattle.sheet_spec.specs.Sheet.Laws.{sheet-given}
 
 -- `before` is the output at entry, `out` the output now
 pub record Writing (book before : List ℕ) (sum : ℕ) (out : List ℕ) (at p : ℕ) : Type 0 where

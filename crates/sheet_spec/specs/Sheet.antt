@@ -11,9 +11,9 @@ use lib.ListN.{length, drop}
 use lib.Dec.{ltb}
 use Rattle.lot_book.specs.declared.entry.Lot.{Lot}
 use Rattle.lot_book.specs.Book.{Book, lots, bad, bookOf, takenSum}
-use Rattle.sheet.specs.declared.answer.Sheet.{Sheet}
-use Rattle.sheet.specs.declared.answer.Sheet.the-variants.{Given, Refused}
-use Rattle.sheet.specs.Line.{lotLine, totalLine}
+use Rattle.sheet_spec.specs.declared.answer.Sheet.{Sheet}
+use Rattle.sheet_spec.specs.declared.answer.Sheet.the-variants.{Given, Refused}
+use Rattle.sheet_spec.specs.Line.{lotLine, totalLine}
 pub mod Laws
 pub mod Writing
 
