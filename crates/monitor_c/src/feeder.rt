@@ -1,6 +1,6 @@
 // Feed for C. What a call returns and leaves is `feedCall` of crate `words`, `specs/Calls.antt`.
 ghost use mathlib.Core.Path.{_≡_};
-ghost use Rattle.words.specs.Calls.{monitorSaid as said, feedCall};
+ghost use Rattle.words_spec.specs.Calls.{monitorSaid as said, feedCall};
 use words::load;
 use words::tell;
 

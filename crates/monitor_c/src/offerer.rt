@@ -1,6 +1,6 @@
 // Offer for C. What a call returns and leaves is `offerCall` of crate `words`, `specs/Calls.antt`.
 ghost use mathlib.Core.Path.{_≡_};
-ghost use Rattle.words.specs.Calls.{offerSaid, offerCall};
+ghost use Rattle.words_spec.specs.Calls.{offerSaid, offerCall};
 use words::load;
 use words::tell_offer;
 

@@ -1,6 +1,6 @@
 // Open for C. What a call returns and leaves is `openCall` of crate `words`, `specs/Calls.antt`.
 ghost use mathlib.Core.Path.{_≡_};
-ghost use Rattle.words.specs.Calls.{openSaid, openCall};
+ghost use Rattle.words_spec.specs.Calls.{openSaid, openCall};
 use words::has_record;
 use words::tell;
 

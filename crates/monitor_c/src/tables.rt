@@ -1,6 +1,6 @@
 // Read and Write for C. What a call returns and leaves is in crate `words`, `specs/Tables.antt`.
 ghost use mathlib.Core.Path.{_≡_};
-ghost use Rattle.words.specs.Tables.{tableSaid as said, readCall, writeCall};
+ghost use Rattle.words_spec.specs.Tables.{tableSaid as said, readCall, writeCall};
 use words::tell_table;
 
 // Read: the bytes of a table to its numbers.

@@ -1,7 +1,7 @@
 // Feed in wash hours for C. What a call returns and leaves is `timedCall` of crate `wash_words`,
 // `specs/Call.antt`.
 ghost use mathlib.Core.Path.{_≡_};
-ghost use Rattle.words.specs.Calls.{monitorSaid as said};
+ghost use Rattle.words_spec.specs.Calls.{monitorSaid as said};
 ghost use Rattle.wash_words.specs.Call.{timedCall};
 use wash_words::load_timed;
 use wash_words::tell_timed;

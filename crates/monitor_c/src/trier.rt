@@ -1,6 +1,6 @@
 // Try for C. What a call returns and leaves is `tryCall` of crate `words`, `specs/Calls.antt`.
 ghost use mathlib.Core.Path.{_≡_};
-ghost use Rattle.words.specs.Calls.{monitorSaid as said, tryCall};
+ghost use Rattle.words_spec.specs.Calls.{monitorSaid as said, tryCall};
 use words::load;
 use words::tell;
 

@@ -1,6 +1,6 @@
 // View for C. What a call returns and leaves is `viewCall` of crate `words`, `specs/Calls.antt`.
 ghost use mathlib.Core.Path.{_≡_};
-ghost use Rattle.words.specs.Calls.{viewSaid, viewCall};
+ghost use Rattle.words_spec.specs.Calls.{viewSaid, viewCall};
 use words::load;
 
 // View: how many words the residuals' slots are; in area, in which area they stand.

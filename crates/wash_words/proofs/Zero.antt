@@ -16,8 +16,8 @@ use Rattle.monitor_spec.specs.State.{Monitor, slotCount}
 use Rattle.monitor_spec.specs.Fold.{StepEnd, went, stops, Ended}
 use Rattle.monitor_spec.specs.Entering.{measuring, judging, entrance, entering}
 use Rattle.timetable_spec.specs.Timetable.{goodTimetable}
-use Rattle.words.specs.Calls.{unmeasured}
-use Rattle.words.specs.Nonzero.{list-some, Why, Stop, event-stop, through-why}
+use Rattle.words_spec.specs.Calls.{unmeasured}
+use Rattle.words_spec.specs.Nonzero.{list-some, Why, Stop, event-stop, through-why}
 use Rattle.wash_spec.specs.Timed.{TimedState, notStarted, started, TimedMonitor, plain, TimedOutcome}
 use Rattle.wash_spec.specs.Taking.{drawingAt, clockBack, startDue, takeFresh, takeOn, atMinute, takeTimed}
 use Rattle.wash_spec.specs.Entering.{TimedEntrance, shut, admits, timedMeasured, timedConsistent, scheduling}

@@ -10,7 +10,7 @@ use mathlib.Core.Path.{_≡_}
 use mathlib.Core.Bool.{Bool, true, false}
 use mathlib.Core.List.{List}
 use lib.ListN.{length}
-use Rattle.words.specs.Calls.{MonitorCall, unmeasured}
+use Rattle.words_spec.specs.Calls.{MonitorCall, unmeasured}
 use Rattle.wash_spec.specs.Timed.{TimedState, TimedMonitor, TimedAnswer, given, refused, stopped, TimedOutcome}
 use Rattle.wash_spec.specs.Feed.{timedOf}
 use Rattle.wash_words.specs.Words.{timedRecordMeasured, timedIn, timedWords}

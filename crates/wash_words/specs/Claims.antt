@@ -12,7 +12,7 @@ use mathlib.Core.Bool.{_&&_}
 use mathlib.Core.List.{List, [], _∷_, _++_}
 use lib.ListN.{getD}
 use lib.Dec.{eqb}
-use Rattle.words.specs.Words.{stateIn, wordsOf}
+use Rattle.words_spec.specs.Words.{stateIn, wordsOf}
 use Rattle.monitor_spec.specs.State.{State}
 use Rattle.wash_spec.specs.Timed.{TimedState, notStarted, started}
 use Rattle.wash_spec.specs.Feed.{timedOf}

@@ -9,7 +9,7 @@ use mathlib.Core.Bool.{Bool, true, false}
 use mathlib.Core.List.{List, [], _∷_, _++_}
 use lib.ListN.{length, getD, replicate}
 use lib.Dec.{eqb}
-use Rattle.words.specs.Words.{stateIn, wordsOf}
+use Rattle.words_spec.specs.Words.{stateIn, wordsOf}
 use Rattle.wash_spec.specs.Timed.{TimedState, notStarted, started}
 pub mod Laws
 

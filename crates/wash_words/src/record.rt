@@ -5,7 +5,7 @@ ghost use mathlib.Core.Path.{_≡_};
 ghost use mathlib.Core.List.{[], _∷_, _++_};
 ghost use lib.ListN.{length, replicate};
 ghost use Rattle.state.specs.Record.{stateOf};
-ghost use Rattle.words.specs.Words.{wordsOf};
+ghost use Rattle.words_spec.specs.Words.{wordsOf};
 ghost use Rattle.wash_state.specs.Answers.{timedStateOf};
 ghost use Rattle.wash_words.specs.Words.{timedIn, timedWords};
 use state::State;

@@ -2,7 +2,7 @@
 ghost use mathlib.Core.Path.{_≡_};
 ghost use lib.ListN.{length};
 ghost use Rattle.state.specs.Answers.{answerOf, offeredOf};
-ghost use Rattle.words.specs.Calls.{openedOf, MonitorTold, OfferTold};
+ghost use Rattle.words_spec.specs.Calls.{openedOf, MonitorTold, OfferTold};
 use crate::record::store;
 use state::Answer;
 use state::Offered;

@@ -5,7 +5,7 @@ ghost use mathlib.Core.Path.{_≡_};
 ghost use mathlib.Core.List.{[], _∷_};
 ghost use lib.ListN.{length};
 ghost use Rattle.state.specs.Record.{verdictOf, stateOf};
-ghost use Rattle.words.specs.Words.{verdictIn, stateIn, wordsOf};
+ghost use Rattle.words_spec.specs.Words.{verdictIn, stateIn, wordsOf};
 use state::State;
 use state::Verdict;
 

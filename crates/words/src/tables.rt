@@ -1,6 +1,6 @@
 // Answers of Read and Write in words. The definitions are in `specs/Tables.antt`.
 ghost use Rattle.table.specs.Answers.{answerOf};
-ghost use Rattle.words.specs.Tables.{TableTold};
+ghost use Rattle.words_spec.specs.Tables.{TableTold};
 use table::Answer;
 
 // The number to return; the count or the place goes into value.

@@ -7,7 +7,7 @@ use lib.ListN.{length}
 use lib.Dec.{eqb}
 use borrow.Author.Tests.{eq-eqb, ne-eqb, eqb-true, eqb-false}
 use Rattle.table.specs.declared.answer.Refusal.{Refusal}
-use Rattle.words.specs.Calls.{MonitorCall, monitorSaid, unmeasured}
+use Rattle.words_spec.specs.Calls.{MonitorCall, monitorSaid, unmeasured}
 use Rattle.wash_state.specs.declared.answer.TimedState as kept
 use Rattle.wash_state.specs.declared.answer.TimedAnswer as code
 use Rattle.wash_state.specs.declared.answer.TimedAnswer.the-variants.{Given, Refused, Stopped}

@@ -12,8 +12,8 @@ use Rattle.wash_state.specs.declared.answer.TimedState.the-variants.{NotStarted
 use Rattle.wash_state.specs.Answers.{timedStateOf}
 use Rattle.state.specs.Record.{stateOf}
 use Rattle.monitor_spec.specs.State.{Verdict, running, failedAt, State}
-use Rattle.words.specs.Words.{stateIn, failureWords, wordsOf}
-use Rattle.words.specs.Words.Laws.{read-back}
+use Rattle.words_spec.specs.Words.{stateIn, failureWords, wordsOf}
+use Rattle.words_spec.specs.Words.Laws.{read-back}
 use Rattle.wash_spec.specs.Timed.{TimedState, notStarted, started}
 use Rattle.wash_words.specs.Words.{timedIn, timedWords}
 

@@ -1,7 +1,7 @@
 -- `monitor_c::feeder::cspe_feed` meets its contract: the record's length is tried first; then the outcome is Feed's on
 -- the record that the words hold, told by `tell`. Assumes nothing.
 use borrow.Author.Needs.{needs}
-use Rattle.words.specs.Calls.Laws.{feed-unmeasured, feed-told}
+use Rattle.words_spec.specs.Calls.Laws.{feed-unmeasured, feed-told}
 use Rattle.monitor_c.proofs.feeder.cspe_feed.Statement.{statement}
 use Rattle.monitor_c.proofs.feeder.cspe_feed.Tie as tie
 

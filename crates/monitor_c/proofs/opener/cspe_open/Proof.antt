@@ -1,7 +1,7 @@
 -- `monitor_c::opener::cspe_open` meets its contract: the record's length is tried first; then the outcome is Open's,
 -- told by `has_record` and `tell`. Assumes nothing.
 use borrow.Author.Needs.{needs}
-use Rattle.words.specs.Calls.Laws.{open-unmeasured, open-told}
+use Rattle.words_spec.specs.Calls.Laws.{open-unmeasured, open-told}
 use Rattle.monitor_c.proofs.opener.cspe_open.Statement.{statement}
 use Rattle.monitor_c.proofs.opener.cspe_open.Tie as tie
 

@@ -1,6 +1,6 @@
 -- `monitor_c::tables::cspe_write` meets its contract: the outcome is Write's, told by `tell_table`. Assumes nothing.
 use borrow.Author.Needs.{needs}
-use Rattle.words.specs.Tables.Laws.{write-told}
+use Rattle.words_spec.specs.Tables.Laws.{write-told}
 use Rattle.monitor_c.proofs.tables.cspe_write.Statement.{statement}
 use Rattle.monitor_c.proofs.tables.cspe_write.Tie as tie
 

@@ -1,7 +1,7 @@
 -- `monitor_c::trier::cspe_try` meets its contract: the lengths of both records are tried first; then the outcome is
 -- Try's on the record that the words hold, told by `tell`. Assumes nothing.
 use borrow.Author.Needs.{needs}
-use Rattle.words.specs.Calls.Laws.{try-unread, try-unmeasured, try-told}
+use Rattle.words_spec.specs.Calls.Laws.{try-unread, try-unmeasured, try-told}
 use Rattle.monitor_c.proofs.trier.cspe_try.Statement.{statement}
 use Rattle.monitor_c.proofs.trier.cspe_try.Tie as tie
 

@@ -1,7 +1,7 @@
 -- `monitor_c::viewer::cspe_view` meets its contract: the record's length is tried first; the part that View hands back
 -- is empty or not. Assumes nothing.
 use borrow.Author.Needs.{needs}
-use Rattle.words.specs.Calls.Laws.{view-unmeasured, view-some, view-none}
+use Rattle.words_spec.specs.Calls.Laws.{view-unmeasured, view-some, view-none}
 use Rattle.monitor_c.proofs.viewer.cspe_view.Statement.{statement}
 use Rattle.monitor_c.proofs.viewer.cspe_view.Tie as tie
 

@@ -1,6 +1,6 @@
 -- `wash_words::record::zero_state` meets its contract, by computing. Assumes nothing.
 use mathlib.Core.Path.{refl}
-use Rattle.words.specs.Words.{wordsOf, failureWords}
+use Rattle.words_spec.specs.Words.{wordsOf, failureWords}
 use Rattle.wash_words.proofs.record.zero_state.Statement.{statement}
 use Rattle.wash_words.proofs.record.zero_state.Tie as tie
 

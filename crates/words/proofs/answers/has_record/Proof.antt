@@ -1,6 +1,6 @@
 -- `words::answers::has_record` meets its contract, by the cases of an answer. Assumes nothing.
 use borrow.Author.Needs.{needs}
-use Rattle.words.specs.Calls.Laws.{has-given, has-refused, has-stopped}
+use Rattle.words_spec.specs.Calls.Laws.{has-given, has-refused, has-stopped}
 use Rattle.words.proofs.answers.has_record.Statement.{statement}
 use Rattle.words.proofs.answers.has_record.Tie as tie
 

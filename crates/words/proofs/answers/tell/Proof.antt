@@ -1,6 +1,6 @@
 -- `words::answers::tell` meets its contract, by the cases of an answer. Assumes nothing.
 use borrow.Author.Needs.{needs}
-use Rattle.words.specs.Calls.Laws.{tell-given, tell-refused, tell-stopped}
+use Rattle.words_spec.specs.Calls.Laws.{tell-given, tell-refused, tell-stopped}
 use Rattle.words.proofs.answers.tell.Statement.{statement}
 use Rattle.words.proofs.answers.tell.Tie as tie
 

@@ -1,6 +1,6 @@
 -- `words::answers::tell_offer` meets its contract, by the cases of an answer. Assumes nothing.
 use borrow.Author.Needs.{needs}
-use Rattle.words.specs.Calls.Laws.{tell-offers, tell-declined}
+use Rattle.words_spec.specs.Calls.Laws.{tell-offers, tell-declined}
 use Rattle.words.proofs.answers.tell_offer.Statement.{statement}
 use Rattle.words.proofs.answers.tell_offer.Tie as tie
 

@@ -1,6 +1,6 @@
 -- `words::record::load` meets its contract: `stateIn` reads the same five words. Assumes nothing.
 use borrow.Author.Needs.{needs}
-use Rattle.words.specs.Words.Laws.{loaded}
+use Rattle.words_spec.specs.Words.Laws.{loaded}
 use Rattle.words.proofs.record.load.Statement.{statement}
 use Rattle.words.proofs.record.load.Tie as tie
 

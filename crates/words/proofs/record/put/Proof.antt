@@ -1,6 +1,6 @@
 -- `words::record::put` meets its contract: five stores fill a list of five. Assumes nothing.
 use borrow.Author.Needs.{needs}
-use Rattle.words.specs.Words.Laws.{four-kept, five-stores}
+use Rattle.words_spec.specs.Words.Laws.{four-kept, five-stores}
 use Rattle.words.proofs.record.put.Statement.{statement}
 use Rattle.words.proofs.record.put.Tie as tie
 

@@ -1,6 +1,6 @@
 -- `words::record::store` meets its contract: the verdict says which words `wordsOf` has. Assumes nothing.
 use borrow.Author.Needs.{needs}
-use Rattle.words.specs.Words.Laws.{words-running, words-failed}
+use Rattle.words_spec.specs.Words.Laws.{words-running, words-failed}
 use Rattle.words.proofs.record.store.Statement.{statement}
 use Rattle.words.proofs.record.store.Tie as tie
 

@@ -1,5 +1,5 @@
 -- `words::record::verdict_in` meets its contract: the test says which case of `verdictIn` holds. Assumes nothing.
-use Rattle.words.specs.Words.Laws.{verdict-running, verdict-failed}
+use Rattle.words_spec.specs.Words.Laws.{verdict-running, verdict-failed}
 use Rattle.words.proofs.record.verdict_in.Statement.{statement}
 use Rattle.words.proofs.record.verdict_in.Tie as tie
 

@@ -1,6 +1,6 @@
 -- `words::tables::tell_table` meets its contract, by the cases of an answer. Assumes nothing.
 use borrow.Author.Needs.{needs}
-use Rattle.words.specs.Tables.Laws.{tell-count, tell-refused}
+use Rattle.words_spec.specs.Tables.Laws.{tell-count, tell-refused}
 use Rattle.words.proofs.tables.tell_table.Statement.{statement}
 use Rattle.words.proofs.tables.tell_table.Tie as tie
 

@@ -20,12 +20,12 @@ use Rattle.monitor_spec.specs.View.{Part, viewPart, viewOf}
 use Rattle.monitor_spec.specs.View.Laws.{part-parity, view-length}
 use Rattle.state.specs.Record.{stateOf, monitorOf}
 use Rattle.state.specs.Answers.{answerOf, outcome, offeredOf, offerOutcome}
-use Rattle.words.specs.Words.{recordMeasured, stateIn, wordsOf}
-use Rattle.words.specs.Calls.{answerNumber, answerPlace, recordAfter, MonitorTold, monitorSaid, monitorCall}
-use Rattle.words.specs.Calls.{monitorIn, unmeasured}
-use Rattle.words.specs.Calls.{openedOf, openSaid, openCall, feedCall, tryCall}
-use Rattle.words.specs.Calls.{offerNumber, offerValue, offerSecond, OfferTold, offerSaid, offeringCall, offerCall}
-use Rattle.words.specs.Calls.{viewSaid, viewing, viewCall}
+use Rattle.words_spec.specs.Words.{recordMeasured, stateIn, wordsOf}
+use Rattle.words_spec.specs.Calls.{answerNumber, answerPlace, recordAfter, MonitorTold, monitorSaid, monitorCall}
+use Rattle.words_spec.specs.Calls.{monitorIn, unmeasured}
+use Rattle.words_spec.specs.Calls.{openedOf, openSaid, openCall, feedCall, tryCall}
+use Rattle.words_spec.specs.Calls.{offerNumber, offerValue, offerSecond, OfferTold, offerSaid, offeringCall, offerCall}
+use Rattle.words_spec.specs.Calls.{viewSaid, viewing, viewCall}
 
 -- ---- a record that is not of five words
 

@@ -44,15 +44,15 @@ use Rattle.monitor_spec.specs.Open.{freshMonitor, openAccepted, openOf}
 use Rattle.monitor_spec.specs.Offer.{bitOf, bitsFrom, wordBits, wordFrom, allBits, offerBits, offering, offerOf}
 use Rattle.monitor_spec.specs.View.{partBy, viewPart}
 use Rattle.table.specs.Operations.{measured, readJudged, readOf, writeJudged, writeOf}
-use Rattle.words.specs.Words.{recordMeasured, verdictIn, stateIn, failureWords, wordsOf}
-use Rattle.words.specs.Tables as tables
-use Rattle.words.specs.Tables.{tableValue, tableCall, readCall, writeCall}
-use Rattle.words.specs.Calls as calls
-use Rattle.words.specs.Calls.{answerNumber, recordAfter, monitorCall, monitorIn, unmeasured}
-use Rattle.words.specs.Calls.{openedOf, openCall, feedCall, tryCall, offerNumber, offerValue, offerSecond}
-use Rattle.words.specs.Calls.{offerCall}
-use Rattle.words.specs.Calls.{viewing, viewCall}
-use Rattle.words.specs.Examples.{opened, started, fed, tried, offered, viewed, RowsHold}
+use Rattle.words_spec.specs.Words.{recordMeasured, verdictIn, stateIn, failureWords, wordsOf}
+use Rattle.words_spec.specs.Tables as tables
+use Rattle.words_spec.specs.Tables.{tableValue, tableCall, readCall, writeCall}
+use Rattle.words_spec.specs.Calls as calls
+use Rattle.words_spec.specs.Calls.{answerNumber, recordAfter, monitorCall, monitorIn, unmeasured}
+use Rattle.words_spec.specs.Calls.{openedOf, openCall, feedCall, tryCall, offerNumber, offerValue, offerSecond}
+use Rattle.words_spec.specs.Calls.{offerCall}
+use Rattle.words_spec.specs.Calls.{viewing, viewCall}
+use Rattle.words_spec.specs.Examples.{opened, started, fed, tried, offered, viewed, RowsHold}
 
 pub rows-hold : RowsHold
 unfolding flatMap size sizes bodyOf bodyNumber termIn termOfDefs termAt prefixesIn enclosingIn enclosing

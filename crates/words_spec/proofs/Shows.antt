@@ -8,8 +8,8 @@ use lib.Dec.{eqb}
 use borrow.Author.Tests.{eqb-true}
 use Rattle.monitor_spec.specs.State.{choose}
 use Rattle.monitor_spec.specs.View.{Part, viewPart, wordsIn, viewOf}
-use Rattle.words.specs.Words.{recordMeasured, stateIn}
-use Rattle.words.specs.Calls.{viewing, viewCall, monitorIn}
+use Rattle.words_spec.specs.Words.{recordMeasured, stateIn}
+use Rattle.words_spec.specs.Calls.{viewing, viewCall, monitorIn}
 
 -- the area that is told is the part's, where the part has words
 told : (p : Part) (a b : List ℕ) → take (viewing p .count) (choose (eqb (viewing p .area) 0) a b) ≡ wordsIn p a b

@@ -20,18 +20,18 @@ use Rattle.monitor_spec.specs.Offer.{Offered, offers, OfferOutcome, offerOf}
 use Rattle.monitor_spec.specs.Offer as operation
 use Rattle.monitor_spec.specs.View.{Part, viewPart, viewOf}
 use Rattle.monitor_spec.specs.View.Laws.{part-parity, view-length}
-use Rattle.words.specs.Words.{recordMeasured, stateIn}
-use Rattle.words.specs.Tables.{tableCall, readCall, writeCall}
-use Rattle.words.specs.Tables as tables
-use Rattle.words.specs.Calls.{MonitorCall, answerNumber, answerPlace, recordAfter, monitorCall, unmeasured}
-use Rattle.words.specs.Calls.{monitorIn, openedOf, openCall, feedCall, tryCall, OfferCall, offerNumber}
-use Rattle.words.specs.Calls.{offerValue, offeringCall, offerSecond, offerCall}
-use Rattle.words.specs.Calls.{viewing, viewCall}
-use Rattle.words.specs.Calls.Laws.{view-empty, view-words}
-use Rattle.words.specs.Ways.{CallWay, recordUnfit, callGiven, callRefused, callStopped, OfferWay, offerUnfit}
-use Rattle.words.specs.Ways.{OpenCallWay, TryWay, tryUnfit, furtherWay}
-use Rattle.words.specs.Ways.{offerGiven, offerRefused, ViewWay, viewUnfit, viewNone, viewSome, TableWay}
-use Rattle.words.specs.Ways.{tableDone, tableRefused}
+use Rattle.words_spec.specs.Words.{recordMeasured, stateIn}
+use Rattle.words_spec.specs.Tables.{tableCall, readCall, writeCall}
+use Rattle.words_spec.specs.Tables as tables
+use Rattle.words_spec.specs.Calls.{MonitorCall, answerNumber, answerPlace, recordAfter, monitorCall, unmeasured}
+use Rattle.words_spec.specs.Calls.{monitorIn, openedOf, openCall, feedCall, tryCall, OfferCall, offerNumber}
+use Rattle.words_spec.specs.Calls.{offerValue, offeringCall, offerSecond, offerCall}
+use Rattle.words_spec.specs.Calls.{viewing, viewCall}
+use Rattle.words_spec.specs.Calls.Laws.{view-empty, view-words}
+use Rattle.words_spec.specs.Ways.{CallWay, recordUnfit, callGiven, callRefused, callStopped, OfferWay, offerUnfit}
+use Rattle.words_spec.specs.Ways.{OpenCallWay, TryWay, tryUnfit, furtherWay}
+use Rattle.words_spec.specs.Ways.{offerGiven, offerRefused, ViewWay, viewUnfit, viewNone, viewSome, TableWay}
+use Rattle.words_spec.specs.Ways.{tableDone, tableRefused}
 
 -- ---- Open and Feed
 

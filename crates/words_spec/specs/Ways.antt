@@ -16,9 +16,9 @@ use Rattle.monitor_spec.specs.State.{State, given, refused, stopped, Outcome}
 use Rattle.monitor_spec.specs.History.{recordIn}
 use Rattle.monitor_spec.specs.Offer.{EventBits, offers, OfferOutcome}
 use Rattle.monitor_spec.specs.Offer as operation
-use Rattle.words.specs.Words.{stateIn, wordsOf}
-use Rattle.words.specs.Tables.{TableCall}
-use Rattle.words.specs.Calls.{MonitorCall, OpenCall, OfferCall, ViewCall}
+use Rattle.words_spec.specs.Words.{stateIn, wordsOf}
+use Rattle.words_spec.specs.Tables.{TableCall}
+use Rattle.words_spec.specs.Calls.{MonitorCall, OpenCall, OfferCall, ViewCall}
 pub mod Laws
 
 pub data CallWay (r a b w : List ℕ) (o : Outcome) : MonitorCall → Type 0 where

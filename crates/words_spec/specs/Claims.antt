@@ -20,12 +20,12 @@ use Rattle.monitor_spec.specs.Feed.{feedOf}
 use Rattle.monitor_spec.specs.Try.{tryOf}
 use Rattle.monitor_spec.specs.Offer.{offerOf}
 use Rattle.monitor_spec.specs.View.{viewOf}
-use Rattle.words.specs.Words.{recordMeasured, stateIn, wordsOf}
-use Rattle.words.specs.Tables.{isDone, readCall, writeCall}
-use Rattle.words.specs.Calls.{isGiven, isOffered, monitorIn, openCall, feedCall, tryCall, offerCall}
-use Rattle.words.specs.Calls.{viewCall}
-use Rattle.words.specs.Ways.{CallWay, OpenCallWay, TryWay, OfferWay, ViewWay, TableWay}
-use Rattle.words.specs.Examples.{RowsHold}
+use Rattle.words_spec.specs.Words.{recordMeasured, stateIn, wordsOf}
+use Rattle.words_spec.specs.Tables.{isDone, readCall, writeCall}
+use Rattle.words_spec.specs.Calls.{isGiven, isOffered, monitorIn, openCall, feedCall, tryCall, offerCall}
+use Rattle.words_spec.specs.Calls.{viewCall}
+use Rattle.words_spec.specs.Ways.{CallWay, OpenCallWay, TryWay, OfferWay, ViewWay, TableWay}
+use Rattle.words_spec.specs.Examples.{RowsHold}
 
 unfoldable pub RecordReadsBack : Type 0
 RecordReadsBack = (s : State) → stateIn (wordsOf s) ≡ s

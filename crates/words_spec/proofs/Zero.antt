@@ -27,14 +27,14 @@ use Rattle.monitor_spec.specs.Entering.{Entrance, shut, admits, entrance, entra
 use Rattle.monitor_spec.specs.Entering.Laws.{shut-all, on-all}
 use Rattle.monitor_spec.specs.Offer.{OfferOutcome, offering, offerOf}
 use Rattle.monitor_spec.specs.Offer.Laws.{offer-shut, offer-admits}
-use Rattle.words.specs.Nonzero.{list-some, bytes-some, Why, event-stop, through-why}
-use Rattle.words.specs.Words.{recordMeasured}
-use Rattle.words.specs.Tables as tables
-use Rattle.words.specs.Tables.{isDone, tableCall, readCall, writeCall}
-use Rattle.words.specs.Calls.{answerNumber, isGiven, monitorCall, monitorIn, unmeasured, openCall, feedCall}
-use Rattle.words.specs.Calls.{tryCall}
-use Rattle.words.specs.Calls.{offerNumber, isOffered, offerCall}
-use Rattle.words.specs.Calls as calls
+use Rattle.words_spec.specs.Nonzero.{list-some, bytes-some, Why, event-stop, through-why}
+use Rattle.words_spec.specs.Words.{recordMeasured}
+use Rattle.words_spec.specs.Tables as tables
+use Rattle.words_spec.specs.Tables.{isDone, tableCall, readCall, writeCall}
+use Rattle.words_spec.specs.Calls.{answerNumber, isGiven, monitorCall, monitorIn, unmeasured, openCall, feedCall}
+use Rattle.words_spec.specs.Calls.{tryCall}
+use Rattle.words_spec.specs.Calls.{offerNumber, isOffered, offerCall}
+use Rattle.words_spec.specs.Calls as calls
 
 -- ---- Read and Write
 

@@ -10,7 +10,7 @@ use Rattle.state.specs.declared.record.Verdict.the-variants.{Running, Failed}
 use Rattle.state.specs.declared.record.State.{State as StateCode}
 use Rattle.state.specs.Record.{verdictOf, stateOf}
 use Rattle.monitor_spec.specs.State.{Verdict, running, failedAt, State}
-use Rattle.words.specs.Words.{verdictIn, stateIn, failureWords, wordsOf}
+use Rattle.words_spec.specs.Words.{verdictIn, stateIn, failureWords, wordsOf}
 
 -- ---- the equations of verdictIn
 

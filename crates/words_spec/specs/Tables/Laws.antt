@@ -8,7 +8,7 @@ use Rattle.table.specs.declared.answer.Answer as code
 use Rattle.table.specs.declared.answer.Answer.the-variants.{Count, Refused}
 use Rattle.table.specs.Operations.{Outcome, readOf, writeOf}
 use Rattle.table.specs.Answers.{answerOf, outcome}
-use Rattle.words.specs.Tables.{TableTold, tableSaid, tableNumber, tableValue, tableCall, readCall, writeCall}
+use Rattle.words_spec.specs.Tables.{TableTold, tableSaid, tableNumber, tableValue, tableCall, readCall, writeCall}
 
 pub tell-count : (x : code.Answer) (n : ℕ) → x ≡ Count n → TableTold (answerOf x) 0 n
 unfolding tableNumber tableValue

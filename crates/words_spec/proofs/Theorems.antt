@@ -1,11 +1,11 @@
 -- A proof of each claim of `specs/Claims.antt`. Assumes nothing.
-use Rattle.words.specs.Words.Laws.{read-back}
-use Rattle.words.specs.Ways.Laws.{read-way, write-way, open-call-way, feed-way, try-way, offer-way}
-use Rattle.words.specs.Ways.Laws.{view-way}
-use Rattle.words.specs.Claims.{RecordReadsBack, CallsTell, ZeroExactly, ViewShows, Rows}
-use Rattle.words.proofs.Zero.{read-zero, write-zero, open-zero, feed-zero, try-zero, offer-zero}
-use Rattle.words.proofs.Shows.{shows}
-use Rattle.words.proofs.Rows.{rows-hold}
+use Rattle.words_spec.specs.Words.Laws.{read-back}
+use Rattle.words_spec.specs.Ways.Laws.{read-way, write-way, open-call-way, feed-way, try-way, offer-way}
+use Rattle.words_spec.specs.Ways.Laws.{view-way}
+use Rattle.words_spec.specs.Claims.{RecordReadsBack, CallsTell, ZeroExactly, ViewShows, Rows}
+use Rattle.words_spec.proofs.Zero.{read-zero, write-zero, open-zero, feed-zero, try-zero, offer-zero}
+use Rattle.words_spec.proofs.Shows.{shows}
+use Rattle.words_spec.proofs.Rows.{rows-hold}
 
 pub record-reads-back : RecordReadsBack
 unfolding RecordReadsBack

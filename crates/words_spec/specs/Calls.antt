@@ -19,7 +19,7 @@ use Rattle.monitor_spec.specs.Try.{tryOf}
 use Rattle.monitor_spec.specs.Offer.{Offered, offers, OfferOutcome, offerOf}
 use Rattle.monitor_spec.specs.Offer as operation
 use Rattle.monitor_spec.specs.View.{Part, viewPart}
-use Rattle.words.specs.Words.{recordMeasured, stateIn, wordsOf}
+use Rattle.words_spec.specs.Words.{recordMeasured, stateIn, wordsOf}
 pub mod Laws
 
 -- ---- Open and Feed
