@@ -13,9 +13,9 @@ ghost use Rattle.monitor_spec.specs.Consistent.{consistent as agrees};
 ghost use Rattle.state.specs.Record.{verdictOf, stateOf, monitorOf};
 use crate::record::State;
 use crate::record::Verdict;
-use crate::valid::all_zero;
-use crate::valid::below;
-use crate::valid::slot_fits;
+use valid_slots::all_zero;
+use valid_slots::below;
+use valid_slots::slot_fits;
 
 // Whether the first slots of an area are valid.
 fn slots_fit(list: &[u16], work: &[u64], area: &[u64], count: usize) -> bool

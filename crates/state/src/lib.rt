@@ -5,7 +5,6 @@ mod answer;
 mod consistency;
 mod lengths;
 mod record;
-mod valid;
 mod viewer;
 
 pub use answer::Answer;

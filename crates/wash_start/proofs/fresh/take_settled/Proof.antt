@@ -1,5 +1,5 @@
--- `wash_start::fresh::take_settled` meets its contract: what `resolve_last` holds is the settled monitor, or there is no
--- room for it. Assumes nothing.
+-- `wash_start::fresh::take_settled` meets its contract: what `resolve_last` holds is the settled monitor, or there is
+-- no room for it. Assumes nothing.
 use borrow.Author.Needs.{needs}
 use Rattle.opening.specs.Opening.Laws.{fresh-stands}
 use Rattle.wash_start.proofs.fresh.Settled.{settled-first, settled-crowded}
