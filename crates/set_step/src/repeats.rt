@@ -1,0 +1,145 @@
+// Whether results of a residual's leaves come again, by a look at a few of them. It says which of
+// two ways a step takes, which hold the same results: so nothing is promised of it. What it asks is
+// in `specs/Looking.antt`; the rule is in docs/DECISIONS.md, "When moves go the general way".
+use crate::memo::entry_at;
+use crate::memo::is_entry;
+use node_word::memory_of;
+use node_word::remember;
+use node_word::term_of;
+use resolving::resolve_into;
+ghost use mathlib.Core.Path.{_≡_};
+ghost use Prim.Native.Nat.{_<_, _≤_};
+ghost use lib.ListN.{length, getD};
+ghost use Rattle.table_index.specs.Index.{tableIn, Indexed};
+ghost use Rattle.node_word.specs.Word.{memoryBound, memoryOf};
+ghost use Rattle.residuals.specs.Residual.{resolve};
+ghost use Rattle.resolving.specs.Distinct.{Resolvable};
+ghost use Rattle.tree_walk.specs.Layout.{storeWords};
+ghost use Rattle.set_step.specs.Looking.{LooksLeaf, Looks};
+
+// A leaf with fewer branches is not looked at.
+const LEAST: u64 = 8;
+
+// One more than an entry keeps: where so many differ, there is nothing to keep.
+const MOST: u64 = 14;
+
+// A word's part in a key, and a key's in the next one, are below this.
+const KEYS: u64 = 1 << 58;
+
+// A key of a slot's words: those of equal slots are equal.
+fn key_of(slot: &[u64]) -> u64
+    requires { ⌜ (length (now slot) ≡ 16) × (getD (now slot) 0 0 < 16) ⌝ }
+{
+    let n = slot[0] as usize;
+    let mut key = 0;
+    let mut j = 1;
+    while j <= n {
+        key = key % KEYS * 31 + slot[j] % KEYS;
+        j += 1;
+    }
+    key
+}
+
+// The key of the i-th residual of term n with the memory of m.
+fn key_at(list: &[u16], work: &[u64], bound: usize, n: usize, m: u64, i: u64) -> u64
+    requires { ⌜ Indexed (now list) (now work) ⌝ }
+    requires { ⌜ Resolvable (tableIn (now list)) bound n (memoryOf m) × (m < memoryBound) ⌝ }
+    requires { ⌜ i < length (resolve (tableIn (now list)) n (memoryOf m)) ⌝ }
+{
+    let mut slot = [0u64; 16];
+    resolve_into(list, work, bound, n, m, i, &mut slot);
+    key_of(&slot)
+}
+
+// Whether a key is one of the first k.
+fn has_key(keys: &[u64], k: usize, key: u64) -> bool
+    requires { ⌜ k ≤ length (now keys) ⌝ }
+{
+    let mut j = 0;
+    while j < k {
+        if keys[j] == key {
+            return true;
+        }
+        j += 1;
+    }
+    false
+}
+
+// Whether among the first s residuals of term n two have the same key.
+fn any_again(list: &[u16], work: &[u64], bound: usize, n: usize, m: u64, s: u64) -> bool
+    requires { ⌜ Indexed (now list) (now work) ⌝ }
+    requires { ⌜ Resolvable (tableIn (now list)) bound n (memoryOf m) × (m < memoryBound) ⌝ }
+    requires { ⌜ (s ≤ length (resolve (tableIn (now list)) n (memoryOf m))) × (s ≤ 14) ⌝ }
+{
+    let mut keys = [0u64; 14];
+    let mut i = 0;
+    while i < s {
+        let key = key_at(list, work, bound, n, m, i);
+        let k = i as usize;
+        if has_key(&keys, k, key) {
+            return true;
+        }
+        keys[k] = key;
+        i += 1;
+    }
+    false
+}
+
+// How many of b results are looked at: one in four, no more than `MOST`.
+fn looked_at(b: u64) -> u64
+    ensures { λ r. ⌜ (r ≤ b) × (r ≤ 14) ⌝ }
+{
+    let s = b / 4;
+    if MOST < s {
+        return MOST;
+    }
+    s
+}
+
+// Whether results of a leaf come again: they are kept, or two of the first are the same.
+fn leaf_repeats(list: &[u16], work: &[u64], bound: usize, e: u64, w: u64, store: &[u64]) -> bool
+    requires { ⌜ Indexed (now list) (now work) ⌝ }
+    requires { ⌜ LooksLeaf (tableIn (now list)) bound e w ⌝ }
+    requires { ⌜ length (now store) ≡ storeWords ⌝ }
+{
+    let t = term_of(w) + 1;
+    let b = index::branches(list, work, t);
+    if b < LEAST {
+        return false;
+    }
+    if is_entry(store, entry_at(w, e), w, e) {
+        return true;
+    }
+    let m = remember(e, memory_of(w));
+    any_again(list, work, bound, t, m, looked_at(b))
+}
+
+// Whether results of one of the marked leaves come again, of the n nodes from p on.
+pub(crate) fn repeats(
+    list: &[u16],
+    work: &[u64],
+    bound: usize,
+    e: u64,
+    src: &[u64],
+    p: usize,
+    n: usize,
+    each: u64,
+    store: &[u64],
+) -> bool
+    requires { ⌜ Indexed (now list) (now work) ⌝ }
+    requires { ⌜ Looks (tableIn (now list)) bound e (now src) p n each ⌝ }
+    requires { ⌜ length (now store) ≡ storeWords ⌝ }
+{
+    let mut x = each;
+    let mut j = 0;
+    while j < n {
+        if x % 2 == 1 {
+            if leaf_repeats(list, work, bound, e, src[p + j], store) {
+                return true;
+            }
+        }
+        x /= 2;
+        j += 1;
+    }
+    false
+}
