@@ -7,6 +7,7 @@ use node_word::memory_of;
 use node_word::remember;
 use node_word::term_of;
 use resolving::resolve_into;
+use tree_walk::layout::ENTRY_MOST;
 ghost use mathlib.Core.Path.{_≡_};
 ghost use Prim.Native.Nat.{_<_, _≤_};
 ghost use lib.ListN.{length, getD};
@@ -21,10 +22,7 @@ ghost use Rattle.set_step.specs.Looking.{LooksLeaf, Looks};
 const LEAST: u64 = 8;
 
 // One more than an entry keeps: where so many differ, there is nothing to keep.
-const MOST: u64 = 14;
-
-// A word's part in a key, and a key's in the next one, are below this.
-const KEYS: u64 = 1 << 58;
+const MOST: u64 = ENTRY_MOST + 1;
 
 // A key of a slot's words: those of equal slots are equal.
 fn key_of(slot: &[u64]) -> u64
@@ -34,7 +32,7 @@ fn key_of(slot: &[u64]) -> u64
     let mut key = 0;
     let mut j = 1;
     while j <= n {
-        key = key % KEYS * 31 + slot[j] % KEYS;
+        key = (key << 13) ^ (key >> 51) ^ slot[j];
         j += 1;
     }
     key

@@ -1,5 +1,5 @@
 -- `set_step::repeats::any_again` is safe: i is at most s, which is at most the number of residuals. Assumes nothing.
-use Prim.Native.Nat.{_+_, _-_, _<_, _≤_}
+use Prim.Native.Nat.{_-_, _≤_}
 use native.Mathlib.Omega.{arith}
 use mathlib.Core.Path.{_≡_, refl}
 use lib.ListN.{length}

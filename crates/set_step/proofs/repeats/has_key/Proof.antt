@@ -1,5 +1,5 @@
 -- `set_step::repeats::has_key` is safe: j is at most k. Assumes nothing.
-use Prim.Native.Nat.{_+_, _-_, _<_, _≤_}
+use Prim.Native.Nat.{_-_, _≤_}
 use native.Mathlib.Omega.{arith}
 use borrow.Author.Needs.{needs}
 use Rattle.set_step.proofs.repeats.has_key.Statement.{statement}

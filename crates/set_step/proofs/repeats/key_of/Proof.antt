@@ -1,6 +1,5 @@
 -- `set_step::repeats::key_of` is safe: j is at most one more than the number of words. Assumes nothing.
-use Prim.Native.Nat.{_+_, _-_, _<_, _≤_}
-use native.Mathlib.Omega.{arith}
+use Prim.Native.Nat.{_+_, _-_, _≤_}
 use borrow.Author.Needs.{needs}
 use Rattle.set_step.proofs.repeats.key_of.Statement.{statement}
 use Rattle.set_step.proofs.repeats.key_of.Tie as tie
@@ -20,14 +19,8 @@ loop-holds c = search needs
 mul-key : tie.Need-mul-key Inv-loop μ-loop
 mul-key c = search needs
 
-mul-key-2 : tie.Need-mul-key-2 Inv-loop μ-loop
-mul-key-2 c = search needs
-
 shared-slice-read-key : tie.Need-shared-slice-read-key Inv-loop μ-loop
 shared-slice-read-key c = search needs
-
-add-key : tie.Need-add-key Inv-loop μ-loop
-add-key c = search needs
 
 add-j : tie.Need-add-j Inv-loop μ-loop
 add-j c = search needs
@@ -50,9 +43,7 @@ key-of-spec =
     shared-slice-read-n
     loop-holds
     mul-key
-    mul-key-2
     shared-slice-read-key
-    add-key
     add-j
     loop-less
     loop-again

@@ -1,5 +1,5 @@
 -- `set_step::repeats::repeats` is safe: the nodes from the j-th on can be looked at. Assumes nothing.
-use Prim.Native.Nat.{_+_, _-_, _<_, _≤_}
+use Prim.Native.Nat.{_+_, _-_, _≤_}
 use native.Mathlib.Omega.{arith}
 use Rattle.table_index.specs.Index.{tableIn}
 use Rattle.set_step.specs.Looking.{Looks}
