@@ -6,7 +6,9 @@ use crate::memo::is_entry;
 use node_word::memory_of;
 use node_word::remember;
 use node_word::term_of;
-use resolving::resolve_into;
+use resolving::Landed;
+use resolving::descend;
+use resolving::term_into;
 use tree_walk::layout::ENTRY_MOST;
 ghost use mathlib.Core.Path.{_≡_};
 ghost use Prim.Native.Nat.{_<_, _≤_};
@@ -14,7 +16,8 @@ ghost use lib.ListN.{length, getD};
 ghost use Rattle.table_index.specs.Index.{tableIn, Indexed};
 ghost use Rattle.node_word.specs.Word.{memoryBound, memoryOf};
 ghost use Rattle.residuals.specs.Residual.{resolve};
-ghost use Rattle.resolving.specs.Distinct.{Resolvable};
+ghost use Rattle.resolving.specs.Distinct.{empty, Resolvable};
+ghost use Rattle.resolving.specs.ResidualWords.{Resolves};
 ghost use Rattle.tree_walk.specs.Layout.{storeWords};
 ghost use Rattle.set_step.specs.Looking.{LooksLeaf, Looks};
 
@@ -24,7 +27,7 @@ const LEAST: u64 = 8;
 // One more than an entry keeps: where so many differ, there is nothing to keep.
 const MOST: u64 = ENTRY_MOST + 1;
 
-// A key of a slot's words: those of equal slots are equal.
+// A key of a slot's words: equal slots have equal keys.
 fn key_of(slot: &[u64]) -> u64
     requires { ⌜ (length (now slot) ≡ 16) × (getD (now slot) 0 0 < 16) ⌝ }
 {
@@ -38,15 +41,35 @@ fn key_of(slot: &[u64]) -> u64
     key
 }
 
-// The key of the i-th residual of term n with the memory of m.
-fn key_at(list: &[u16], work: &[u64], bound: usize, n: usize, m: u64, i: u64) -> u64
+// The key of the i-th residual of a term that is a parallel.
+fn pair_key(list: &[u16], work: &[u64], bound: usize, n: usize, m: u64, i: u64) -> u64
+    requires { ⌜ Indexed (now list) (now work) ⌝ }
+    requires { ⌜ Resolves (tableIn (now list)) bound n (memoryOf m) i empty ⌝ }
+    requires { ⌜ m < memoryBound ⌝ }
+{
+    let mut slot = [0u64; 16];
+    term_into(list, work, bound, n, m, i, &mut slot);
+    key_of(&slot)
+}
+
+// The key of the i-th residual of term n with the memory of m; that of a leaf is its word. The empty
+// slot is not read: it names in `descend`'s contract what the residual is to follow.
+fn key_at(list: &[u16], work: &[u64], bound: usize, n: usize, m: u64, i: u64, none: &[u64]) -> u64
     requires { ⌜ Indexed (now list) (now work) ⌝ }
     requires { ⌜ Resolvable (tableIn (now list)) bound n (memoryOf m) × (m < memoryBound) ⌝ }
     requires { ⌜ i < length (resolve (tableIn (now list)) n (memoryOf m)) ⌝ }
+    requires { ⌜ now none ≡ empty ⌝ }
 {
-    let mut slot = [0u64; 16];
-    resolve_into(list, work, bound, n, m, i, &mut slot);
-    key_of(&slot)
+    match descend(list, work, bound, n, m, i, none) {
+        Landed::Nothing => 0,
+        Landed::Leaf(w) => w,
+        Landed::Pair {
+            bound: b,
+            term,
+            memory,
+            index,
+        } => pair_key(list, work, b, term, memory, index),
+    }
 }
 
 // Whether a key is one of the first k.
@@ -69,10 +92,11 @@ fn any_again(list: &[u16], work: &[u64], bound: usize, n: usize, m: u64, s: u64)
     requires { ⌜ Resolvable (tableIn (now list)) bound n (memoryOf m) × (m < memoryBound) ⌝ }
     requires { ⌜ (s ≤ length (resolve (tableIn (now list)) n (memoryOf m))) × (s ≤ 14) ⌝ }
 {
+    let none = [0u64; 16];
     let mut keys = [0u64; 14];
     let mut i = 0;
     while i < s {
-        let key = key_at(list, work, bound, n, m, i);
+        let key = key_at(list, work, bound, n, m, i, &none);
         let k = i as usize;
         if has_key(&keys, k, key) {
             return true;

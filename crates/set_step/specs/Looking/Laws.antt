@@ -16,7 +16,7 @@ use Rattle.residuals.specs.Residual.{resolve}
 use Rattle.residuals.specs.Slots.{nodes}
 use Rattle.resolving.specs.Words.{kindAt}
 use Rattle.resolving.specs.Lawful.{Lawful, follower-in}
-use Rattle.resolving.specs.ResidualWords.{nth, resolvedInto}
+use Rattle.resolving.specs.ResidualWords.{nth, Resolves, resolvedInto}
 use Rattle.resolving.specs.ResidualWords.Pushed.{head-pushAll}
 use Rattle.resolving.specs.Distinct.{window, empty, Resolvable}
 use Rattle.resolving.specs.Distinct.Laws.{window-cons}
@@ -61,11 +61,11 @@ module _ {t : Table} {bound e w : ℕ} (law : Lawful t) (s : LooksLeaf t bound e
 
 -- ---- a residual in a slot
 
-pub key-fits : (t : Table) (b n : ℕ) (m : Memory) (i : ℕ) (slot : List ℕ) → Resolvable t b n m
-    → i < length (resolve t n m) → slot ≡ resolvedInto t n m i empty → getD slot 0 0 < 16
+pub key-fits : (t : Table) (b n : ℕ) (m : Memory) (i : ℕ) (slot : List ℕ) → Resolves t b n m i empty
+    → slot ≡ resolvedInto t n m i empty → getD slot 0 0 < 16
 unfolding resolvedInto
-key-fits t b n m i slot s h es =
-    rw es (omega (arith, head-pushAll empty (nodes (nth (resolve t n m) i)) refl, s .fits i h))
+key-fits t b n m i slot s es =
+    rw es (omega (arith, head-pushAll empty (nodes (nth (resolve t n m) i)) refl, s .room))
 
 -- ---- the nodes
 
