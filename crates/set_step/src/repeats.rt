@@ -1,6 +1,6 @@
-// Whether results of a residual's leaves come again, by a look at a few of them. It says which of
-// two ways a step takes, which hold the same results: so nothing is promised of it. What it asks is
-// in `specs/Looking.antt`; the rule is in docs/DECISIONS.md, "When moves go the general way".
+// Whether results of a residual's leaves come again, by a look at some of them. It says which of two
+// ways a step takes, and both have the same promise: so nothing is promised of what is here. What it
+// asks is in `specs/Looking.antt`; the rule is in docs/DECISIONS.md, "When moves go the general way".
 use crate::memo::entry_at;
 use crate::memo::is_entry;
 use node_word::memory_of;
@@ -23,9 +23,6 @@ ghost use Rattle.set_step.specs.Looking.{LooksLeaf, Looks};
 
 // A leaf with fewer branches is not looked at.
 const LEAST: u64 = 8;
-
-// One more than an entry keeps: where so many differ, there is nothing to keep.
-const MOST: u64 = ENTRY_MOST + 1;
 
 // A key of a slot's words: equal slots have equal keys.
 fn key_of(slot: &[u64]) -> u64
@@ -86,39 +83,38 @@ fn has_key(keys: &[u64], k: usize, key: u64) -> bool
     false
 }
 
-// Whether among the first s residuals of term n two have the same key.
-fn any_again(list: &[u16], work: &[u64], bound: usize, n: usize, m: u64, s: u64) -> bool
+// Whether the b residuals of term n have no more keys than an entry keeps, and two of the first s
+// have the same.
+fn few(list: &[u16], work: &[u64], bound: usize, n: usize, m: u64, b: u64, s: u64) -> bool
     requires { ⌜ Indexed (now list) (now work) ⌝ }
     requires { ⌜ Resolvable (tableIn (now list)) bound n (memoryOf m) × (m < memoryBound) ⌝ }
-    requires { ⌜ (s ≤ length (resolve (tableIn (now list)) n (memoryOf m))) × (s ≤ 14) ⌝ }
+    requires { ⌜ b ≤ length (resolve (tableIn (now list)) n (memoryOf m)) ⌝ }
 {
     let none = [0u64; 16];
-    let mut keys = [0u64; 14];
+    let mut keys = [0u64; 13];
+    let mut k = 0;
     let mut i = 0;
-    while i < s {
+    while i < b {
+        if s <= i {
+            if i == k as u64 {
+                return false;
+            }
+        }
         let key = key_at(list, work, bound, n, m, i, &none);
-        let k = i as usize;
+        i += 1;
         if has_key(&keys, k, key) {
-            return true;
+            continue;
+        }
+        if k as u64 == ENTRY_MOST {
+            return false;
         }
         keys[k] = key;
-        i += 1;
+        k += 1;
     }
-    false
+    true
 }
 
-// How many of b results are looked at: one in four, no more than `MOST`.
-fn looked_at(b: u64) -> u64
-    ensures { λ r. ⌜ (r ≤ b) × (r ≤ 14) ⌝ }
-{
-    let s = b / 4;
-    if MOST < s {
-        return MOST;
-    }
-    s
-}
-
-// Whether results of a leaf come again: they are kept, or two of the first are the same.
+// Whether results of a leaf come again: they are kept, or are seen to be few.
 fn leaf_repeats(list: &[u16], work: &[u64], bound: usize, e: u64, w: u64, store: &[u64]) -> bool
     requires { ⌜ Indexed (now list) (now work) ⌝ }
     requires { ⌜ LooksLeaf (tableIn (now list)) bound e w ⌝ }
@@ -133,7 +129,7 @@ fn leaf_repeats(list: &[u16], work: &[u64], bound: usize, e: u64, w: u64, store:
         return true;
     }
     let m = remember(e, memory_of(w));
-    any_again(list, work, bound, t, m, looked_at(b))
+    few(list, work, bound, t, m, b, b / 4)
 }
 
 // Whether results of one of the marked leaves come again, of the n nodes from p on.
@@ -153,15 +149,15 @@ pub(crate) fn repeats(
     requires { ⌜ length (now store) ≡ storeWords ⌝ }
 {
     let mut x = each;
-    let mut j = 0;
-    while j < n {
+    let mut at = p;
+    while 0 < x {
         if x % 2 == 1 {
-            if leaf_repeats(list, work, bound, e, src[p + j], store) {
+            if leaf_repeats(list, work, bound, e, src[at], store) {
                 return true;
             }
         }
         x /= 2;
-        j += 1;
+        at += 1;
     }
     false
 }

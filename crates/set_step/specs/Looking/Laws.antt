@@ -1,10 +1,12 @@
 -- The laws of a look at a residual's results.
 --     follower-known, follower-resolves     a leaf's follower is a term, which can be resolved
 --     key-fits                              a residual of such a term fits a slot
---     looks-from, looks-leaf, looks-next    the first nodes; a marked leaf; the nodes after the first
+--     looks-from, looks-head                the first nodes; there are some where one is marked
+--     looks-leaf, looks-next                a marked leaf; the nodes after the first
 -- Assumes nothing.
 use Prim.Native.Nat.{ℕ, suc, _+_, _-_, _/_, _%_, _<_, _≤_}
 use native.Mathlib.Omega.{arith}
+use native.Mathlib.Decide.{decLt}
 use mathlib.Core.Path.{_≡_, refl, ap, _∙_}
 use mathlib.Core.List.{List, _∷_, map}
 use lib.ListN.{length, getD}
@@ -19,7 +21,7 @@ use Rattle.resolving.specs.Lawful.{Lawful, follower-in}
 use Rattle.resolving.specs.ResidualWords.{nth, Resolves, resolvedInto}
 use Rattle.resolving.specs.ResidualWords.Pushed.{head-pushAll}
 use Rattle.resolving.specs.Distinct.{window, empty, Resolvable}
-use Rattle.resolving.specs.Distinct.Laws.{window-cons}
+use Rattle.resolving.specs.Distinct.Laws.{window-cons, window-none}
 use Rattle.tree_walk.specs.Walk.{room, leafResults, longest}
 use Rattle.tree_walk.specs.Walk.Leaves.{results-yes, nodes-short}
 use Rattle.tree_moves.specs.Only.{Movable}
@@ -72,6 +74,16 @@ key-fits t b n m i slot s es =
 pub looks-from : {t : Table} {bound e : ℕ} {src : List ℕ} {p n each : ℕ} → Looks t bound e src p n each → (q k : ℕ)
     → q ≡ p → k ≡ n → Looks t bound e src q k each
 looks-from s q k eq ek = rw (eq, ek) s
+
+pub looks-head : {t : Table} {bound e : ℕ} {src : List ℕ} {p n each : ℕ} → Looks t bound e src p n each → 0 < each
+    → 0 < n
+looks-head {src = src} {p = p} {n = n} s h =
+    elim (decLt 0 n) [
+      | yes y ↦ y
+      | no y ↦
+          let z : n ≡ 0 = omega arith in
+          absurd (omega (arith, h, rw (z, window-none p src) at (s .can)))
+    ]
 
 module _ {t : Table} {bound e : ℕ} {src : List ℕ} {p n each : ℕ} (s : Looks t bound e src p n each) (some : 0 < n) where
   split : window p n src ≡ getD src p 0 ∷ window (p + 1) (n - 1) src

@@ -48,26 +48,17 @@ remember-requires c κs =
     let at-start = c .before .before .before .before .before .before .before .before .before .before in
     (event-small (lawful (at-start .pre .0)) (at-start .pre .1 .0 .event), c .memory-of .ensures .1)
 
-looked-at-requires : tie.Need-looked-at-requires
-looked-at-requires c κs = search needs
-
-any-again-requires : tie.Need-any-again-requires
-any-again-requires c κs =
-    let at-remember = c .before in
-    let at-memory-of = at-remember .before in
+few-requires : tie.Need-few-requires
+few-requires c κs =
+    let at-memory-of = c .before in
     let at-branches = at-memory-of .before .before .before .before .before in
     let at-term-of = at-branches .before in
     let at-start = at-term-of .before .before .before .before in
     let law = lawful (at-start .pre .0) in
     let asked = follower-resolves law (at-start .pre .1 .0) _ (at-term-of .term-of .ensures) _ _
-    (at-memory-of .memory-of .ensures .0) (at-remember .remember .ensures .0) in
-    let count = branches-exact _ law _ _ _ _ asked (at-branches .branches .ensures .0) in (
-      at-start .pre .0,
-      (
-        (asked, at-remember .remember .ensures .1),
-        (omega (arith, count .0, c .looked-at .ensures .0), c .looked-at .ensures .1),
-      ),
-    )
+    (at-memory-of .memory-of .ensures .0) (c .remember .ensures .0) in
+    let count = branches-exact _ law _ _ _ _ asked (at-branches .branches .ensures .0) in
+    (at-start .pre .0, ((asked, c .remember .ensures .1), omega (arith, count .0)))
 
 returns-3 : tie.Need-returns-3
 returns-3 c = search needs
@@ -85,6 +76,5 @@ leaf-repeats-spec =
     returns-2
     memory-of-requires
     remember-requires
-    looked-at-requires
-    any-again-requires
+    few-requires
     returns-3)
