@@ -1,6 +1,7 @@
-// Whether results of a residual's leaves come again, by a look at some of them. It says which of two
-// ways a step takes, and both have the same promise: so nothing is promised of what is here. What it
-// asks is in `specs/Looking.antt`; the rule is in docs/DECISIONS.md, "When moves go the general way".
+// Whether results of a residual's leaves come again, by a look at some of them. It says which of
+// two ways a step takes, and both have the same promise: so nothing is promised of what is here.
+// What it asks is in `specs/Looking.antt`; the rule is in docs/DECISIONS.md, "When moves go the
+// general way".
 use crate::memo::entry_at;
 use crate::memo::is_entry;
 use node_word::memory_of;
@@ -49,8 +50,8 @@ fn pair_key(list: &[u16], work: &[u64], bound: usize, n: usize, m: u64, i: u64) 
     key_of(&slot)
 }
 
-// The key of the i-th residual of term n with the memory of m; that of a leaf is its word. The empty
-// slot is not read: it names in `descend`'s contract what the residual is to follow.
+// The key of the i-th residual of term n with the memory of m; that of a leaf is its word. The
+// empty slot is not read: it names in `descend`'s contract what the residual is to follow.
 fn key_at(list: &[u16], work: &[u64], bound: usize, n: usize, m: u64, i: u64, none: &[u64]) -> u64
     requires { ⌜ Indexed (now list) (now work) ⌝ }
     requires { ⌜ Resolvable (tableIn (now list)) bound n (memoryOf m) × (m < memoryBound) ⌝ }
