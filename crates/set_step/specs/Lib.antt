@@ -2,6 +2,7 @@
 -- residuals of a definition. Assumes nothing.
 pub mod Memo
 pub mod Prepared
+pub mod Looking
 pub mod Stepped
 pub mod Successors
 pub mod Started

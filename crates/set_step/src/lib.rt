@@ -3,6 +3,7 @@
 // in reading order, and `specs/Claims.antt` says what `step_set`'s promise comes to.
 mod memo;
 mod preparing;
+mod repeats;
 mod starts;
 mod steps;
 

@@ -1,6 +1,7 @@
 // A set of residuals and one event: all results of all residuals, held in another area. The
 // definitions are in `specs/Stepped.antt`; `specs/Claims.antt` says what they come to.
 use crate::preparing::prepare;
+use crate::repeats::repeats;
 use slots::Held;
 use slots::put;
 use tree_moves::Way;
@@ -58,7 +59,7 @@ fn step_many(
 }
 
 // Holds all results of the i-th residual of an area in another; only where its moves do not say
-// them is the store needed.
+// them, or results of a leaf come again, is the store needed.
 fn step_one(
     list: &[u16],
     work: &[u64],
@@ -89,6 +90,9 @@ fn step_one(
                 return put(dst, c, &s);
             }
             let each = moves.each;
+            if repeats(list, work, bound, e, src, at + 1, n, each, store) {
+                return step_many(list, work, bound, e, src, i, store, dst, c);
+            }
             let also = moves.also;
             step_moves(
                 list,

@@ -3,6 +3,7 @@
 --     still-one                      it has no result
 --     lone-rebuilds, lone-done       it has one
 --     several-asks, several-done     it has those that moves say
+--     several-looks                  these can be looked at
 --     loaded-sound, start-place, many-done, many-one     it may have others
 -- Assumes nothing.
 use Prim.Native.Nat.{ℕ, _+_, _-_, _*_, _<_, _≤_, _^_}
@@ -41,6 +42,7 @@ use Rattle.tree_moves.specs.Members.{short-of, same-after}
 use Rattle.set_step.specs.Memo.Laws.{memo-behind}
 use Rattle.set_step.specs.Prepared.{Sound, Fills}
 use Rattle.set_step.specs.Prepared.Below.{nodes-same, window-of-prefix}
+use Rattle.set_step.specs.Looking.{Looks}
 use Rattle.set_step.specs.Stepped.{slotNodes, StepsOne, steppedOne, SteppedOne}
 use Rattle.set_step.specs.Successors.Laws.{results-of}
 
@@ -133,6 +135,15 @@ module _ {t : Table} {bound e : ℕ} {src : List ℕ} {i : ℕ} {store dst : Lis
         can = rw nodes-here (moved-by .can);
         rest = record { clean = clean-empty; room = room-here; marked = rw nodes-here (moved-by .marked) };
         held = s .held;
+      }
+
+      pub several-looks : Looks t bound e src (i * 16 + 1) n (m .each)
+      several-looks = record {
+        event = s .event;
+        whole = s .whole;
+        inside = inside-here;
+        can = rw nodes-here (moved-by .can);
+        room = omega (arith, room-here);
       }
 
       pub several-done : (r : Held) (l : List ℕ)

@@ -38,7 +38,21 @@ pub fn inputs() -> Vec<Input> {
         cycle(
             "stress: repeats, one lane",
             "P = {0} -> 256 times P, alone; one residual, one leaf with 256 repeats",
-            repeats_alone(),
+            repeats_alone(256),
+            vec![],
+            vec![0, 0],
+        ),
+        cycle(
+            "stress: 16 repeats, one lane",
+            "P = {0} -> 16 times P, alone; one residual, one leaf with 16 repeats",
+            repeats_alone(16),
+            vec![],
+            vec![0, 0],
+        ),
+        cycle(
+            "stress: two by turns",
+            "P, Q = {0} -> 128 times P or Q, alone; two residuals, each with 256 results by turns",
+            by_turns(),
             vec![],
             vec![0, 0],
         ),
@@ -129,9 +143,15 @@ fn twice(set: &str) -> Vec<u16> {
     list_of(&[&format!("03 02 00 01 00 00 00 02 00 03 02 00 05 00 02 00 05 00 01 {eight}")])
 }
 
-// def 0 = {0} -> call 1, def 1 = 256 times call 0
-fn repeats_alone() -> Vec<u16> {
-    list_of(&[&format!("{ONE_SET} 02 00 02 00 05 01 00 {}", chosen(256, "05 00"))])
+// def 0 = {0} -> call 1, def 1 = `count` times call 0
+fn repeats_alone(count: usize) -> Vec<u16> {
+    list_of(&[&format!("{ONE_SET} 02 00 02 00 05 01 00 {}", chosen(count, "05 00"))])
+}
+
+// defs 0 and 1 = {0} -> call 2, def 2 = 128 times call 0 choice call 1
+fn by_turns() -> Vec<u16> {
+    let table = "03 00 02 00 05 02 00 02 00 05 02 00";
+    list_of(&[&format!("{ONE_SET} {table} {}", chosen(128, "03 05 00 05 01"))])
 }
 
 // def 0 = {0} -> call 1, def 1 = 256 times call 0, def 2 (level 1) = eight times call 0 over {0}

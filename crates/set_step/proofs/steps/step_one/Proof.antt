@@ -3,7 +3,7 @@
 use native.Mathlib.Omega.{arith}
 use mathlib.Core.Path.{refl}
 use Rattle.set_step.specs.Stepped.One.{slot-rooted, still-one, marks-few, lone-rebuilds, lone-done, several-asks}
-use Rattle.set_step.specs.Stepped.One.{several-done, many-one}
+use Rattle.set_step.specs.Stepped.One.{several-looks, several-done, many-one}
 use borrow.Author.Needs.{needs}
 use Rattle.set_step.proofs.steps.step_one.Statement.{statement}
 use Rattle.set_step.proofs.steps.step_one.Tie as tie
@@ -77,12 +77,44 @@ returns c =
       at-start .pre .1 .leaves,
     )
 
+add-repeats : tie.Need-add-repeats
+add-repeats c = search needs
+
+repeats-requires : tie.Need-repeats-requires
+repeats-requires c κs =
+    let at-moves = c .before .before .before in
+    let at-way-of = at-moves .before .before in
+    let at-start = at-way-of .before .before .before .before .before .before .before in (
+      at-start .pre .0,
+      (
+        several-looks (at-start .pre .1) _ refl _ (at-way-of .way-of .ensures) _ (at-moves .moves .given .1),
+        at-start .pre .1 .leaves .size,
+      ),
+    )
+
+step-many-requires : tie.Need-step-many-requires
+step-many-requires c κs = search needs
+
+same-length-2 : tie.Need-same-length-2
+same-length-2 c = search needs
+
+same-length-3 : tie.Need-same-length-3
+same-length-3 c = search needs
+
+-- results of a leaf come again
+returns-2 : tie.Need-returns-2
+returns-2 c =
+    let at-step-many = c .before .before .before .before in
+    let at-way-of = at-step-many .before .before .before .before .before .before .before .before .before .before in
+    let at-start = at-way-of .before .before .before .before .before .before .before in
+    (many-one (at-start .pre .1) _ _ (at-step-many .step-many .ensures .0), at-step-many .step-many .ensures .1)
+
 add-step-moves : tie.Need-add-step-moves
 add-step-moves c = search needs
 
 step-moves-requires : tie.Need-step-moves-requires
 step-moves-requires c κs =
-    let at-moves = c .before .before .before in
+    let at-moves = c .before .before .before .before .before .before in
     let at-way-of = at-moves .before .before in
     let at-start = at-way-of .before .before .before .before .before .before .before in (
       at-start .pre .0,
@@ -93,11 +125,11 @@ step-moves-requires c κs =
 enum-told-2 : tie.Need-enum-told-2
 enum-told-2 c = search needs
 
-step-many-requires : tie.Need-step-many-requires
-step-many-requires c κs = search needs
+step-many-requires-2 : tie.Need-step-many-requires-2
+step-many-requires-2 c κs = search needs
 
-returns-2 : tie.Need-returns-2
-returns-2 c =
+returns-3 : tie.Need-returns-3
+returns-3 c =
     let at-way-of = c .before .before in
     let at-start = at-way-of .before .before .before .before .before .before .before in (
       still-one (at-start .pre .1) _ refl _ (at-way-of .way-of .ensures) (c .enum-told .given .1),
@@ -105,13 +137,16 @@ returns-2 c =
           .leaves,
     )
 
-same-length-2 : tie.Need-same-length-2
-same-length-2 c = search needs
+same-length-4 : tie.Need-same-length-4
+same-length-4 c = search needs
 
-returns-3 : tie.Need-returns-3
-returns-3 c =
+same-length-5 : tie.Need-same-length-5
+same-length-5 c = search needs
+
+returns-4 : tie.Need-returns-4
+returns-4 c =
     let at-step-moves = c .before .before in
-    let at-moves = at-step-moves .before .before .before .before in
+    let at-moves = at-step-moves .before .before .before .before .before .before .before in
     let at-way-of = at-moves .before .before in
     let at-start = at-way-of .before .before .before .before .before .before .before in (
       several-done (at-start .pre .1) _ refl _ (at-way-of .way-of .ensures) _ (at-moves .moves .given .1) _ _
@@ -119,18 +154,18 @@ returns-3 c =
       at-start .pre .1 .leaves,
     )
 
-same-length-3 : tie.Need-same-length-3
-same-length-3 c = search needs
+same-length-6 : tie.Need-same-length-6
+same-length-6 c = search needs
 
-same-length-4 : tie.Need-same-length-4
-same-length-4 c = search needs
+same-length-7 : tie.Need-same-length-7
+same-length-7 c = search needs
 
-returns-4 : tie.Need-returns-4
-returns-4 c =
+returns-5 : tie.Need-returns-5
+returns-5 c =
     let at-step-many = c .before .before .before .before in
     let at-start = at-step-many .before .before .before .before .before .before .before .before .before .before
     .before .before in
-    (many-one (at-start .pre .1) _ _ (at-step-many .step-many .ensures .0), at-step-many .step-many .ensures .1)
+    (many-one (at-start .pre .1) _ _ (at-step-many .step-many2 .ensures .0), at-step-many .step-many2 .ensures .1)
 
 pub step-one-spec : {M : Type 1} → statement M
 step-one-spec =
@@ -151,13 +186,20 @@ step-one-spec =
     put-requires
     same-length
     returns
+    add-repeats
+    repeats-requires
+    step-many-requires
+    same-length-2
+    same-length-3
+    returns-2
     add-step-moves
     step-moves-requires
     enum-told-2
-    step-many-requires
-    returns-2
-    same-length-2
+    step-many-requires-2
     returns-3
-    same-length-3
     same-length-4
-    returns-4)
+    same-length-5
+    returns-4
+    same-length-6
+    same-length-7
+    returns-5)
