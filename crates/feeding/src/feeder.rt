@@ -5,7 +5,7 @@ ghost use Prim.Native.Nat.{_≤_, min, max};
 ghost use lib.ListN.{length};
 ghost use Rattle.table_index.specs.Index.{tableIn, Indexed};
 ghost use Rattle.monitor_spec.specs.Feed.{feedOf};
-ghost use Rattle.set_step.specs.Memo.{StoreOf};
+ghost use Rattle.leaf_memo.specs.Memo.{StoreOf};
 ghost use Rattle.state.specs.Record.{monitorOf};
 ghost use Rattle.state.specs.Answers.{outcome};
 ghost use Rattle.taking.specs.Taking.{Standing};

@@ -5,7 +5,7 @@ ghost use mathlib.Core.Path.{_≡_};
 ghost use Prim.Native.Nat.{_≤_, _<_};
 ghost use lib.ListN.{length};
 ghost use Rattle.table_index.specs.Index.{tableIn, Indexed};
-ghost use Rattle.set_step.specs.Memo.{StoreOf};
+ghost use Rattle.leaf_memo.specs.Memo.{StoreOf};
 ghost use Rattle.state.specs.Record.{monitorOf};
 ghost use Rattle.taking.specs.Taking.{Standing};
 ghost use Rattle.taking.specs.Runs.{EndedFrom, RunBy};

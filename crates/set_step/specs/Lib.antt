@@ -1,8 +1,5 @@
 -- The step in reading order: one residual and one event, a whole set and one event, and what that comes to; the
 -- residuals of a definition. Assumes nothing.
-pub mod Memo
-pub mod Prepared
-pub mod Looking
 pub mod Stepped
 pub mod Successors
 pub mod Started

@@ -19,7 +19,7 @@ use Rattle.resolving.specs.Lawful.{Lawful}
 use Rattle.resolving.specs.Distinct.{window, empty}
 use Rattle.tree_walk.specs.Walk.{room, results, onto}
 use Rattle.tree_walk.specs.Forest.{Valid}
-use Rattle.set_step.specs.Memo.{StoreOf}
+use Rattle.leaf_memo.specs.Memo.{StoreOf}
 pub mod One
 pub mod Laws
 

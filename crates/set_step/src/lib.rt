@@ -1,14 +1,11 @@
 // The step from one set of residuals to the next (01, "Residuals"), at the level of words: slots of
 // sixteen words in an area, ascending. The definitions are in `specs/`; `specs/Lib.antt` lists them
 // in reading order, and `specs/Claims.antt` says what `step_set`'s promise comes to.
-mod memo;
-mod preparing;
-mod repeats;
 mod starts;
 mod steps;
 
-pub use memo::forget;
-pub use memo::keeps_some;
+pub use leaf_memo::forget;
+pub use leaf_memo::keeps_some;
 pub use slots::Held;
 pub use starts::resolve_set;
 pub use steps::step_set;

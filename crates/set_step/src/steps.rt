@@ -1,7 +1,7 @@
 // A set of residuals and one event: all results of all residuals, held in another area. The
 // definitions are in `specs/Stepped.antt`; `specs/Claims.antt` says what they come to.
-use crate::preparing::prepare;
-use crate::repeats::repeats;
+use leaf_repeats::repeats;
+use leaf_results::prepare;
 use slots::Held;
 use slots::put;
 use tree_moves::Way;
@@ -15,7 +15,7 @@ ghost use lib.ListN.{length, take, drop};
 ghost use Rattle.table_index.specs.Index.{tableIn, Indexed};
 ghost use Rattle.resolving.specs.Distinct.{window};
 ghost use Rattle.slots.specs.Holding.{Gave};
-ghost use Rattle.set_step.specs.Memo.{StoreOf};
+ghost use Rattle.leaf_memo.specs.Memo.{StoreOf};
 ghost use Rattle.set_step.specs.Stepped.{Source, StepsOne, steppedOne, SteppedOne, SteppedSet};
 
 // Copies the sixteen words from p on to the front of the store.

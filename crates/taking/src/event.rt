@@ -6,7 +6,7 @@ ghost use Rattle.table_index.specs.Index.{tableIn, Indexed};
 ghost use Rattle.monitor_spec.specs.State.{slotCount};
 ghost use Rattle.state.specs.Record.{monitorOf};
 ghost use Rattle.tree_walk.specs.Layout.{storeWords};
-ghost use Rattle.set_step.specs.Memo.{StoreOf};
+ghost use Rattle.leaf_memo.specs.Memo.{StoreOf};
 ghost use Rattle.step_laws.specs.Holds.{AreaHolds, heldIn};
 ghost use Rattle.taking.specs.Taking.{Empty, NextBy, Holding, Standing, Advanced};
 ghost use Rattle.taking.specs.Taking.{Moved, TakenBy};

@@ -19,7 +19,7 @@ use Rattle.slots.specs.Canon.Members.{same-refl, same-trans, same-append}
 use Rattle.resolving.specs.Lawful.{Lawful}
 use Rattle.resolving.specs.Distinct.{window, empty}
 use Rattle.tree_walk.specs.Walk.{results, onto}
-use Rattle.set_step.specs.Memo.{StoreOf}
+use Rattle.leaf_memo.specs.Memo.{StoreOf}
 use Rattle.set_step.specs.Stepped.{slotNodes, gathered, Source, StepsOne, SteppedOne, SteppedSet}
 
 -- ---- load

@@ -39,10 +39,10 @@ use Rattle.tree_moves.specs.Only.Laws.{MovedBy}
 use Rattle.tree_moves.specs.Only.Pair.{became}
 use Rattle.tree_moves.specs.Moving.{StepsMoves, steppedMoves}
 use Rattle.tree_moves.specs.Members.{short-of, same-after}
-use Rattle.set_step.specs.Memo.Laws.{memo-behind}
-use Rattle.set_step.specs.Prepared.{Sound, Fills}
-use Rattle.set_step.specs.Prepared.Below.{nodes-same, window-of-prefix}
-use Rattle.set_step.specs.Looking.{Looks}
+use Rattle.leaf_memo.specs.Memo.Laws.{memo-behind}
+use Rattle.leaf_results.specs.Prepared.{Sound, Fills}
+use Rattle.leaf_memo.specs.Below.{nodes-same, window-of-prefix}
+use Rattle.leaf_repeats.specs.Looking.{Looks}
 use Rattle.set_step.specs.Stepped.{slotNodes, StepsOne, steppedOne, SteppedOne}
 use Rattle.set_step.specs.Successors.Laws.{results-of}
 

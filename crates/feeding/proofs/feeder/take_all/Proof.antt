@@ -5,7 +5,7 @@ use Rattle.table.specs.Table.{Table}
 use Rattle.table_index.specs.Index.{tableIn}
 use Rattle.monitor_spec.specs.State.{Monitor}
 use Rattle.state.specs.Record.{monitorOf}
-use Rattle.set_step.specs.Memo.Laws.{store-zeros}
+use Rattle.leaf_memo.specs.Memo.Laws.{store-zeros}
 use Rattle.taking.specs.Runs.Laws.{ended-then, ended-done, run-ended, run-left}
 use Rattle.feeding.specs.Feeding.Laws.{ended-all}
 use borrow.Author.Needs.{needs}

@@ -7,7 +7,7 @@ use lib.ListN.{length}
 use Rattle.table_index.specs.Index.{tableIn}
 use Rattle.table.specs.Table.{Table}
 use Rattle.monitor_spec.specs.State.{Monitor}
-use Rattle.set_step.specs.Memo.{StoreOf}
+use Rattle.leaf_memo.specs.Memo.{StoreOf}
 use Rattle.state.specs.Record.{monitorOf}
 use Rattle.taking.specs.Runs.{ReachedAt}
 use Rattle.taking.specs.Runs.Laws.{reached-start, reached-then, ended-then, ended-done, run-ended, run-left}

@@ -9,7 +9,7 @@ use Rattle.table_index.specs.Index.{tableIn}
 use Rattle.set_runs.specs.Turns.{Since}
 use Rattle.set_runs.proofs.turns.Laws.{turn-onward, since-first, since-goes, since-kept, since-ended, since-left}
 use borrow.Author.Needs.{needs}
-use Rattle.set_step.specs.Memo.{StoreOf}
+use Rattle.leaf_memo.specs.Memo.{StoreOf}
 use Rattle.set_runs.proofs.turns.take_turns.Statement.{statement}
 use Rattle.set_runs.proofs.turns.take_turns.Tie as tie
 

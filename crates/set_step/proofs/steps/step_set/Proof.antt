@@ -5,7 +5,7 @@ use Prim.Native.Nat.{_-_, _*_, _≤_}
 use lib.ListN.{length}
 use Rattle.table_index.specs.Index.{tableIn}
 use Rattle.resolving.specs.Lawful.{lawful}
-use Rattle.set_step.specs.Memo.{StoreOf}
+use Rattle.leaf_memo.specs.Memo.{StoreOf}
 use Rattle.set_step.specs.Stepped.Laws.{step-asks, Gathering, gather-first, gather-next, gather-exceeded, gather-end}
 use borrow.Author.Needs.{needs}
 use Rattle.set_step.proofs.steps.step_set.Statement.{statement}

@@ -7,7 +7,7 @@ use lib.ListN.{length}
 use Rattle.table_index.specs.Index.{tableIn}
 use Rattle.index.specs.Facts.{indexed-rules}
 use Rattle.monitor_spec.specs.Regular.Laws.{regular}
-use Rattle.set_step.specs.Memo.{StoreOf}
+use Rattle.leaf_memo.specs.Memo.{StoreOf}
 use Rattle.state.specs.Record.{monitorOf}
 use Rattle.taking.specs.Runs.{ReachedAt, RunBy}
 use Rattle.taking.specs.Runs.Laws.{reached-start, reached-next, ended-refused}

@@ -1,0 +1,2 @@
+-- The results of a residual's leaves, prepared in a store. Assumes nothing.
+pub mod Prepared
