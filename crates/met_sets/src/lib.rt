@@ -6,9 +6,11 @@ mod sets;
 mod words;
 
 pub use pick::Pick;
-pub use pick::lay_out;
-pub use pick::pick_first;
-pub use pick::pick_up;
 pub use run::Followed;
 pub use run::follow;
 pub use run::link;
+pub use sets::count_of;
+pub use sets::find;
+pub use sets::forget_row;
+pub use sets::has_room;
+pub use words::copy;

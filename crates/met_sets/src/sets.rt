@@ -9,7 +9,7 @@ ghost use Rattle.met_sets.specs.Sets.{countAt, slotsAt, Shape};
 use crate::words::same_words;
 
 // How many slots set i has.
-pub(crate) fn count_of(starts: &[usize], i: usize) -> usize
+pub fn count_of(starts: &[usize], i: usize) -> usize
     requires { ⌜ (suc i < length (now starts))
         × (getD (now starts) i 0 ≤ getD (now starts) (suc i) 0) ⌝ }
     ensures { λ r. ⌜ r ≡ countAt (now (starts .entry)) i ⌝ }
@@ -18,7 +18,7 @@ pub(crate) fn count_of(starts: &[usize], i: usize) -> usize
 }
 
 // Which of k sets has the first slots of an area, so many; k where none is found.
-pub(crate) fn find(
+pub fn find(
     alphabet: usize,
     k: usize,
     sets: &[u64],
@@ -46,7 +46,7 @@ pub(crate) fn find(
 }
 
 // Whether one set more has room, of so many slots.
-pub(crate) fn has_room(alphabet: usize, k: usize, start: usize, count: usize) -> bool
+pub fn has_room(alphabet: usize, k: usize, start: usize, count: usize) -> bool
     requires { ⌜ (k * alphabet ≤ 2560) × (start ≤ 104) ⌝ }
     ensures { λ r.
         ⌜ (r ≡ true → (k < 63) × (start + count ≤ 104) × (suc k * alphabet ≤ 2560)) ⌝ }
@@ -61,7 +61,7 @@ pub(crate) fn has_room(alphabet: usize, k: usize, start: usize, count: usize) ->
 }
 
 // No transition of set i is known.
-pub(crate) fn forget_row(alphabet: usize, next: &mut [u8], i: usize)
+pub fn forget_row(alphabet: usize, next: &mut [u8], i: usize)
     requires { ⌜ i * alphabet + alphabet ≤ length (now next) ⌝ }
     ensures { λ _.
         ⌜ now (next .exit)

@@ -6,7 +6,7 @@ ghost use lib.ListN.{length, take, drop};
 ghost use Rattle.slots.specs.Insertion.{stored};
 
 // Copies n words, those from p on to those from q on.
-pub(crate) fn copy(from: &[u64], p: usize, to: &mut [u64], q: usize, n: usize)
+pub fn copy(from: &[u64], p: usize, to: &mut [u64], q: usize, n: usize)
     requires { ⌜ (p + n ≤ length (now from)) × (q + n ≤ length (now to)) ⌝ }
     ensures { λ _.
         ⌜ now (to .exit) ≡ stored (now (to .entry)) q (drop p (now (from .entry))) n ⌝ }
@@ -19,7 +19,7 @@ pub(crate) fn copy(from: &[u64], p: usize, to: &mut [u64], q: usize, n: usize)
 }
 
 // Whether n words, those from p on, are the first of others.
-pub(crate) fn same_words(words: &[u64], p: usize, others: &[u64], n: usize) -> bool
+pub fn same_words(words: &[u64], p: usize, others: &[u64], n: usize) -> bool
     requires { ⌜ (p + n ≤ length (now words)) × (n ≤ length (now others)) ⌝ }
     ensures { λ r.
         ⌜ (r ≡ true → take n (drop p (now (words .entry))) ≡ take n (now (others .entry))) ⌝ }

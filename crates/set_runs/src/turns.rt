@@ -14,8 +14,8 @@ use learning::Turn;
 use learning::learn;
 use met_sets::Pick;
 use met_sets::follow;
-use met_sets::lay_out;
-use met_sets::pick_first;
+use picking::lay_out;
+use picking::pick_first;
 use state::State;
 use taking::Run;
 

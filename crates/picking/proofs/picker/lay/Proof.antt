@@ -1,10 +1,10 @@
--- `met_sets::pick::lay` meets its contract: the words of the set are copied over zeros. Assumes nothing.
+-- `picking::picker::lay` meets its contract: the words of the set are copied over zeros. Assumes nothing.
 use native.Mathlib.Omega.{arith}
 use Rattle.met_sets.specs.Sets.Laws.{words-inside}
 use Rattle.met_sets.specs.Runs.Areas.{laid-in}
 use borrow.Author.Needs.{needs}
-use Rattle.met_sets.proofs.pick.lay.Statement.{statement}
-use Rattle.met_sets.proofs.pick.lay.Tie as tie
+use Rattle.picking.proofs.picker.lay.Statement.{statement}
+use Rattle.picking.proofs.picker.lay.Tie as tie
 
 count-of-requires : tie.Need-count-of-requires
 count-of-requires c κs = search needs

@@ -1,9 +1,9 @@
--- `met_sets::pick::lay_out` meets its contract: by the parity of the events taken, area 0 or area 1 is present. Assumes
+-- `picking::picker::lay_out` meets its contract: by the parity of the events taken, area 0 or area 1 is present. Assumes
 -- nothing.
 use Rattle.met_sets.specs.Runs.Areas.{laid-even, laid-odd}
 use borrow.Author.Needs.{needs}
-use Rattle.met_sets.proofs.pick.lay_out.Statement.{statement}
-use Rattle.met_sets.proofs.pick.lay_out.Tie as tie
+use Rattle.picking.proofs.picker.lay_out.Statement.{statement}
+use Rattle.picking.proofs.picker.lay_out.Tie as tie
 
 lay-requires : tie.Need-lay-requires
 lay-requires c κs = search needs

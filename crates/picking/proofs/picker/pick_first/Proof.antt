@@ -1,10 +1,10 @@
--- `met_sets::pick::pick_first` meets its contract: where no set is kept, the next one is picked up. Assumes nothing.
+-- `picking::picker::pick_first` meets its contract: where no set is kept, the next one is picked up. Assumes nothing.
 use mathlib.Core.Path.{_∙_}
 use lib.ListN.{length-set}
 use Rattle.met_sets.specs.Sets.Laws.{shape-none, first-start}
 use borrow.Author.Needs.{needs}
-use Rattle.met_sets.proofs.pick.pick_first.Statement.{statement}
-use Rattle.met_sets.proofs.pick.pick_first.Tie as tie
+use Rattle.picking.proofs.picker.pick_first.Statement.{statement}
+use Rattle.picking.proofs.picker.pick_first.Tie as tie
 
 slice-write-starts : tie.Need-slice-write-starts
 slice-write-starts c = search needs

@@ -1,13 +1,13 @@
--- `met_sets::pick::pick_area` meets its contract: the set is found, or kept as one more, or has no room. Assumes
+-- `picking::picker::pick_area` meets its contract: the set is found, or kept as one more, or has no room. Assumes
 -- nothing.
 use native.Mathlib.Omega.{arith}
 use native.Mathlib.Numerals.{add-one}
 use mathlib.Core.Path.{refl}
 use Rattle.met_sets.specs.Runs.{FoundBy}
 use Rattle.met_sets.specs.Runs.Areas.{found-old, found-new}
 use borrow.Author.Needs.{needs}
-use Rattle.met_sets.proofs.pick.pick_area.Statement.{statement}
-use Rattle.met_sets.proofs.pick.pick_area.Tie as tie
+use Rattle.picking.proofs.picker.pick_area.Statement.{statement}
+use Rattle.picking.proofs.picker.pick_area.Tie as tie
 
 mul-words : tie.Need-mul-words
 mul-words c = search needs

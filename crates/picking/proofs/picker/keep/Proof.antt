@@ -1,9 +1,9 @@
--- `met_sets::pick::keep` meets its contract: what each call stores. Assumes nothing.
+-- `picking::picker::keep` meets its contract: what each call stores. Assumes nothing.
 use native.Mathlib.Numerals.{add-one}
 use mathlib.Core.Path.{refl}
 use borrow.Author.Needs.{needs}
-use Rattle.met_sets.proofs.pick.keep.Statement.{statement}
-use Rattle.met_sets.proofs.pick.keep.Tie as tie
+use Rattle.picking.proofs.picker.keep.Statement.{statement}
+use Rattle.picking.proofs.picker.keep.Tie as tie
 
 mul-start : tie.Need-mul-start
 mul-start c = search needs

@@ -1,10 +1,10 @@
--- `met_sets::pick::pick_up` meets its contract: by the parity of the events taken, area 0 or area 1 is present. Assumes
+-- `picking::picker::pick_up` meets its contract: by the parity of the events taken, area 0 or area 1 is present. Assumes
 -- nothing.
 use Rattle.met_sets.specs.Runs.{PickedBy}
 use Rattle.met_sets.specs.Runs.Areas.{picked-even, picked-odd}
 use borrow.Author.Needs.{needs}
-use Rattle.met_sets.proofs.pick.pick_up.Statement.{statement}
-use Rattle.met_sets.proofs.pick.pick_up.Tie as tie
+use Rattle.picking.proofs.picker.pick_up.Statement.{statement}
+use Rattle.picking.proofs.picker.pick_up.Tie as tie
 
 pick-area-requires : tie.Need-pick-area-requires
 pick-area-requires c κs = search needs
