@@ -2,7 +2,7 @@
 ghost use lib.ListN.{length};
 ghost use Rattle.state.specs.Record.{monitorOf};
 ghost use Rattle.input.specs.Arrival.{Arrives};
-ghost use Rattle.trace.specs.Tracing.{Tracing};
+ghost use Rattle.tracing.specs.Tracing.{Tracing};
 ghost use Rattle.saying.specs.Spoken.{saidOf};
 ghost use Rattle.course_spec.specs.Course.{Rooms, ReadOn, AfterArrived};
 use course_spec::Course;

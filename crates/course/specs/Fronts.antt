@@ -16,8 +16,8 @@ use Rattle.line_spec.specs.Opening.Front.{Lengths, lent-in}
 use Rattle.trace_spec.specs.TraceLine.{TraceLine, starts}
 use Rattle.trace_spec.specs.Trace.{Beginning, declines, beginningOf, startLine}
 use Rattle.trace_spec.specs.Trace.Begun.{begins-out}
-use Rattle.trace.specs.declared.answer.TraceLine.the-variants.{Starts}
-use Rattle.trace.specs.Answers.{traceLineSaid}
+use Rattle.tracing.specs.declared.answer.TraceLine.the-variants.{Starts}
+use Rattle.tracing.specs.Answers.{traceLineSaid}
 use Rattle.trace.specs.declared.answer.Opened.{Opened}
 use Rattle.trace.specs.declared.answer.Opened.the-variants.{Started}
 use Rattle.trace.specs.declared.answer.Opened.the-variants as opened

@@ -4,9 +4,9 @@ ghost use lib.ListN.{length};
 ghost use Rattle.table_index.specs.Index.{tableIn};
 ghost use Rattle.state.specs.Record.{monitorOf};
 ghost use Rattle.line_spec.specs.Opening.Front.{Lengths};
-ghost use Rattle.trace.specs.Answers.{traceLineSaid};
-ghost use Rattle.trace.specs.declared.answer.TraceLine.the-variants.{Starts};
-ghost use Rattle.trace.specs.Tracing.{Tracing};
+ghost use Rattle.tracing.specs.Answers.{traceLineSaid};
+ghost use Rattle.tracing.specs.declared.answer.TraceLine.the-variants.{Starts};
+ghost use Rattle.tracing.specs.Tracing.{Tracing};
 ghost use Rattle.trace_front.specs.Wanted.{Fronts};
 ghost use Rattle.saying.specs.Spoken.{saidOf, firstSaid};
 ghost use Rattle.course_spec.specs.Course.{Rooms, Followed, Says};
@@ -21,7 +21,7 @@ use saying::say;
 use state::EventBits;
 use state::State;
 use trace::Opened;
-use trace::TraceLine;
+use tracing::TraceLine;
 use turning::say_refusal;
 
 // Reads what arrives, and judges it, until the input ends or a refusal is said. Each read brings an

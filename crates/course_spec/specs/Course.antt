@@ -30,7 +30,7 @@ use Rattle.trace_spec.specs.TraceLine.{TraceLine, takes, refuses}
 use Rattle.trace_spec.specs.Trace.{Beginning, begins, declines, beginningOf, startLine, traceOf}
 use Rattle.trace_spec.specs.Reads.{at, reachedBy}
 use Rattle.feeding.specs.Feeding.{stepWords}
-use Rattle.trace.specs.Tracing.{Tracing, TracedOn, StoppedAt}
+use Rattle.tracing.specs.Tracing.{Tracing, TracedOn, StoppedAt}
 use Rattle.saying.specs.declared.print.Said.{Said}
 use Rattle.course_spec.specs.declared.answer.Told.{Told}
 use Rattle.course_spec.specs.declared.answer.Told.the-variants.{Ended, Refused, Unread, Unwritten}
@@ -44,7 +44,7 @@ pub record LastLine (s : List ℕ) (x : TraceLine) : Type 0 where
   pub before : List TraceLine
   pub split : traceOf s ≡ before ++ x ∷ []
 
--- a step's store, as crate `trace` asks; room for the longest line
+-- a step's store, as crate `tracing` asks; room for the longest line
 abbrev pub Rooms : List ℕ → List ℕ → Type 0
 Rooms store text = (length store ≡ stepWords) × (2816 ≤ length text)
 

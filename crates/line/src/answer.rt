@@ -1,14 +1,6 @@
-// What the functions of this crate answer. What each stands for is said in `specs/Answers.antt`.
-use format::Line;
+// What `open` answers. What it stands for is said in `specs/Answers.antt`.
 use state::State;
 use table::Refusal;
-
-// A table's numbers, the first `count` of the lent list, with the place of the first event; or a
-// refusal.
-pub enum TableRead {
-    Numbers { count: usize, next: usize },
-    Refused(Refusal),
-}
 
 // A fresh monitor on the first `count` numbers of the lent list, with the place of the first event;
 // or a refusal.
@@ -19,10 +11,4 @@ pub enum Opened {
         next: usize,
     },
     Refused(Refusal),
-}
-
-// A monitor that goes on, or a line that stands.
-pub enum Course {
-    Going(State),
-    Over(Line),
 }

@@ -5,9 +5,9 @@ ghost use Rattle.line_spec.specs.Line.{freshOn};
 ghost use Rattle.line_spec.specs.Opening.{startedOn, openInputOf};
 ghost use Rattle.line.specs.Answers.{openSaid};
 use crate::answer::Opened;
-use crate::answer::TableRead;
-use crate::reader::read_table;
 use state::Answer;
+use table_reading::TableRead;
+use table_reading::read_table;
 
 // Opens a monitor on a list of so many numbers, with no event; its events begin at `next`.
 fn open_list(

@@ -14,8 +14,8 @@ use Rattle.io.specs.Counts.{Counts}
 use Rattle.trace_text.specs.TraceText.{traceTextOf}
 use Rattle.trace_text.specs.Put.{PutsText}
 use Rattle.trace_spec.specs.TraceLine.{TraceLine}
-use Rattle.trace.specs.declared.answer.TraceLine as code
-use Rattle.trace.specs.Answers.{traceLineSaid}
+use Rattle.tracing.specs.declared.answer.TraceLine as code
+use Rattle.tracing.specs.Answers.{traceLineSaid}
 use Rattle.saying.specs.declared.print.Count.{Count}
 use Rattle.saying.specs.declared.print.Said.{Said}
 use Rattle.saying.specs.declared.print.Saying.{Saying}

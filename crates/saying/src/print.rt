@@ -10,11 +10,11 @@ ghost use Prim.Native.Nat.{_≤_};
 ghost use mathlib.Core.Path.{_≡_};
 ghost use lib.ListN.{length, take};
 ghost use Rattle.io.specs.Counts.{Counts};
-ghost use Rattle.trace.specs.Answers.{traceLineSaid};
+ghost use Rattle.tracing.specs.Answers.{traceLineSaid};
 ghost use Rattle.trace_text.specs.TraceText.{traceTextOf};
 ghost use Rattle.saying.specs.Spoken.{Counted, Spoken, TextStands};
 use libc::STDOUT_FILENO;
-use trace::TraceLine;
+use tracing::TraceLine;
 
 // So many lines were said, or more than 2^64-1.
 pub struct Count {

@@ -1,5 +1,3 @@
--- What the functions of this crate promise, in the terms of crate `trace_spec`: what the code's lines are; what holds
--- between calls, and of one event; of the front of an input. Assumes nothing.
-pub mod Answers
-pub mod Tracing
+-- What the functions of this crate promise, in the terms of crate `trace_spec`: of the front of an input. Assumes
+-- nothing.
 pub mod Opening

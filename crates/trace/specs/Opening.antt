@@ -18,7 +18,7 @@ use Rattle.line_spec.specs.Opening.{lent}
 use Rattle.trace_spec.specs.Trace.{Beginning, begins, declines, beginList, beginningOf, permittedBy}
 use Rattle.trace.specs.declared.answer.Opened.{Opened}
 use Rattle.trace.specs.declared.answer.Opened.the-variants.{Started, Refused}
-use Rattle.trace.specs.Tracing.{Tracing}
+use Rattle.tracing.specs.Tracing.{Tracing}
 pub mod Laws
 
 -- the beginning, of any events, is that of a monitor on the list l; its record is s, in the areas a and b, and the

@@ -6,14 +6,14 @@ ghost use Rattle.table_index.specs.Index.{Indexed};
 ghost use Rattle.trace.specs.Opening.{ListOpened, TraceOpened};
 use crate::answer::Opened;
 use entering::enter;
-use line::TableRead;
-use line::read_table;
 use offering::offered;
 use opening::resolve_last;
 use slots::Held;
 use state::State;
 use table::Judged;
 use table::Refusal;
+use table_reading::TableRead;
+use table_reading::read_table;
 
 // Settles a list whose index stands in the work area; its events begin at `next`.
 fn settle(list: &[u16], work: &[u64], next: usize, area0: &mut [u64], area1: &mut [u64]) -> Opened

@@ -2,7 +2,7 @@
 ghost use Prim.Native.Nat.{_≤_};
 ghost use lib.ListN.{length};
 ghost use Rattle.state.specs.Record.{monitorOf};
-ghost use Rattle.trace.specs.Tracing.{Tracing};
+ghost use Rattle.tracing.specs.Tracing.{Tracing};
 ghost use Rattle.course_spec.specs.Course.{Rooms, Turned, ToldRefusal};
 use course_spec::Course;
 use course_spec::Told;
@@ -10,8 +10,8 @@ use saying::Count;
 use saying::Saying;
 use saying::say;
 use state::State;
-use trace::TraceLine;
-use trace::Traced;
+use tracing::TraceLine;
+use tracing::Traced;
 
 // Says a refusal, which is the last line.
 pub fn say_refusal(number: u8, place: u64, before: Count, text: &mut [u8]) -> Told
@@ -43,7 +43,7 @@ pub fn turn(
         (monitorOf state (now (area0 .entry)) (now (area1 .entry))) (before .lines) e
         r (now (area0 .exit)) (now (area1 .exit)) ⌝ }
 {
-    match trace::trace_event(list, work, e, state, area0, area1, store) {
+    match tracing::trace_event(list, work, e, state, area0, area1, store) {
         Traced::Went(next, permitted) => {
             match say(TraceLine::Takes(e, next, permitted), before, text) {
                 Saying::Written(said) => Course::Going(next, said),

@@ -24,12 +24,12 @@ use Rattle.input.specs.declared.reading.Failure.{Failure}
 use Rattle.input.specs.declared.reading.Arrived.{Arrived}
 use Rattle.input.specs.declared.reading.Arrived.the-variants as came
 use Rattle.input.specs.Arrival.{Arrives}
-use Rattle.trace.specs.declared.answer.TraceLine.the-variants.{Starts, Takes}
-use Rattle.trace.specs.declared.answer.TraceLine as code
-use Rattle.trace.specs.Answers.{traceLineSaid}
-use Rattle.trace.specs.declared.answer.Traced.{Traced}
-use Rattle.trace.specs.declared.answer.Traced.the-variants.{Went, Stopped}
-use Rattle.trace.specs.Tracing.{Tracing, TracedBy}
+use Rattle.tracing.specs.declared.answer.TraceLine.the-variants.{Starts, Takes}
+use Rattle.tracing.specs.declared.answer.TraceLine as code
+use Rattle.tracing.specs.Answers.{traceLineSaid}
+use Rattle.tracing.specs.declared.answer.Traced.{Traced}
+use Rattle.tracing.specs.declared.answer.Traced.the-variants.{Went, Stopped}
+use Rattle.tracing.specs.Tracing.{Tracing, TracedBy}
 use Rattle.saying.specs.declared.print.Count.{Count}
 use Rattle.saying.specs.declared.print.Said.{Said}
 use Rattle.saying.specs.declared.print.Unsaid.{Unsaid}

@@ -21,7 +21,7 @@ use Rattle.line_spec.specs.Judged.Taken.{event-took}
 use Rattle.trace_spec.specs.TraceLine.{TraceLine, takes, refuses}
 use Rattle.trace_spec.specs.Trace.{traceOf}
 use Rattle.trace_spec.specs.Reads.{reachedBy}
-use Rattle.trace.specs.Tracing.Laws.{reached-next, trace-next, trace-stop}
+use Rattle.tracing.specs.Tracing.Laws.{reached-next, trace-next, trace-stop}
 use Rattle.saying.specs.Spoken.{Utterance}
 use Rattle.course_spec.specs.Course.{LastLine, WentOn, StopSaid, Onward, RefusedIn, EachSome, Gone}
 use Rattle.course_spec.specs.Course.{LineEach, RefusedAfter}

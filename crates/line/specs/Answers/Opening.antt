@@ -21,11 +21,11 @@ use Rattle.line_spec.specs.Line.{freshOn}
 use Rattle.line.specs.Answers.{openedSaid, openSaid}
 use Rattle.line_spec.specs.Opening.{refuses, OpenOutcome, openRefused, startAnswer, startedOn, openInputOf}
 use Rattle.line_spec.specs.Opening.Front.{open-unfit, open-wrong, open-accepted, open-declined, open-began}
-use Rattle.line.specs.declared.answer.TableRead.{TableRead}
-use Rattle.line.specs.declared.answer.TableRead.the-variants.{Numbers}
-use Rattle.line.specs.declared.answer.TableRead.the-variants as table
-use Rattle.line.specs.TableRead.{TableSaid, TableRefused, refusedLengths, refusedHead, refusedTable}
-use Rattle.line.specs.TableRead.Laws.{said-numbers, said-refused, numbers-front, numbers-few}
+use Rattle.table_reading.specs.declared.answer.TableRead.{TableRead}
+use Rattle.table_reading.specs.declared.answer.TableRead.the-variants.{Numbers}
+use Rattle.table_reading.specs.declared.answer.TableRead.the-variants as table
+use Rattle.table_reading.specs.TableRead.{TableSaid, TableRefused, refusedLengths, refusedHead, refusedTable}
+use Rattle.table_reading.specs.TableRead.Laws.{said-numbers, said-refused, numbers-front, numbers-few}
 
 -- ---- open_list
 

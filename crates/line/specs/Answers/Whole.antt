@@ -1,5 +1,4 @@
--- What `resume`, `finish` and `line` promise, by the ways out of their code.
---     piece-given, piece-refused, piece-stopped    by Feed's answer
+-- What `finish` and `line` promise, by the ways out of their code.
 --     end-going, end-over                          by what the last piece left
 --     line-started, line-refused                   by what `open` gives
 -- Assumes nothing.
@@ -10,53 +9,21 @@ use mathlib.Core.List.{List}
 use lib.ListN.{length, take, drop, length-drop}
 use lib.Seq.{take-all}
 use Rattle.table.specs.declared.answer.Refusal.{Refusal}
-use Rattle.monitor_spec.specs.Feed.{feedOf}
-use Rattle.state.specs.declared.answer.Answer as answer
-use Rattle.state.specs.declared.answer.Answer.the-variants as gave
 use Rattle.state.specs.declared.record.State.{State}
 use Rattle.state.specs.Record.{stateOf, monitorOf}
-use Rattle.state.specs.Answers.{outcome}
 use Rattle.format.specs.declared.answer.Line as code
-use Rattle.format.specs.declared.answer.Line.the-variants as said
-use Rattle.line.specs.declared.answer.Course as way
-use Rattle.line.specs.declared.answer.Course.the-variants.{Going, Over}
+use Rattle.resuming.specs.declared.answer.Course as way
+use Rattle.resuming.specs.declared.answer.Course.the-variants.{Going, Over}
 use Rattle.line.specs.declared.answer.Opened.{Opened}
 use Rattle.line.specs.declared.answer.Opened.the-variants.{Started, Refused}
 use Rattle.line_spec.specs.Line.{Line, refused, stateLine}
-use Rattle.line_spec.specs.Line as line
-use Rattle.line_spec.specs.Pieces.{over, fed, fedBy, concludeOf}
+use Rattle.line_spec.specs.Pieces.{concludeOf}
 use Rattle.line_spec.specs.Opening.{openInputOf}
 use Rattle.format.specs.Line.{lineSaid}
-use Rattle.line.specs.Answers.{openSaid, resumeSaid, wholeSaid}
-use Rattle.line_spec.specs.Whole.{ResumeOutcome, resumedBy, resumeOf, LineOutcome, finished, finishOf, wholeBy}
+use Rattle.resuming.specs.Answers.{resumeSaid}
+use Rattle.line.specs.Answers.{openSaid, wholeSaid}
+use Rattle.line_spec.specs.Whole.{ResumeOutcome, resumeOf, LineOutcome, finished, finishOf, wholeBy}
 use Rattle.line_spec.specs.Whole.{wholeAfter, wholeOf}
-
--- ---- resume
-
-module _ (l : List ℕ) (s : State) (a b es w : List ℕ) (r : answer.Answer) (a' b' w' : List ℕ)
-    (says : outcome r a' b' w' ≡ feedOf l (monitorOf s a b) es w)
-  where
-    answered : (x : answer.Answer) → r ≡ x → resumedBy l (outcome x a' b' w') ≡ resumeOf l (monitorOf s a b) es w
-    unfolding resumeOf
-    answered x k = sym (ap (λ (y : answer.Answer). resumedBy l (outcome y a' b' w')) k) ∙ ap (resumedBy l) says
-
-    pub piece-given : (st : State) → r ≡ gave.Given st
-        → resumeSaid l (Going st) a' b' w' ≡ resumeOf l (monitorOf s a b) es w
-    unfolding resumedBy fed fedBy line.monitorLeft
-    piece-given st k = answered (gave.Given st) k
-
-    pub piece-refused : (q : Refusal) → r ≡ gave.Refused q → (x : code.Line)
-        → lineSaid x ≡ refused (q .number) (q .place)
-        → resumeSaid l (Over x) a' b' w' ≡ resumeOf l (monitorOf s a b) es w
-    unfolding resumedBy fed fedBy
-    piece-refused q k x h =
-        ap (λ (y : Line). record { course = over y; area0 = a'; area1 = b'; work = w' }) h
-        ∙ answered (gave.Refused q) k
-
-    pub piece-stopped : (q : Refusal) (st : State) → r ≡ gave.Stopped q st
-        → resumeSaid l (Over (said.Refused (q .number) (st .taken))) a' b' w' ≡ resumeOf l (monitorOf s a b) es w
-    unfolding resumedBy fed fedBy
-    piece-stopped q st k = answered (gave.Stopped q st) k
 
 -- ---- finish
 

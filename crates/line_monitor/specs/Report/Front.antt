@@ -24,9 +24,10 @@ use Rattle.format.specs.declared.answer.Line as code
 use Rattle.format.specs.Line.{lineSaid}
 use Rattle.line.specs.declared.answer.Opened.{Opened}
 use Rattle.line.specs.declared.answer.Opened.the-variants.{Started, Refused}
-use Rattle.line.specs.declared.answer.Course.{Course}
-use Rattle.line.specs.declared.answer.Course.the-variants.{Going, Over}
-use Rattle.line.specs.Answers.{courseSaid, openSaid, resumeSaid}
+use Rattle.resuming.specs.declared.answer.Course.{Course}
+use Rattle.resuming.specs.declared.answer.Course.the-variants.{Going, Over}
+use Rattle.resuming.specs.Answers.{courseSaid, resumeSaid}
+use Rattle.line.specs.Answers.{openSaid}
 use Rattle.line_monitor.specs.declared.pieces.Report.{Report}
 use Rattle.line_monitor.specs.declared.pieces.Report.the-variants.{Line, Broken}
 use Rattle.line_monitor.specs.Report.{Says, Followed, FrontFed}

@@ -17,9 +17,9 @@ use Rattle.line_spec.specs.Judged.{pieceEnd, Took, Goes, Follows}
 use Rattle.line_spec.specs.Judged.Laws.{goes-next, goes-took, goes-over}
 use Rattle.format.specs.declared.answer.Line as code
 use Rattle.format.specs.Line.{lineSaid}
-use Rattle.line.specs.declared.answer.Course.{Course}
-use Rattle.line.specs.declared.answer.Course.the-variants.{Going, Over}
-use Rattle.line.specs.Answers.{resumeSaid}
+use Rattle.resuming.specs.declared.answer.Course.{Course}
+use Rattle.resuming.specs.declared.answer.Course.the-variants.{Going, Over}
+use Rattle.resuming.specs.Answers.{resumeSaid}
 use Rattle.input.specs.declared.reading.Part.{Part}
 use Rattle.input.specs.Reading.{Parts}
 

@@ -41,21 +41,21 @@ use Rattle.opening.specs.Opening.{Resolved}
 use Rattle.opening.specs.Opening.Laws.{fresh-same}
 use Rattle.line_spec.specs.Opening.{lent}
 use Rattle.line_spec.specs.Opening.Laws.{all-measured, zeros-length}
-use Rattle.line.specs.declared.answer.TableRead.{TableRead}
-use Rattle.line.specs.declared.answer.TableRead.the-variants.{Numbers}
-use Rattle.line.specs.declared.answer.TableRead.the-variants as table
-use Rattle.line.specs.TableRead.{NumbersRead, TableRefused, refusedLengths, refusedHead, refusedTable, TableSaid}
-use Rattle.line.specs.TableRead.Laws.{numbers-front, numbers-few, said-numbers, said-refused}
+use Rattle.table_reading.specs.declared.answer.TableRead.{TableRead}
+use Rattle.table_reading.specs.declared.answer.TableRead.the-variants.{Numbers}
+use Rattle.table_reading.specs.declared.answer.TableRead.the-variants as table
+use Rattle.table_reading.specs.TableRead.{NumbersRead, TableRefused, refusedLengths, refusedHead, refusedTable, TableSaid}
+use Rattle.table_reading.specs.TableRead.Laws.{numbers-front, numbers-few, said-numbers, said-refused}
 use Rattle.trace_spec.specs.TraceLine.{starts, refuses}
 use Rattle.trace_spec.specs.Trace.{begins, declines, beginList, beginTable, beginHead, beginningOf}
 use Rattle.trace_spec.specs.Trace.{permittedBy, eventLines, startLine, traceFrom, traceOf}
 use Rattle.trace_spec.specs.Trace.Begun.{list-exceeds, list-opens}
 use Rattle.trace_spec.specs.Reads.{at, reachedIn, reachedAt, reachedAfter, reachedFrom, reachedBy}
-use Rattle.trace.specs.declared.answer.TraceLine.the-variants as line
+use Rattle.tracing.specs.declared.answer.TraceLine.the-variants as line
 use Rattle.trace.specs.declared.answer.Opened.{Opened}
 use Rattle.trace.specs.declared.answer.Opened.the-variants.{Started, Refused}
-use Rattle.trace.specs.Answers.{traceLineSaid}
-use Rattle.trace.specs.Tracing.{Tracing}
+use Rattle.tracing.specs.Answers.{traceLineSaid}
+use Rattle.tracing.specs.Tracing.{Tracing}
 use Rattle.trace.specs.Opening.{Starts, ListOpened, FrontOpened, FrontBy, TraceOpened}
 
 -- ---- a list that is indexed

@@ -6,7 +6,7 @@ use mathlib.Core.Path.{_≡_, refl, _∙_}
 use lib.ListN.{length, take}
 use Rattle.table_index.specs.Index.{tableIn}
 use Rattle.state.specs.Record.{monitorOf}
-use Rattle.trace.specs.Tracing.{Tracing}
+use Rattle.tracing.specs.Tracing.{Tracing}
 use Rattle.saying.specs.Spoken.{saidOf}
 use Rattle.course_spec.specs.Course.{Rooms, Onward}
 use Rattle.course_spec.specs.Course.Steps.{onward-none}

@@ -1,7 +1,7 @@
 -- `opener::open` meets its contract, by the table that was read. Assumes nothing.
 use native.Mathlib.Omega.{arith}
 use mathlib.Core.Path.{sym}
-use Rattle.line.specs.TableRead.Laws.{said-numbers, numbers-few}
+use Rattle.table_reading.specs.TableRead.Laws.{said-numbers, numbers-few}
 use Rattle.line.specs.Answers.Opening.{opens-numbers, opens-refused}
 use borrow.Author.Needs.{needs}
 use Rattle.line.proofs.opener.open.Statement.{statement}

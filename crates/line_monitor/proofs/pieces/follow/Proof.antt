@@ -8,8 +8,8 @@ use lib.ListN.{length}
 use borrow.Author.Needs.{needs}
 use Rattle.line_spec.specs.Judged.{Goes}
 use Rattle.line_spec.specs.Judged.Laws.{goes-first}
-use Rattle.line.specs.declared.answer.Course.the-variants.{Going}
-use Rattle.line.specs.Answers.{resumeSaid}
+use Rattle.resuming.specs.declared.answer.Course.the-variants.{Going}
+use Rattle.resuming.specs.Answers.{resumeSaid}
 use Rattle.input.specs.Reading.Laws.{fills-part}
 use Rattle.line_monitor.specs.Report.Laws.{turn-took, turn-on, turn-over}
 use Rattle.line_monitor.proofs.pieces.follow.Statement.{statement}

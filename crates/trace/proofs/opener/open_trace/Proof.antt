@@ -1,7 +1,7 @@
 -- `trace::opener::open_trace` meets its contract, by the table that was read. Assumes nothing.
 use native.Mathlib.Omega.{arith}
 use mathlib.Core.Path.{sym}
-use Rattle.line.specs.TableRead.Laws.{said-numbers, numbers-few, numbers-lengths}
+use Rattle.table_reading.specs.TableRead.Laws.{said-numbers, numbers-few, numbers-lengths}
 use Rattle.trace.specs.Opening.Laws.{front-numbers, front-declined}
 use borrow.Author.Needs.{needs}
 use Rattle.trace.proofs.opener.open_trace.Statement.{statement}

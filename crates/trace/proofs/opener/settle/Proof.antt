@@ -1,7 +1,7 @@
 -- `trace::opener::settle` meets its contract: what is resolved is the monitor before any event, or there is no room for
 -- it. Assumes nothing.
 use mathlib.Core.Path.{refl}
-use Rattle.trace.specs.Tracing.Laws.{tracing-measured, tracing-consistent}
+use Rattle.tracing.specs.Tracing.Laws.{tracing-measured, tracing-consistent}
 use Rattle.trace.specs.Opening.Laws.{areas-fit, settled-tracing, settled-starts, settled-exceeds}
 use borrow.Author.Needs.{needs}
 use Rattle.trace.proofs.opener.settle.Statement.{statement}

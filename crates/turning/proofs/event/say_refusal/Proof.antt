@@ -1,5 +1,5 @@
 -- `event::say_refusal` meets its contract. Assumes nothing.
-use Rattle.trace.specs.declared.answer.TraceLine.the-variants.{Refuses}
+use Rattle.tracing.specs.declared.answer.TraceLine.the-variants.{Refuses}
 use Rattle.course_spec.specs.Course.Laws.{written}
 use borrow.Author.Needs.{needs}
 use Rattle.turning.proofs.event.say_refusal.Statement.{statement}

@@ -1,0 +1,2 @@
+-- What reading the table of an input promises. Assumes nothing.
+pub mod TableRead
