@@ -10,7 +10,7 @@ use Rattle.table.specs.Table.{Table}
 use Rattle.residuals.specs.Slots.{nodes}
 use Rattle.resolving.specs.Distinct.{window}
 use Rattle.tree_walk.specs.Walk.{leafResults, longest, room}
-use Rattle.tree_moves.specs.Only.{Active, Movable}
+use Rattle.tree_ways.specs.Only.{Active, Movable}
 pub mod Laws
 
 pub record LooksLeaf (t : Table) (bound e w : ℕ) : Type 0 where

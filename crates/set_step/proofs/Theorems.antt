@@ -18,7 +18,7 @@ use Rattle.residuals.specs.Slots.{nodes, slotOf, slotsOf}
 use Rattle.resolving.specs.Words.{kindAt, holdsAt}
 use Rattle.resolving.specs.ResidualWords.{nth}
 use Rattle.resolving.specs.Distinct.{sameWords}
-use Rattle.tree_moves.specs.Only.{leafWay, wayOf}
+use Rattle.tree_ways.specs.Only.{leafWay, wayOf}
 use Rattle.set_step.specs.Successors.Laws.{stepped, exceeded}
 use Rattle.set_step.specs.Claims.{StepHolds, StepExceeds}
 use Rattle.set_step.specs.Examples.{standing, holds, Examples, wayHolds, WayExamples}

@@ -12,9 +12,9 @@ use Rattle.residuals.specs.Residual.{resolve, afterAll}
 use Rattle.residuals.specs.Slots.{slotsOf}
 use Rattle.resolving.specs.Distinct.{sameWords}
 use Rattle.resolving.specs.ResidualWords.{nth}
-use Rattle.tree_moves.specs.declared.only.Way.{Way}
-use Rattle.tree_moves.specs.declared.only.Way.the-variants.{Still, Moving, Many}
-use Rattle.tree_moves.specs.Only.{wayOf}
+use Rattle.tree_ways.specs.declared.only.Way.{Way}
+use Rattle.tree_ways.specs.declared.only.Way.the-variants.{Still, Moving, Many}
+use Rattle.tree_ways.specs.Only.{wayOf}
 
 -- {0}, {}, {1}, {0, 1}, and the family with row 0 {1}, row 1 {0}, row 2 {}
 abbrev pub tableWith : List Definition → Table

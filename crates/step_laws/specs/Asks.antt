@@ -28,8 +28,8 @@ use Rattle.monitor_spec.specs.Proper.Nodes.{nodes-most}
 use Rattle.monitor_spec.specs.Valid.{held}
 use Rattle.monitor_spec.specs.Valid.Residuals.{slot-sixteen, slots-all}
 use Rattle.resolving.specs.ResidualWords.{nth}
-use Rattle.tree_moves.specs.declared.takes.Tree.{Tree}
-use Rattle.tree_moves.specs.Takes.{TreeAt, Takes}
+use Rattle.tree_ways.specs.declared.takes.Tree.{Tree}
+use Rattle.tree_ways.specs.Takes.{TreeAt, Takes}
 use Rattle.set_step.specs.Stepped.{Source}
 use Rattle.set_step.specs.Started.{ResolvesAll}
 use Rattle.set_step.specs.Successors.Room.{Within}

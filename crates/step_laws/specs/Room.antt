@@ -16,7 +16,7 @@ use Rattle.node_word.specs.Word.{pack, Digits}
 use Rattle.resolving.specs.ResidualWords.After.{after-not-kind}
 use Rattle.tree_walk.specs.Walk.{leafResults, longest, room}
 use Rattle.set_step.specs.Stepped.{SoundSlot}
-use Rattle.tree_moves.specs.Members.{room-append, node-results}
+use Rattle.tree_ways.specs.Members.{room-append, node-results}
 use Rattle.monitor_spec.specs.Regular.Laws.{regular}
 use Rattle.residuals.specs.Residual.{Residual, leaf, pair, after}
 use Rattle.monitor_spec.specs.ResidualMeaning.After.{after-sound}

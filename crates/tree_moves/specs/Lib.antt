@@ -1,8 +1,2 @@
--- One residual and one event without a store, in reading order: the members of a leaf's results, and of a residual's;
--- whether it is taken; its way; the way as a word; its results, held. Assumes nothing.
-pub mod Covering
-pub mod Members
-pub mod Takes
-pub mod Only
-pub mod Code
+-- The results of one residual and an event, where bits for its nodes say them, held. Assumes nothing.
 pub mod Moving

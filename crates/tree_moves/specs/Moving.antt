@@ -12,7 +12,7 @@ use Rattle.resolving.specs.Lawful.{Lawful}
 use Rattle.resolving.specs.Distinct.{window}
 use Rattle.tree_walk.specs.Walk.{onto}
 use Rattle.slots.specs.Holding.{Outcome, putAll}
-use Rattle.tree_moves.specs.Only.{rebuilt, tried, moved, Active, Movable, Rest}
+use Rattle.tree_ways.specs.Only.{rebuilt, tried, moved, Active, Movable, Rest}
 pub mod Leaves
 pub mod Moves
 

@@ -1,15 +1,12 @@
-// What becomes of one residual at an event, where bits for its nodes can say it (01, "Residuals"),
-// and whether it may take an event. The definitions are in `specs/`; `specs/Lib.antt` lists them in
-// reading order.
+// The results of one residual and an event, where bits for its nodes say them (crate `tree_ways`), held
+// in an area. The definitions are in `specs/Moving.antt`.
 mod moves;
-mod only;
 mod rebuilding;
-mod takes;
 
 pub use moves::step_moves;
-pub use only::Moves;
-pub use only::Way;
-pub use only::way_of;
 pub use rebuilding::rebuild;
-pub use takes::Tree;
-pub use takes::takes_at;
+pub use tree_ways::Moves;
+pub use tree_ways::Tree;
+pub use tree_ways::Way;
+pub use tree_ways::takes_at;
+pub use tree_ways::way_of;

@@ -13,7 +13,7 @@ ghost use Prim.Native.Nat.{_%_};
 ghost use Rattle.table_index.specs.Index.{tableIn, Indexed};
 ghost use Rattle.resolving.specs.ResidualWords.{pushAll};
 ghost use Rattle.resolving.specs.Distinct.{window};
-ghost use Rattle.tree_moves.specs.Only.{grown, rebuilt, Carries, Rebuilds};
+ghost use Rattle.tree_ways.specs.Only.{grown, rebuilt, Carries, Rebuilds};
 
 // Puts the n nodes from p on after what the slot has; the marked leaves take the event. What a leaf
 // comes to is mostly a leaf: it is pushed here.

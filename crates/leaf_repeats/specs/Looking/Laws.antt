@@ -24,7 +24,7 @@ use Rattle.resolving.specs.Distinct.{window, empty, Resolvable}
 use Rattle.resolving.specs.Distinct.Laws.{window-cons, window-none}
 use Rattle.tree_walk.specs.Walk.{room, leafResults, longest}
 use Rattle.tree_walk.specs.Walk.Leaves.{results-yes, nodes-short}
-use Rattle.tree_moves.specs.Only.{Movable}
+use Rattle.tree_ways.specs.Only.{Movable}
 use Rattle.leaf_repeats.specs.Looking.{LooksLeaf, Looks}
 
 -- ---- one leaf

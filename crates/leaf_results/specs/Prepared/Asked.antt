@@ -24,7 +24,7 @@ use Rattle.tree_walk.specs.Walk.{leafKept}
 use Rattle.tree_walk.specs.Forest.{Valid, afterKept}
 use Rattle.tree_walk.specs.Forest.Words.{kind-of-node, holds-of-node}
 use Rattle.tree_walk.specs.Course.{Prepared}
-use Rattle.tree_moves.specs.Takes.Counts.{leaf-not-kind, leaf-not-held, leaf-kept, kept-length}
+use Rattle.tree_ways.specs.Takes.Counts.{leaf-not-kind, leaf-not-held, leaf-kept, kept-length}
 
 no-length : {A : Type 0} (l : List A) → length l ≤ 0 → l ≡ []
 no-length [] h = refl

@@ -27,9 +27,9 @@ use Rattle.tree_walk.specs.Forest.Words.{known-node, nodes-positive}
 use Rattle.tree_walk.specs.Course.{nodeCount, nodesFrom, Prepared}
 use Rattle.tree_walk.specs.Course.Nodes.{nodes-none, nodes-cons, nodes-skip}
 use Rattle.tree_walk.specs.Course.Turns.{head-is, tail-is}
-use Rattle.tree_moves.specs.declared.takes.Tree.{Tree}
-use Rattle.tree_moves.specs.Takes.{TreeAt, Takes}
-use Rattle.tree_moves.specs.Takes.Counts.{none-of}
+use Rattle.tree_ways.specs.declared.takes.Tree.{Tree}
+use Rattle.tree_ways.specs.Takes.{TreeAt, Takes}
+use Rattle.tree_ways.specs.Takes.Counts.{none-of}
 use Rattle.leaf_results.specs.declared.preparing.TreeEnd.{TreeEnd}
 use Rattle.leaf_memo.specs.Memo.{StoreOf}
 use Rattle.leaf_memo.specs.Memo.Laws.{store-marks}

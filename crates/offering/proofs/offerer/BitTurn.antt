@@ -12,8 +12,8 @@ use borrow.Author.Tests.{ltb-true, ltb-false}
 use Rattle.table.specs.Table.{Table}
 use Rattle.table.specs.Memory.{noMemory}
 use Rattle.table.specs.Rules.{Rules}
-use Rattle.tree_moves.specs.declared.takes.Tree.{Tree}
-use Rattle.tree_moves.specs.Takes.{Takes}
+use Rattle.tree_ways.specs.declared.takes.Tree.{Tree}
+use Rattle.tree_ways.specs.Takes.{Takes}
 use Rattle.residuals.specs.Residual.{Residual, leaf, after, afterAll}
 use Rattle.monitor_spec.specs.Offer.{bitOf}
 use Rattle.step_laws.specs.Holds.{AreaHolds, heldIn}

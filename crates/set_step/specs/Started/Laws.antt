@@ -27,7 +27,7 @@ use Rattle.resolving.specs.Lawful.{Lawful}
 use Rattle.resolving.specs.ResidualWords.{nth, definitionInto}
 use Rattle.resolving.specs.ResidualWords.Resolved.{length-resolved, resolved-definition}
 use Rattle.resolving.specs.Distinct.{empty}
-use Rattle.tree_moves.specs.Covering.{slot-form}
+use Rattle.tree_ways.specs.Covering.{slot-form}
 use Rattle.set_step.specs.Started.{ResolvesAll, initial}
 
 -- ---- the number of residuals

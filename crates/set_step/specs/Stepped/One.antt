@@ -30,15 +30,15 @@ use Rattle.resolving.specs.ResidualWords.Popped.{clean-empty}
 use Rattle.tree_walk.specs.Walk.{room, results, onto}
 use Rattle.tree_walk.specs.Forest.{afterKept}
 use Rattle.tree_walk.specs.Course.{nodeCount, nodesFrom, Trees, Place, walked}
-use Rattle.tree_moves.specs.declared.only.Moves.{Moves}
-use Rattle.tree_moves.specs.declared.only.Way.{Way}
-use Rattle.tree_moves.specs.declared.only.Way.the-variants.{Still, Moving}
-use Rattle.tree_moves.specs.Only.{wayOf, rebuilt, Rooted, WayIn, Rebuilds}
-use Rattle.tree_moves.specs.Only.Marks.{marks-small}
-use Rattle.tree_moves.specs.Only.Laws.{MovedBy}
-use Rattle.tree_moves.specs.Only.Pair.{became}
+use Rattle.tree_ways.specs.declared.only.Moves.{Moves}
+use Rattle.tree_ways.specs.declared.only.Way.{Way}
+use Rattle.tree_ways.specs.declared.only.Way.the-variants.{Still, Moving}
+use Rattle.tree_ways.specs.Only.{wayOf, rebuilt, Rooted, WayIn, Rebuilds}
+use Rattle.tree_ways.specs.Only.Marks.{marks-small}
+use Rattle.tree_ways.specs.Only.Laws.{MovedBy}
+use Rattle.tree_ways.specs.Only.Pair.{became}
 use Rattle.tree_moves.specs.Moving.{StepsMoves, steppedMoves}
-use Rattle.tree_moves.specs.Members.{short-of, same-after}
+use Rattle.tree_ways.specs.Members.{short-of, same-after}
 use Rattle.leaf_memo.specs.Memo.Laws.{memo-behind}
 use Rattle.leaf_results.specs.Prepared.{Sound, Fills}
 use Rattle.leaf_memo.specs.Below.{nodes-same, window-of-prefix}

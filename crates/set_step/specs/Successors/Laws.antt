@@ -25,7 +25,7 @@ use Rattle.tree_walk.specs.Walk.{results, room, joins, onto}
 use Rattle.tree_walk.specs.Walk.Results.{onto-append}
 use Rattle.tree_walk.specs.Forest.{Valid, afterKept}
 use Rattle.tree_walk.specs.Forest.Results.{results-moved}
-use Rattle.tree_moves.specs.Members.{Short, short-of, same-after, append-both}
+use Rattle.tree_ways.specs.Members.{Short, short-of, same-after, append-both}
 use Rattle.set_step.specs.Stepped.{gathered, SoundSlot, Source}
 use Rattle.set_step.specs.Successors.{SlotsHold, allKept}
 use Rattle.set_step.specs.Successors.Room.{Within, after-room, slots-written, all-sixteen}

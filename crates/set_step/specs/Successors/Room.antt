@@ -22,8 +22,8 @@ use Rattle.resolving.specs.ResidualWords.Pushed.{length-pushAll}
 use Rattle.resolving.specs.Distinct.{empty}
 use Rattle.tree_walk.specs.Walk.{longest, room, onto}
 use Rattle.tree_walk.specs.Forest.{Valid}
-use Rattle.tree_moves.specs.Covering.{slot-form}
-use Rattle.tree_moves.specs.Members.{room-append, nodes-room, node-results}
+use Rattle.tree_ways.specs.Covering.{slot-form}
+use Rattle.tree_ways.specs.Members.{room-append, nodes-room, node-results}
 
 -- ---- at most so many node words
 

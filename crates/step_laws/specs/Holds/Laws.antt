@@ -15,8 +15,8 @@ use Rattle.numbers.specs.Every.{All}
 use Rattle.table.specs.Table.{Table}
 use Rattle.table.specs.Memory.{noMemory}
 use Rattle.table.specs.Rules.{Rules}
-use Rattle.tree_moves.specs.declared.takes.Tree.{Tree}
-use Rattle.tree_moves.specs.Takes.{TreeAt, Takes}
+use Rattle.tree_ways.specs.declared.takes.Tree.{Tree}
+use Rattle.tree_ways.specs.Takes.{TreeAt, Takes}
 use Rattle.residuals.specs.Residual.{Residual, leaf, after, afterAll}
 use Rattle.residuals.specs.Slots.{slotsOf}
 use Rattle.monitor_spec.specs.Valid.{held}

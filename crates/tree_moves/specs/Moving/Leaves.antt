@@ -33,9 +33,9 @@ use Rattle.tree_walk.specs.Walk.{room, leafResults, longest, onto}
 use Rattle.slots.specs.Holding.{Outcome, heldAs, putOne, putAll, Gave}
 use Rattle.slots.specs.Holding.Laws.{put-none, put-single, put-then, put-stop}
 use Rattle.tree_walk.specs.Walk.Leaves.{results-yes, nodes-short, nodes-at}
-use Rattle.tree_moves.specs.Only.{rebuilt, ending, tried, Rest}
-use Rattle.tree_moves.specs.Only.{Rebuilds}
-use Rattle.tree_moves.specs.Only.Rebuilding.{rest-fits}
+use Rattle.tree_ways.specs.Only.{rebuilt, ending, tried, Rest}
+use Rattle.tree_ways.specs.Only.{Rebuilds}
+use Rattle.tree_ways.specs.Only.Rebuilding.{rest-fits}
 use Rattle.tree_moves.specs.Moving.{StepsLeaf, steppedLeaf}
 
 -- what is left of the leaf's results, from the i-th on

@@ -21,11 +21,11 @@ use Rattle.tree_walk.specs.Walk.{onto}
 use Rattle.tree_walk.specs.Walk.Results.{onto-append, onto-head}
 use Rattle.slots.specs.Holding.{Outcome, heldAs, putAll, Gave}
 use Rattle.slots.specs.Holding.Laws.{put-none, put-then, put-stop}
-use Rattle.tree_moves.specs.Only.{grown, rebuilt, starting, triedBy, moved, Movable, Rest}
-use Rattle.tree_moves.specs.Only.{Carries}
-use Rattle.tree_moves.specs.Only.Marks.{grown-kept}
-use Rattle.tree_moves.specs.Only.Rebuilding.{rest-carries, rest-grown, rest-room}
-use Rattle.tree_moves.specs.Only.Moved.{tried-none, tried-some, moved-none}
+use Rattle.tree_ways.specs.Only.{grown, rebuilt, starting, triedBy, moved, Movable, Rest}
+use Rattle.tree_ways.specs.Only.{Carries}
+use Rattle.tree_ways.specs.Only.Marks.{grown-kept}
+use Rattle.tree_ways.specs.Only.Rebuilding.{rest-carries, rest-grown, rest-room}
+use Rattle.tree_ways.specs.Only.Moved.{tried-none, tried-some, moved-none}
 use Rattle.tree_moves.specs.Moving.{StepsLeaf, steppedLeaf, StepsMoves, steppedMoves}
 
 -- n nodes from p on are left; with what is held by now they come to the outcome o

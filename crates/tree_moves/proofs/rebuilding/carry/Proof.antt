@@ -2,7 +2,7 @@
 use native.Mathlib.Omega.{arith}
 use Rattle.index.specs.Facts.{terms-few}
 use Rattle.resolving.specs.Lawful.{event-small}
-use Rattle.tree_moves.specs.Only.Following.{carry-room, carry-keep, carry-resolves, carry-moved}
+use Rattle.tree_ways.specs.Only.Following.{carry-room, carry-keep, carry-resolves, carry-moved}
 use borrow.Author.Needs.{needs}
 use Rattle.tree_moves.proofs.rebuilding.carry.Statement.{statement}
 use Rattle.tree_moves.proofs.rebuilding.carry.Tie as tie

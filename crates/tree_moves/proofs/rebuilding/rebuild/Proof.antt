@@ -9,9 +9,9 @@ use Rattle.index.specs.Facts.{terms-few}
 use Rattle.resolving.specs.ResidualWords.{pushed}
 use Rattle.resolving.specs.ResidualWords.Descent.{landed-nowhere, landed-leaf, landed-pair}
 use Rattle.resolving.specs.Lawful.{event-small}
-use Rattle.tree_moves.specs.Only.Following.{carry-resolves, carry-moved}
-use Rattle.tree_moves.specs.Only.Rebuilding.{Rebuilding, rebuild-first, rebuild-room, rebuild-keep}
-use Rattle.tree_moves.specs.Only.Rebuilding.{rebuild-carries, rebuild-carry, rebuild-last}
+use Rattle.tree_ways.specs.Only.Following.{carry-resolves, carry-moved}
+use Rattle.tree_ways.specs.Only.Rebuilding.{Rebuilding, rebuild-first, rebuild-room, rebuild-keep}
+use Rattle.tree_ways.specs.Only.Rebuilding.{rebuild-carries, rebuild-carry, rebuild-last}
 use borrow.Author.Needs.{needs}
 use Rattle.tree_moves.proofs.rebuilding.rebuild.Statement.{statement}
 use Rattle.tree_moves.proofs.rebuilding.rebuild.Tie as tie
