@@ -225,7 +225,7 @@ mod tests {
         let count = |name| chosen(&parse(&["--input", name]).unwrap()).len();
         assert!(
             [count("eight lanes"), count("eight"), count("stress"), count("none")]
-                == [1, 2, 11, 0]
+                == [1, 2, 13, 0]
         );
     }
 }
