@@ -1,4 +1,4 @@
-// Feed for C. What a call returns and leaves is `feedCall` of crate `words`, `specs/Calls.antt`.
+// Feed for C. What a call returns and leaves is `feedCall` of crate `words_spec`.
 ghost use mathlib.Core.Path.{_≡_};
 ghost use Rattle.words_spec.specs.Calls.{monitorSaid as said, feedCall};
 use words::load;

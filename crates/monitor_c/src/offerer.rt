@@ -1,4 +1,4 @@
-// Offer for C. What a call returns and leaves is `offerCall` of crate `words`, `specs/Calls.antt`.
+// Offer for C. What a call returns and leaves is `offerCall` of crate `words_spec`.
 ghost use mathlib.Core.Path.{_≡_};
 ghost use Rattle.words_spec.specs.Calls.{offerSaid, offerCall};
 use words::load;

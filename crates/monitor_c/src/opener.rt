@@ -1,4 +1,4 @@
-// Open for C. What a call returns and leaves is `openCall` of crate `words`, `specs/Calls.antt`.
+// Open for C. What a call returns and leaves is `openCall` of crate `words_spec`.
 ghost use mathlib.Core.Path.{_≡_};
 ghost use Rattle.words_spec.specs.Calls.{openSaid, openCall};
 use words::has_record;

@@ -1,4 +1,4 @@
-// Try for C. What a call returns and leaves is `tryCall` of crate `words`, `specs/Calls.antt`.
+// Try for C. What a call returns and leaves is `tryCall` of crate `words_spec`.
 ghost use mathlib.Core.Path.{_≡_};
 ghost use Rattle.words_spec.specs.Calls.{monitorSaid as said, tryCall};
 use words::load;

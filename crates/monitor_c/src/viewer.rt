@@ -1,4 +1,4 @@
-// View for C. What a call returns and leaves is `viewCall` of crate `words`, `specs/Calls.antt`.
+// View for C. What a call returns and leaves is `viewCall` of crate `words_spec`.
 ghost use mathlib.Core.Path.{_≡_};
 ghost use Rattle.words_spec.specs.Calls.{viewSaid, viewCall};
 use words::load;
