@@ -3,7 +3,7 @@
  * Feed, Offer and View, and of document 02 the office's lot sheet (W2), Try (W4), Feed in wash hours (W5) and Open
  * (W7); tables have up to 128 events (W6). `rt staticlib monitor_c` proves and writes it
  * (target/staticlib/libmonitor_c.a, for x86-64 Linux). Each function is proved to return, and to leave in every word
- * that it is lent, what crates/words/specs defines (of cspe_sheet crates/sheet_words/specs, of cspe_timed_feed
+ * that it is lent, what crates/words_spec/specs defines (of cspe_sheet crates/sheet_words/specs, of cspe_timed_feed
  * crates/wash_words/specs), on every input: no call has a condition but those below.
  *
  * What is lent. Every buffer is the caller's, and is lent for one call: a pointer, and after it how many elements it

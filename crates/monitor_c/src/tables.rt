@@ -1,4 +1,4 @@
-// Read and Write for C. What a call returns and leaves is in crate `words`, `specs/Tables.antt`.
+// Read and Write for C. What a call returns and leaves is in crate `words_spec`.
 ghost use mathlib.Core.Path.{_≡_};
 ghost use Rattle.words_spec.specs.Tables.{tableSaid as said, readCall, writeCall};
 use words::tell_table;
