@@ -55,7 +55,7 @@ fn alone(from: usize, length: usize, count: u64, long: bool) -> usize
 }
 
 // Takes the events from a place on, all of them. Where the store keeps results of a leaf, a residual
-// was met whose results its moves do not say: steps take long, so that learning pays at once.
+// was met that goes the general way: steps take long, so that learning pays at once.
 fn take_rest(
     list: &[u16],
     work: &[u64],

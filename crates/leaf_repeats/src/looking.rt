@@ -12,18 +12,26 @@ use resolving::descend;
 use resolving::term_into;
 use tree_walk::layout::ENTRY_MOST;
 ghost use mathlib.Core.Path.{_≡_};
-ghost use Prim.Native.Nat.{_<_, _≤_};
+ghost use Prim.Native.Nat.{_%_, _<_, _≤_};
 ghost use lib.ListN.{length, getD};
 ghost use Rattle.table_index.specs.Index.{tableIn, Indexed};
 ghost use Rattle.node_word.specs.Word.{memoryBound, memoryOf};
 ghost use Rattle.residuals.specs.Residual.{resolve};
 ghost use Rattle.resolving.specs.Distinct.{empty, Resolvable};
 ghost use Rattle.resolving.specs.ResidualWords.{Resolves};
-ghost use Rattle.tree_walk.specs.Layout.{storeWords};
+ghost use Rattle.tree_walk.specs.Layout.{entryMost, storeWords};
 ghost use Rattle.leaf_repeats.specs.Looking.{LooksLeaf, Looks};
 
 // A leaf with fewer branches is not looked at.
 const LEAST: u64 = 8;
+
+// What a look at a leaf says: nothing that counts; that its results come again; that it has many,
+// and they are not seen to come again.
+const PLAIN: u64 = 0;
+
+const AGAIN: u64 = 1;
+
+const MANY: u64 = 2;
 
 // A key of a slot's words: equal slots have equal keys.
 fn key_of(slot: &[u64]) -> u64
@@ -84,12 +92,32 @@ fn has_key(keys: &[u64], k: usize, key: u64) -> bool
     false
 }
 
-// Whether the b residuals of term n have no more keys than an entry keeps, and two of the first s
-// have the same.
-fn few(list: &[u16], work: &[u64], bound: usize, n: usize, m: u64, b: u64, s: u64) -> bool
+// How many keys at most b residuals have that are few: half as many, and no more than an entry keeps.
+fn most_of(b: u64) -> u64
+    ensures { λ r. ⌜ r ≤ entryMost ⌝ }
+{
+    let half = b / 2;
+    if half < ENTRY_MOST {
+        return half;
+    }
+    ENTRY_MOST
+}
+
+// Whether the b residuals of term n have at most so many keys, and two of the first s have the same.
+fn few(
+    list: &[u16],
+    work: &[u64],
+    bound: usize,
+    n: usize,
+    m: u64,
+    b: u64,
+    s: u64,
+    most: u64,
+) -> bool
     requires { ⌜ Indexed (now list) (now work) ⌝ }
     requires { ⌜ Resolvable (tableIn (now list)) bound n (memoryOf m) × (m < memoryBound) ⌝ }
     requires { ⌜ b ≤ length (resolve (tableIn (now list)) n (memoryOf m)) ⌝ }
+    requires { ⌜ most ≤ entryMost ⌝ }
 {
     let none = [0u64; 16];
     let mut keys = [0u64; 13];
@@ -106,7 +134,7 @@ fn few(list: &[u16], work: &[u64], bound: usize, n: usize, m: u64, b: u64, s: u6
         if has_key(&keys, k, key) {
             continue;
         }
-        if k as u64 == ENTRY_MOST {
+        if most <= k as u64 {
             return false;
         }
         keys[k] = key;
@@ -115,8 +143,17 @@ fn few(list: &[u16], work: &[u64], bound: usize, n: usize, m: u64, b: u64, s: u6
     true
 }
 
-// Whether results of a leaf come again: they are kept, or are seen to be few.
-fn leaf_repeats(list: &[u16], work: &[u64], bound: usize, e: u64, w: u64, store: &[u64]) -> bool
+// A leaf with b branches whose results are not seen to come again: there are many where an entry
+// could not keep them.
+fn other_of(b: u64) -> u64 {
+    if ENTRY_MOST < b {
+        return MANY;
+    }
+    PLAIN
+}
+
+// What a look at a leaf says: its results come again where they are kept, or are seen to be few.
+fn look_leaf(list: &[u16], work: &[u64], bound: usize, e: u64, w: u64, store: &[u64]) -> u64
     requires { ⌜ Indexed (now list) (now work) ⌝ }
     requires { ⌜ LooksLeaf (tableIn (now list)) bound e w ⌝ }
     requires { ⌜ length (now store) ≡ storeWords ⌝ }
@@ -124,16 +161,40 @@ fn leaf_repeats(list: &[u16], work: &[u64], bound: usize, e: u64, w: u64, store:
     let t = term_of(w) + 1;
     let b = index::branches(list, work, t);
     if b < LEAST {
-        return false;
+        return PLAIN;
     }
     if is_entry(store, entry_at(w, e), w, e) {
-        return true;
+        return AGAIN;
     }
     let m = remember(e, memory_of(w));
-    few(list, work, bound, t, m, b, b / 4)
+    if few(list, work, bound, t, m, b, b / 4, most_of(b)) {
+        return AGAIN;
+    }
+    other_of(b)
 }
 
-// Whether results of one of the marked leaves come again, of the n nodes from p on.
+// The same of a node, which is such a leaf where the marks' lowest bit is set.
+fn look_node(
+    list: &[u16],
+    work: &[u64],
+    bound: usize,
+    e: u64,
+    w: u64,
+    marks: u64,
+    store: &[u64],
+) -> u64
+    requires { ⌜ Indexed (now list) (now work) ⌝ }
+    requires { ⌜ (marks % 2 ≡ 1 → LooksLeaf (tableIn (now list)) bound e w) ⌝ }
+    requires { ⌜ length (now store) ≡ storeWords ⌝ }
+{
+    if marks % 2 == 1 {
+        return look_leaf(list, work, bound, e, w, store);
+    }
+    PLAIN
+}
+
+// Whether results of one of the marked leaves come again, of the n nodes from p on, and none of them
+// has many that do not.
 pub fn repeats(
     list: &[u16],
     work: &[u64],
@@ -149,16 +210,17 @@ pub fn repeats(
     requires { ⌜ Looks (tableIn (now list)) bound e (now src) p n each ⌝ }
     requires { ⌜ length (now store) ≡ storeWords ⌝ }
 {
+    let mut again = PLAIN;
     let mut x = each;
     let mut at = p;
     while 0 < x {
-        if x % 2 == 1 {
-            if leaf_repeats(list, work, bound, e, src[at], store) {
-                return true;
-            }
+        let look = look_node(list, work, bound, e, src[at], x, store);
+        if look == MANY {
+            return false;
         }
+        again |= look;
         x /= 2;
         at += 1;
     }
-    false
+    again == AGAIN
 }

@@ -1,5 +1,5 @@
 // The words of a residual's results, rebuilt node by node. The definitions are in
-// `specs/Only.antt`.
+// `specs/Only.antt` of crate `tree_ways`.
 use node_word::memory_of;
 use node_word::remember;
 use node_word::term_of;

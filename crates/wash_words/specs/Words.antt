@@ -1,5 +1,5 @@
--- The record of wash hours in seven lent words (02, W5; the words are ours): the five of the record (crate words), then
--- whether there is one, then the last event's minute.
+-- The record of wash hours in seven lent words (02, W5; the words are ours): the five of the record (crate words_spec),
+-- then whether there is one, then the last event's minute.
 --     timedRecordMeasured    a lent record is of seven words
 --     timedIn                what seven words hold
 --     timedWords             the words of a record, or of none yet

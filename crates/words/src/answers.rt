@@ -1,4 +1,4 @@
-// Answers of Open, Feed and Offer in words. The definitions are in `specs/Calls.antt`.
+// Answers of Open, Feed and Offer in words. The definitions are in crate `words_spec`.
 ghost use mathlib.Core.Path.{_≡_};
 ghost use lib.ListN.{length};
 ghost use Rattle.state.specs.Answers.{answerOf, offeredOf};

@@ -1,6 +1,6 @@
 // The state record in five lent words: the events taken, the residuals held, 0 for running or 1 for
 // failed, the place of the failure (0 while running), and the peak. The definitions are in
-// `specs/Words.antt`.
+// `specs/Words.antt` of crate `words_spec`.
 ghost use mathlib.Core.Path.{_≡_};
 ghost use mathlib.Core.List.{[], _∷_};
 ghost use lib.ListN.{length};

@@ -1,4 +1,4 @@
-// Answers of Read and Write in words. The definitions are in `specs/Tables.antt`.
+// Answers of Read and Write in words. The definitions are in crate `words_spec`.
 ghost use Rattle.table.specs.Answers.{answerOf};
 ghost use Rattle.words_spec.specs.Tables.{TableTold};
 use table::Answer;

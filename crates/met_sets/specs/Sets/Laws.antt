@@ -4,7 +4,7 @@
 --     found-slots                     a set that has the words of an area
 --     shape-none, first-start, met-none    no set
 --     link-inside, met-linked         a transition more
--- One set more is in `Kept.antt`. Assumes nothing.
+-- One set more is in `Added.antt`. Assumes nothing.
 use Prim.Native.Nat.{ℕ, suc, _+_, _*_, _≤_, _<_}
 use native.Mathlib.Omega.{arith}
 use native.Mathlib.Nat.{mul-le-mul-right}

@@ -10,11 +10,11 @@ use Rattle.leaf_repeats.proofs.looking.few.Statement.{statement}
 use Rattle.leaf_repeats.proofs.looking.few.Tie as tie
 
 abbrev Inv-loop : tie.InvT-loop
-Inv-loop list work bound n m b s none keys₀ k₀ i₀ keys k i =
+Inv-loop list work bound n m b s most none keys₀ k₀ i₀ keys k i =
     (k ≤ 13) × (length keys ≡ 13) × (none ≡ empty)
 
 abbrev μ-loop : tie.MeasureT-loop
-μ-loop list work bound n m b s none keys₀ k₀ i₀ keys k i = b - i
+μ-loop list work bound n m b s most none keys₀ k₀ i₀ keys k i = b - i
 
 loop-holds : tie.Need-loop-holds Inv-loop μ-loop
 loop-holds c = (omega arith, refl, refl)
