@@ -1,5 +1,5 @@
 // What a lent buffer holds before a call, and whether it was kept or cleared.
-//     fill_words, fill_numbers, fill_bytes    junk: no element is 0, and those near each other differ
+//     fill_words, fill_numbers, fill_bytes    junk: no element is 0, and neighbours differ
 //     kept_words, kept_numbers                whether the junk still stands
 //     stands                                  whether a work area is as a case says
 

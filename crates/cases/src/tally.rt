@@ -30,9 +30,10 @@ pub fn outcome_of(right: bool) -> Outcome
     Outcome::Wrong
 }
 
-// Where the run stands: the lines that were read; whether a group has begun, and whether its answers
-// are wrong on purpose; how many cases it had, how many of them were wrong, and the first of these,
-// or 0; whether all came out as their groups say so far; whether the last line was malformed.
+// Where the run stands: the lines that were read; whether a group has begun, and whether its
+// answers are wrong on purpose; how many cases it had, how many of them were wrong, and the first
+// of these, or 0; whether all came out as their groups say so far; whether the last line was
+// malformed.
 pub struct Tally {
     lines: u64,
     begun: bool,

@@ -9,13 +9,13 @@ use table::Judged;
 use table::Refusal;
 ghost use mathlib.Core.Path.{_≡_};
 ghost use lib.ListN.{length};
-ghost use Rattle.table_index.specs.BytesJudged.{Within, BytesDeclined, BytesJudged};
+ghost use Rattle.table_index.specs.BytesJudged.{PlaceInside, BytesDeclined, BytesJudged};
 ghost use Rattle.table.specs.Operations.{readOf};
 ghost use Rattle.table.specs.Answers.{outcome, ReadSaid};
 
 // A refusal of the decoded numbers as one of the bytes.
 fn refused_bytes(list: &[u16], size: usize, d: Decoded, r: Refusal) -> Refusal
-    requires { ⌜ Within (now list) (r .number) (r .place) ⌝ }
+    requires { ⌜ PlaceInside (now list) (r .number) (r .place) ⌝ }
     ensures { λ q. ⌜ BytesDeclined (now (list .entry)) (d .next) size (d .malformed) r q ⌝ }
 {
     let number = r.number;

@@ -30,7 +30,7 @@ use Rattle.trace_spec.specs.TraceLine.{TraceLine, takes, refuses}
 use Rattle.trace_spec.specs.Trace.{Beginning, begins, declines, beginningOf, startLine, traceOf}
 use Rattle.trace_spec.specs.Reads.{at, reachedBy}
 use Rattle.feeding.specs.Feeding.{stepWords}
-use Rattle.tracing.specs.Tracing.{Tracing, TracedOn, StoppedAt}
+use Rattle.tracing.specs.Tracing.{Tracing, TracedOn, RefusedEvent}
 use Rattle.saying.specs.declared.print.Said.{Said}
 use Rattle.course_spec.specs.declared.answer.Told.{Told}
 use Rattle.course_spec.specs.declared.answer.Told.the-variants.{Ended, Refused, Unread, Unwritten}
@@ -62,7 +62,7 @@ pub record WentOn (l w : List ℕ) (m : Monitor) (c e : ℕ) (next : State) (x :
 pub record StopSaid (l : List ℕ) (m : Monitor) (c e : ℕ) (x : Utterance) (a b : List ℕ) : Type 0 where
   pub number : ℕ
   pub place : ℕ
-  pub stopped : StoppedAt l m e number place a b
+  pub stopped : RefusedEvent l m e number place a b
   pub line : x .line ≡ refuses number place
   pub count : Counted c 1 (x .lines)
 

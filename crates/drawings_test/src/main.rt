@@ -1,6 +1,6 @@
 // Runs the functions of crate `line` on the inputs of `lines.txt`, at once and in pieces, and
 // prints a line for each group of inputs, then `ok` if every line was the stored one.
-//     file      the file, piece by piece            case      its lines: parts of a case, and cases
+//     file      the file, line by line              case      its lines: parts of a case, and cases
 //     trial     one input, held to its line         slots     the same by Read and Open
 // The file's head says how a line is read, and where the answers come from.
 mod case;

@@ -39,8 +39,8 @@ fn clamp(n: usize, low: usize, high: usize) -> usize
     n
 }
 
-// The place up to which events are taken one after the other before a set is kept: from one place on
-// of so many events, where there are so many residuals, and where steps are long or not.
+// The place up to which events are taken one after the other before a set is kept: from one place
+// on of so many events, where there are so many residuals, and where steps are long or not.
 fn alone(from: usize, length: usize, count: u64, long: bool) -> usize
     requires { ⌜ from ≤ length ⌝ }
     ensures { λ r. ⌜ (r ≡ aloneTo from length count long) × (r ≤ length) ⌝ }
@@ -54,8 +54,8 @@ fn alone(from: usize, length: usize, count: u64, long: bool) -> usize
     clamp(32, from, length)
 }
 
-// Takes the events from a place on, all of them. Where the store keeps results of a leaf, a residual
-// was met that goes the general way: steps take long, so that learning pays at once.
+// Takes the events from a place on, all of them. Where the store keeps results of a leaf, a
+// residual was met that goes the general way: steps take long, so that learning pays at once.
 fn take_rest(
     list: &[u16],
     work: &[u64],

@@ -36,6 +36,7 @@ use Rattle.table_index.specs.Layout.{termsAt, bodiesAt, alphabetAt, definitionC
 use Rattle.table_index.specs.Layout.{parameterDigit, prefixesDigit, rightDigit, targetDigit, reachDigit, branchesDigit}
 use Rattle.table_index.specs.Index.{targetOf, firstRow, Indexed, tableIn}
 use Rattle.table_index.specs.Index.Laws.{WordDigits, digits, left-inside}
+use Rattle.table_index.specs.Filling.Kinds.{kind-most}
 use Rattle.index.specs.Rows.{RowAt, fixed-row, family-row}
 
 pub indexed-rules : {l w : List ℕ} → Indexed l w → Rules (tableIn l)
@@ -60,15 +61,6 @@ body-below : (t : Table) → Fields t → (d : ℕ) → d < length (t .definitio
 body-below t f d h =
     let b = body-node t d h in
     omega (arith, b .next, b .inside, size-positive (bodyIn (t .definitions) d), f .terms-most)
-
-kind-most : (p : Term) → kindOf p ≤ 5
-unfolding kindOf
-kind-most stop = omega arith
-kind-most fail = omega arith
-kind-most (prefix r p) = omega arith
-kind-most (choice p q) = omega arith
-kind-most (par r p q) = omega arith
-kind-most (call d) = omega arith
 
 of-most : (r : SetRef) → ParamSmall r → parameterOf r ≤ 4
 of-most (fixed s) h = omega arith

@@ -17,7 +17,7 @@ use lib.Seq.{getD-append-add}
 use lib.Pow.{pow-add, pow-lt, shl-shr, shr-shr, high, field, mod-mod-pow}
 use lib.Dec.{eqb}
 use borrow.Author.Tests.{eq-eqb, ne-eqb}
-use Rattle.numbers.specs.Every.{All, all-imp}
+use Rattle.numbers.specs.Every.{All, all-imp, all-at}
 use Rattle.table.specs.Table.{SetRef, fixed, family, SetDef, one, each, Table}
 use Rattle.table.specs.Fields.{Ascending, EachRow, FamilyRows, IsOne, IsEach, RefExists, Fields}
 use Rattle.table.specs.Rows.{alphabetMost, largeAbove, RowsFit}
@@ -115,11 +115,6 @@ second-bit m e h =
     ap (λ (y : ℕ). y % 2) (shr-shr m wordEvents (e - wordEvents) ∙ ap (λ (y : ℕ). m / 2 ^ y) s)
 
 -- ---- rows of sets
-
-all-at : {A : Type 0} (X : A → Type 0) (z : A) (l : List A) (i : ℕ) → All X l → i < length l → X (getD l i z)
-all-at X z [] i h b = absurd (omega arith)
-all-at X z (x ∷ xs) zero h b = h .0
-all-at X z (x ∷ xs) (suc i) h b = all-at X z xs i (h .1) (omega arith)
 
 first-next : (d : SetDef) (sets : List SetDef) (s : ℕ)
     → firstRow (d ∷ sets) (suc s) ≡ length (setMasks d) + firstRow sets s

@@ -9,12 +9,12 @@ use table::Judged;
 use table::Refusal;
 ghost use mathlib.Core.Path.{_≡_};
 ghost use lib.ListN.{length};
-ghost use Rattle.table_index.specs.Parse.{Whole};
+ghost use Rattle.table_index.specs.Parse.{Parsed};
 ghost use Rattle.table_index.specs.Judging.{JudgeDone, CheckDone, Checked};
 
 // Refusals 7, 8 and 9 of a parsed table.
 fn judge_parsed(list: &[u16], work: &mut [u64]) -> Judged
-    requires { ⌜ Whole (now list) (now work) ⌝ }
+    requires { ⌜ Parsed (now list) (now work) ⌝ }
     ensures { λ r. ⌜ JudgeDone (now (list .entry)) (now (work .exit)) r ⌝ }
 {
     match first_bad_reference(list, work) {

@@ -11,6 +11,7 @@ ghost use mathlib.Core.Path.{_≡_};
 ghost use mathlib.Core.Bool.{true};
 ghost use Prim.Native.Nat.{_+_, _<_, _≤_};
 ghost use lib.ListN.{length, getD};
+ghost use Rattle.table.specs.Rows.{alphabetMost};
 ghost use Rattle.table.specs.Table.{Table};
 ghost use Rattle.tree_walk.specs.Layout.{memoAt, entryCount, entryWords, storeWords};
 ghost use Rattle.leaf_memo.specs.Memo.{Apart, Copied, EntryAt, StoreOf, KeptInEntry, KeepsBy};
@@ -25,7 +26,7 @@ fn lower(h: u64) -> u64
 // Where the entry of a leaf and an event stands: it is told by the term, by the memory's nearest
 // two events and by the event. That of another leaf may stand there too.
 pub fn entry_at(w: u64, e: u64) -> usize
-    requires { ⌜ e < 128 ⌝ }
+    requires { ⌜ e < alphabetMost ⌝ }
     ensures { λ r. ⌜ EntryAt r ⌝ }
 {
     let h = lower(term_of(w) as u64) + lower(digit(w, 0)) + lower(digit(w, 1)) * 3 + e * 5;
@@ -34,7 +35,7 @@ pub fn entry_at(w: u64, e: u64) -> usize
 
 // True only where the entry at p is that of a leaf and an event.
 pub fn is_entry(store: &[u64], p: usize, w: u64, e: u64) -> bool
-    requires { ⌜ (p + entryWords ≤ length (now store)) × (e < 128) ⌝ }
+    requires { ⌜ (p + entryWords ≤ length (now store)) × (e < alphabetMost) ⌝ }
     ensures { λ r.
         ⌜ (r ≡ true → (getD (now (store .entry)) p 0 ≡ w)
         × (getD (now (store .entry)) (p + 1) 0 ≡ e + 1)) ⌝ }
@@ -64,7 +65,7 @@ pub fn copy_part(store: &mut [u64], p: usize, q: usize)
 // have room there.
 pub fn keep(store: &mut [u64], p: usize, w: u64, e: u64, at: usize)
     requires { ⌜ (memoAt ≤ p) × (p + entryWords ≤ length (now store)) × (at + 257 ≤ memoAt)
-        × (e < 128) ⌝ }
+        × (e < alphabetMost) ⌝ }
     ensures { λ _. ⌜ KeptInEntry (now (store .entry)) (now (store .exit)) p w e at ⌝ }
 {
     if ENTRY_MOST < store[at] {

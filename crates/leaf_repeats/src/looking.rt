@@ -9,11 +9,12 @@ use node_word::remember;
 use node_word::term_of;
 use resolving::Landed;
 use resolving::descend;
+use resolving::key_of;
 use resolving::term_into;
 use tree_walk::layout::ENTRY_MOST;
 ghost use mathlib.Core.Path.{_≡_};
 ghost use Prim.Native.Nat.{_%_, _<_, _≤_};
-ghost use lib.ListN.{length, getD};
+ghost use lib.ListN.{length};
 ghost use Rattle.table_index.specs.Index.{tableIn, Indexed};
 ghost use Rattle.node_word.specs.Word.{memoryBound, memoryOf};
 ghost use Rattle.residuals.specs.Residual.{resolve};
@@ -32,20 +33,6 @@ const PLAIN: u64 = 0;
 const AGAIN: u64 = 1;
 
 const MANY: u64 = 2;
-
-// A key of a slot's words: equal slots have equal keys.
-fn key_of(slot: &[u64]) -> u64
-    requires { ⌜ (length (now slot) ≡ 16) × (getD (now slot) 0 0 < 16) ⌝ }
-{
-    let n = slot[0] as usize;
-    let mut key = 0;
-    let mut j = 1;
-    while j <= n {
-        key = (key << 13) ^ (key >> 51) ^ slot[j];
-        j += 1;
-    }
-    key
-}
 
 // The key of the i-th residual of a term that is a parallel.
 fn pair_key(list: &[u16], work: &[u64], bound: usize, n: usize, m: u64, i: u64) -> u64
@@ -92,7 +79,8 @@ fn has_key(keys: &[u64], k: usize, key: u64) -> bool
     false
 }
 
-// How many keys at most b residuals have that are few: half as many, and no more than an entry keeps.
+// How many keys at most b residuals have that are few: half as many, and no more than an entry
+// keeps.
 fn most_of(b: u64) -> u64
     ensures { λ r. ⌜ r ≤ entryMost ⌝ }
 {
@@ -103,7 +91,8 @@ fn most_of(b: u64) -> u64
     ENTRY_MOST
 }
 
-// Whether the b residuals of term n have at most so many keys, and two of the first s have the same.
+// Whether the b residuals of term n have at most so many keys, and two of the first s have the
+// same.
 fn few(
     list: &[u16],
     work: &[u64],
@@ -144,7 +133,7 @@ fn few(
 }
 
 // A leaf with b branches whose results are not seen to come again: there are many where an entry
-// could not keep them.
+// might not keep them.
 fn other_of(b: u64) -> u64 {
     if ENTRY_MOST < b {
         return MANY;
@@ -193,8 +182,9 @@ fn look_node(
     PLAIN
 }
 
-// Whether results of one of the marked leaves come again, of the n nodes from p on, and none of them
-// has many that do not.
+// Whether results of one of the marked leaves come again, of the n nodes from p on, and none of
+// them has many of which that is not seen. n is not read: `Looks` says with it that no mark is
+// beyond the nodes.
 pub fn repeats(
     list: &[u16],
     work: &[u64],

@@ -1,5 +1,5 @@
 -- A store filled for one residual; a tree that cannot take the event is passed over whole.
---     Sound                      the residual in a store: a known tree whose results fit a slot
+--     Loaded                      the residual in a store: a known tree whose results fit a slot
 --     LeafFilled                 one leaf is filled
 --     FilledBefore               a prefix filled before
 --     TreeFrom, TreeFilled       the tree at a node; it is prepared
@@ -24,7 +24,7 @@ pub mod Repeats
 pub mod Asked
 pub mod Trees
 
-pub record Sound (t : Table) (bound e : ℕ) (store : List ℕ) : Type 0 where
+pub record Loaded (t : Table) (bound e : ℕ) (store : List ℕ) : Type 0 where
   pub size : length store ≡ storeWords
   pub memo : Memo t store
   pub few : nodeCount store ≤ 15

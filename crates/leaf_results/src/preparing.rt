@@ -22,7 +22,7 @@ ghost use Rattle.node_word.specs.Word.{termOfWord};
 ghost use Rattle.resolving.specs.Words.{kindAt, holdsAt};
 ghost use Rattle.tree_walk.specs.Course.{nodeCount};
 ghost use Rattle.leaf_memo.specs.Memo.{StoreOf};
-ghost use Rattle.leaf_results.specs.Prepared.{Sound, LeafFilled, FilledBefore, Fills};
+ghost use Rattle.leaf_results.specs.Prepared.{Loaded, LeafFilled, FilledBefore, Fills};
 ghost use Rattle.leaf_results.specs.Prepared.{TreeFrom, TreeFilled};
 
 // Whether a node is a prefix, by the kind of its term. A residual's other nodes are STOP and pairs.
@@ -55,7 +55,7 @@ fn has_word(store: &[u64], last: usize, w: u64) -> bool
 // its word and the event, or else with those of its follower, which are kept then.
 fn prepare_prefix(list: &[u16], work: &[u64], bound: usize, e: u64, store: &mut [u64], k: usize)
     requires { ⌜ Indexed (now list) (now work) ⌝ }
-    requires { ⌜ Sound (tableIn (now list)) bound e (now store) ⌝ }
+    requires { ⌜ Loaded (tableIn (now list)) bound e (now store) ⌝ }
     requires { ⌜ (1 ≤ k) × (k ≤ nodeCount (now store)) ⌝ }
     requires { ⌜ (kindAt (tableIn (now list)) (getD (now store) k 0) ≡ 2)
         × (holdsAt (tableIn (now list)) e (getD (now store) k 0) ≡ true) ⌝ }
@@ -88,7 +88,7 @@ fn prepare_leaf(
     last: usize,
 )
     requires { ⌜ Indexed (now list) (now work) ⌝ }
-    requires { ⌜ Sound (tableIn (now list)) bound e (now store) ⌝ }
+    requires { ⌜ Loaded (tableIn (now list)) bound e (now store) ⌝ }
     requires { ⌜ (1 ≤ k) × (k ≤ nodeCount (now store)) ⌝ }
     requires { ⌜ (kindAt (tableIn (now list)) (getD (now store) k 0) ≡ 2)
         × (holdsAt (tableIn (now list)) e (getD (now store) k 0) ≡ true) ⌝ }
@@ -111,9 +111,9 @@ struct TreeEnd {
     last: usize,
 }
 
-// Fills the parts of the tree at node k. Where it cannot take the event, that alone is said. Else it
-// is a prefix, whose results are filled in, or a pair: that it takes the event, then its two sides.
-// `last` is a prefix that was filled before, or 0.
+// Fills the parts of the tree at node k. Where it cannot take the event, that alone is said. Else
+// it is a prefix, whose results are filled in, or a pair: that it takes the event, then its two
+// sides. `last` is a prefix that was filled before, or 0.
 fn prepare_tree(
     list: &[u16],
     work: &[u64],
@@ -124,7 +124,7 @@ fn prepare_tree(
     last: usize,
 ) -> TreeEnd
     requires { ⌜ Indexed (now list) (now work) ⌝ }
-    requires { ⌜ Sound (tableIn (now list)) bound e (now store) ⌝ }
+    requires { ⌜ Loaded (tableIn (now list)) bound e (now store) ⌝ }
     requires { ⌜ TreeFrom (tableIn (now list)) (now store) k ⌝ }
     requires { ⌜ FilledBefore (tableIn (now list)) e (now store) k last ⌝ }
     ensures { λ r.
@@ -151,7 +151,7 @@ fn prepare_tree(
 // Fills the store for the residual in its first sixteen words.
 pub fn prepare(list: &[u16], work: &[u64], bound: usize, e: u64, store: &mut [u64])
     requires { ⌜ Indexed (now list) (now work) ⌝ }
-    requires { ⌜ Sound (tableIn (now list)) bound e (now store) ⌝ }
+    requires { ⌜ Loaded (tableIn (now list)) bound e (now store) ⌝ }
     ensures { λ _.
         ⌜ Fills (tableIn (now (list .entry))) bound e (now (store .entry)) (now (store .exit))
         × StoreOf (tableIn (now (list .entry))) (now (store .exit)) ⌝ }

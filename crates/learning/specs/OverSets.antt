@@ -16,7 +16,7 @@ use Rattle.monitor_spec.specs.State.{Monitor}
 use Rattle.state.specs.declared.record.State.{State}
 use Rattle.state.specs.Record.{monitorOf}
 use Rattle.met_sets.specs.Sets.{Met}
-use Rattle.met_sets.specs.Runs.{monitorAt, Follows, Zeroed}
+use Rattle.met_sets.specs.Runs.{monitorAt, SetReached, Zeroed}
 use Rattle.taking.specs.Runs.{EndedFrom, ReachedAt}
 use Rattle.learning.specs.declared.learner.Turn.{Turn}
 use Rattle.learning.specs.declared.learner.Turn.the-variants.{Ended, Left, Kept}
@@ -27,7 +27,7 @@ pub record Going (t : Table) (m : Monitor) (es : List ℕ) (i k : ℕ) (sets sta
     (a b : List ℕ) : Type 0 where
   pub cap : ℕ
   pub met : Met t cap k sets starts next
-  pub follows : Follows t cap k sets starts es m i s n j
+  pub follows : SetReached t cap k sets starts es m i s n j
   pub zeroed : Zeroed cap a b
 
 -- the same, but the set is laid out in the areas
@@ -35,7 +35,7 @@ pub record LaidOut (t : Table) (m : Monitor) (es : List ℕ) (i k : ℕ) (sets s
     (a b : List ℕ) : Type 0 where
   pub cap : ℕ
   pub met : Met t cap k sets starts next
-  pub follows : Follows t cap k sets starts es m i s n j
+  pub follows : SetReached t cap k sets starts es m i s n j
   pub same : monitorOf s a b ≡ monitorAt cap sets starts s n
 
 -- from some monitor at some place

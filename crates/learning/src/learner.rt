@@ -3,6 +3,7 @@
 ghost use mathlib.Core.Path.{_≡_};
 ghost use Prim.Native.Nat.{_*_, _≤_, _<_, _^_};
 ghost use lib.ListN.{length};
+ghost use Rattle.table.specs.Rows.{alphabetMost};
 ghost use Rattle.table_index.specs.Index.{tableIn, Indexed};
 ghost use Rattle.leaf_memo.specs.Memo.{StoreOf};
 ghost use Rattle.learning.specs.OverSets.{Stays, BegunBy, LearnBy};
@@ -36,7 +37,7 @@ fn begin_again(
     i: usize,
     wanted: bool,
 ) -> Turn
-    requires { ⌜ (alphabet ≤ 128) × (length (now sets) ≡ 1664) × (length (now starts) ≡ 64)
+    requires { ⌜ (alphabet ≤ alphabetMost) × (length (now sets) ≡ 1664) × (length (now starts) ≡ 64)
         × (length (now next) ≡ 2560) ⌝ }
     requires { ⌜ (state .count * 16 ≤ length (now area0))
         × (state .count * 16 ≤ length (now area1)) ⌝ }

@@ -1,7 +1,7 @@
 // What the program says of an input (document 01, "The program and its lines"), on a whole input or
 // piece by piece. The definitions are in crate `line_spec`; `specs/Answers.antt` says what the
-// answers are. Reading the table stands in crate `table_reading`, the pieces in `resuming`, the head
-// and the end in `format`.
+// answers are. Reading the table stands in crate `table_reading`, the pieces in `resuming`, the
+// head and the end in `format`.
 //     line                    a whole input
 //     open, resume, conclude  its front, each piece after it, its end
 //     after_piece             a course where the input ended, or did not

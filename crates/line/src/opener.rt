@@ -2,7 +2,7 @@
 ghost use mathlib.Core.Path.{_≡_};
 ghost use lib.ListN.{length};
 ghost use Rattle.line_spec.specs.Line.{freshOn};
-ghost use Rattle.line_spec.specs.Opening.{startedOn, openInputOf};
+ghost use Rattle.line_spec.specs.Opening.{startedOn, openInputOf as openOf};
 ghost use Rattle.line.specs.Answers.{openSaid};
 use crate::answer::Opened;
 use state::Answer;
@@ -47,7 +47,7 @@ pub fn open(
     ensures { λ r.
         ⌜ openSaid r (now (list .exit)) (now (area0 .exit)) (now (area1 .exit))
         (now (work .exit))
-        ≡ openInputOf (now (input .entry)) (now (list .entry)) (now (area0 .entry))
+        ≡ openOf (now (input .entry)) (now (list .entry)) (now (area0 .entry))
         (now (area1 .entry)) (now (work .entry)) ⌝ }
 {
     match read_table(input, list, area0, area1, work) {

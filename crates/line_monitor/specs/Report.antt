@@ -11,7 +11,7 @@ use mathlib.Core.List.{List}
 use Rattle.line_spec.specs.Line.{lineOf}
 use Rattle.line_spec.specs.Pieces.{concludeOf}
 use Rattle.line_spec.specs.Whole.{ResumeOutcome}
-use Rattle.line_spec.specs.Judged.{Follows, Judged}
+use Rattle.line_spec.specs.Judged.{ComesTo, Judged}
 use Rattle.format.specs.Line.{lineSaid}
 use Rattle.line_monitor.specs.declared.pieces.Report.{Report}
 use Rattle.line_monitor.specs.declared.pieces.Report.the-variants.{Line, Broken}
@@ -27,7 +27,7 @@ Says false s (Broken f) = Unit
 
 -- by pieces of n bytes
 abbrev pub Followed : ℕ → ResumeOutcome → Report → Type 0
-Followed n o (Line x) = Follows n o (lineSaid x)
+Followed n o (Line x) = ComesTo n o (lineSaid x)
 Followed n o (Broken f) = Unit
 
 -- by whether the input ended with the front, which left an outcome

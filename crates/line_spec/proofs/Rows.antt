@@ -43,7 +43,7 @@ use Rattle.monitor_spec.specs.Open.{freshMonitor, openAccepted, openOf}
 use Rattle.line_spec.specs.Line.{cut, headBy, headOf, verdictLine, stateLine, answerLine, fresh, monitorLeft}
 use Rattle.line_spec.specs.Line.{startedBy}
 use Rattle.line_spec.specs.Line.{startedLine, readLine, headLine, lineOf}
-use Rattle.line_spec.specs.Claims.{drawn, Rows}
+use Rattle.line_spec.specs.Claims.{oneEventTable, Rows}
 
 pub rows : Rows
 unfolding flatMap size sizes bodyOf bodyNumber termIn termOfDefs termAt prefixesIn enclosingIn enclosing listBytes
@@ -60,5 +60,5 @@ unfolding flatMap size sizes bodyOf bodyNumber termIn termOfDefs termAt prefixes
     consistent through presentSlots nextSlots nextVerdict freshState stateAfter counted holding taking eventRefused
     takeEvent endingOf feedOf measuring judging entrance agreeing entranceOn entering refusing freshMonitor openAccepted
     openOf carry later scanWith readNumber byteToken byteTokensWith byteTokens judgeBytes cut headBy headOf verdictLine
-    stateLine answerLine fresh monitorLeft startedBy startedLine readLine headLine lineOf drawn Rows
+    stateLine answerLine fresh monitorLeft startedBy startedLine readLine headLine lineOf oneEventTable Rows
 rows = (refl, refl, refl, refl, refl, refl, refl, refl, refl, refl, refl, refl, refl, refl, refl, refl, refl)

@@ -40,7 +40,7 @@ use Rattle.line_spec.specs.Pieces.{Course, going, over, afterPiece, fed,
 use Rattle.line_spec.specs.Opening.{lent, started, refuses, openInputOf, openCourse, OpenWay, Began}
 use Rattle.line_spec.specs.Whole.{resumeOf, wholeOf}
 use Rattle.line_spec.specs.Lent.{lentLine, lentPieces, lentEnds}
-use Rattle.line_spec.specs.Judged.{frontLeft, Took, Follows, Judged}
+use Rattle.line_spec.specs.Judged.{frontLeft, Took, ComesTo, Judged}
 
 -- "a number, that many table bytes, then events"; 2, 3 and 4 "before Read"
 unfoldable pub HeadsAre : Type 0
@@ -160,7 +160,7 @@ SaidIsLine =
 unfoldable pub SaidIsJudged : Type 0
 SaidIsJudged =
     (s l a b w : List ℕ) → lent l a b w ≡ true → (n : ℕ) (x : Line) → 16387 ≤ length s
-    → Follows n (frontLeft s (openInputOf s l a b w)) x → Judged n s x
+    → ComesTo n (frontLeft s (openInputOf s l a b w)) x → Judged n s x
 
 -- sixteen STOPs, one or the other
 abbrev stops : Term
@@ -171,8 +171,8 @@ stops =
     choice eight eight
 
 -- A = 1, sets {0} and {}; one definition
-unfoldable pub drawn : Term → List ℕ
-drawn p =
+unfoldable pub oneEventTable : Term → List ℕ
+oneEventTable p =
     numbersOf (record {
       alphabet = 1;
       sets = one (0 ∷ []) ∷ one [] ∷ [];
@@ -196,9 +196,9 @@ Rows =
     × (lineOf (16 ∷ tableB ++ (0 ∷ 0 ∷ [])) ≡ fails 2 2)
     × (lineOf (16 ∷ tableB ++ (0 ∷ 0 ∷ 1 ∷ [])) ≡ fails 2 3)
     × (lineOf (16 ∷ tableB ++ (0 ∷ 1 ∷ 3 ∷ [])) ≡ refused 11 2)
-    × (lineOf (75 ∷ drawn filling ++ (0 ∷ [])) ≡ runs 1 256)
-    × (lineOf (79 ∷ drawn exceeding) ≡ runs 0 2)
-    × (lineOf (79 ∷ drawn exceeding ++ (0 ∷ [])) ≡ refused 13 0)
+    × (lineOf (75 ∷ oneEventTable filling ++ (0 ∷ [])) ≡ runs 1 256)
+    × (lineOf (79 ∷ oneEventTable exceeding) ≡ runs 0 2)
+    × (lineOf (79 ∷ oneEventTable exceeding ++ (0 ∷ [])) ≡ refused 13 0)
     × (lineOf [] ≡ refused 3 0)
     × (lineOf (128 ∷ []) ≡ refused 3 0)
     × (lineOf (128 ∷ 0 ∷ []) ≡ refused 4 0)

@@ -3,7 +3,7 @@
 --     Full                   pieces that fill the buffer
 --     frontLeft, pieceEnd    what the front leaves; a piece, where the input ended with it or did not
 --     Took                   so many events more are taken
---     Goes, Follows          a monitor that goes on after full pieces; a line that is said after some
+--     Goes, ComesTo          a monitor that goes on after full pieces; a line that is said after some
 --     Judged                 a line that is said of an input, by its front
 -- The laws are in `Judged/`: `Taken`, and of the rest `Laws`. Assumes nothing.
 use Prim.Native.Nat.{ℕ, _+_, _≤_, _<_}
@@ -45,12 +45,12 @@ pub record Goes (n : ℕ) (o p : ResumeOutcome) : Type 0 where
   pub left : resumeAll o pieces ≡ p
 
 -- a line that is said, from an outcome on
-pub data Follows (n : ℕ) (o : ResumeOutcome) (x : Line) : Type 0 where
+pub data ComesTo (n : ℕ) (o : ResumeOutcome) (x : Line) : Type 0 where
   -- full pieces came, and the input ended within the next
   endsIn : (ess : List (List ℕ)) (es : List ℕ) → Full n ess → length es < n
-      → concludeOf (resumeAll o (ess ++ (es ∷ [])) .course) ≡ x → Follows n o x
+      → concludeOf (resumeAll o (ess ++ (es ∷ [])) .course) ≡ x → ComesTo n o x
   -- after full pieces a line stands
-  standsAfter : (ess : List (List ℕ)) → Full n ess → resumeAll o ess .course ≡ over x → Follows n o x
+  standsAfter : (ess : List (List ℕ)) → Full n ess → resumeAll o ess .course ≡ over x → ComesTo n o x
 
 -- a line that is said of an input that begins with s
 pub data Judged (n : ℕ) (s : List ℕ) (x : Line) : Type 0 where

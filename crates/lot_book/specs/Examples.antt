@@ -1,5 +1,5 @@
 -- Worked books, at the bounds of 02, W2.
---     Row, holds    some bytes, and what they are: the lots and the sum of a good book, or the index of a bad record
+--     Row, agrees   some bytes, and what they are: the lots and the sum of a good book, or the index of a bad record
 --     rows          the examples;  Examples: all of them hold
 -- Assumes nothing.
 use Prim.Native.Nat.{ℕ}

@@ -2,7 +2,7 @@
 -- `numbers`, of nine bytes after the first at most, the last of ten at most 1.
 --     scanNumber     the number at the head of some bytes
 --     numberAt       what stands at a position;  groupsAt: the groups that follow another
---     found          the answer of `read`, from a scan of the bytes at a position
+--     numberFound          the answer of `read`, from a scan of the bytes at a position
 --     Grouped        the promise of `later`
 -- The laws are in `Number/Laws.antt`. Assumes nothing.
 use Prim.Native.Nat.{ℕ, _+_, _<_}
@@ -19,17 +19,17 @@ abbrev pub scanNumber : List ℕ → Scan
 scanNumber s = scanWith 9 1 s
 
 -- "cut short, a malformed number": both are one refusal
-unfoldable pub found : ℕ → Scan → Number
-found at (value v n rest) = Value v (at + n)
-found at truncated = Unread
-found at malformed = Unread
+unfoldable pub numberFound : ℕ → Scan → Number
+numberFound at (value v n rest) = Value v (at + n)
+numberFound at truncated = Unread
+numberFound at malformed = Unread
 
 unfoldable pub numberAt : List ℕ → ℕ → Number
-numberAt s at = found at (scanNumber (drop at s))
+numberAt s at = numberFound at (scanNumber (drop at s))
 
 -- ours: the groups at a position that follow another, where k more may follow the first of them
 unfoldable pub groupsAt : ℕ → List ℕ → ℕ → Number
-groupsAt k s at = found at (later k 1 (drop at s))
+groupsAt k s at = numberFound at (later k 1 (drop at s))
 
 abbrev pub Small : ℕ → Number → Type 0
 Small k (Value v next) = v < limitOf k 1

@@ -12,8 +12,8 @@ use Rattle.lot_book.specs.declared.entry.Lot.{Lot}
 use Rattle.lot_book.specs.Book.{Book, lots, bad, bookOf, takenSum}
 use Rattle.sheet_spec.specs.Sheet.{Outcome, sheetSize, sheetOf}
 use Rattle.sheet_spec.specs.Sheet.Laws.{sheet-bad, sheet-over, sheet-given}
-use Rattle.lot_sheet.specs.Told.{refusedAs, tellBook, tellOf, ReadInto}
-use Rattle.lot_sheet.specs.Told.{ToldWay, toldLong, toldBad, toldOver, toldSheet}
+use Rattle.lot_sheet.specs.Reply.{refusedAs, tellBook, tellOf, ReadInto}
+use Rattle.lot_sheet.specs.Reply.{ToldWay, toldLong, toldBad, toldOver, toldSheet}
 use Rattle.lot_sheet.specs.Room.{few-records}
 use Rattle.lot_sheet.specs.Claims.{ToldExactly}
 

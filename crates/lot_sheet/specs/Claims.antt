@@ -8,7 +8,7 @@ use mathlib.Core.Path.{_≡_}
 use mathlib.Core.List.{List}
 use lib.ListN.{length, take}
 use Rattle.input.specs.declared.reading.Part.{Part}
-use Rattle.lot_sheet.specs.Told.{tellOf, ReadInto, ToldWay}
+use Rattle.lot_sheet.specs.Reply.{tellOf, ReadInto, ToldWay}
 
 -- a book that was read into the program's buffer, and the program's text
 unfoldable pub ToldExactly : Type 0

@@ -1,19 +1,19 @@
 // What is told of a lot book.
-//     Told     its sheet, or why there is none
+//     Reply     its sheet, or why there is none
 //     tell     of a book as standard input gave it
-// `specs/Told.antt` has what each function promises.
+// `specs/Reply.antt` has what each function promises.
 ghost use mathlib.Core.Path.{_≡_};
 ghost use mathlib.Core.Bool.{true};
 ghost use lib.ListN.{length, take};
 ghost use Rattle.input.specs.Reading.{Parts};
-ghost use Rattle.lot_sheet.specs.Told.{tellSaid, refusedAs, tellOf};
+ghost use Rattle.lot_sheet.specs.Reply.{tellSaid, refusedAs, tellOf};
 use input::Part;
 use sheet::Sheet;
 use table::Refusal;
 
 // The sheet, as the first bytes of a text; or the index of a bad record, that the total is above
 // 2^64-1, that the book has more than 65,536 bytes.
-pub enum Told {
+pub enum Reply {
     Sheet(usize),
     BadRecord(usize),
     TotalOver,
@@ -21,28 +21,28 @@ pub enum Told {
 }
 
 // A refusal of a text that has room: 14 or 15.
-fn refused(refusal: Refusal) -> Told
+fn refused(refusal: Refusal) -> Reply
     ensures { λ r. ⌜ r ≡ refusedAs (refusal .number) (refusal .place) ⌝ }
 {
     if refusal.number == 14 {
-        return Told::BadRecord(refusal.place);
+        return Reply::BadRecord(refusal.place);
     }
-    Told::TotalOver
+    Reply::TotalOver
 }
 
 // A whole book.
-fn tell_book(book: &[u8], text: &mut [u8]) -> Told
+fn tell_book(book: &[u8], text: &mut [u8]) -> Reply
     ensures { λ r.
         ⌜ tellSaid r (now (text .exit)) ≡ tellOf true (now (book .entry)) (now (text .entry)) ⌝ }
 {
     match sheet::sheet(book, text) {
-        Sheet::Given(n) => Told::Sheet(n),
+        Sheet::Given(n) => Reply::Sheet(n),
         Sheet::Refused(refusal) => refused(refusal),
     }
 }
 
 // Of a buffer of which a part was filled, with a text that has room for every sheet.
-pub fn tell(book: &[u8], part: Part, text: &mut [u8]) -> Told
+pub fn tell(book: &[u8], part: Part, text: &mut [u8]) -> Reply
     requires { ⌜ (length (now book) ≡ 65537) × Parts (length (now book)) part ⌝ }
     requires { ⌜ length (now text) ≡ 802865 ⌝ }
     ensures { λ r.
@@ -53,5 +53,5 @@ pub fn tell(book: &[u8], part: Part, text: &mut [u8]) -> Told
         let n = part.count();
         return tell_book(&book[..n], text);
     }
-    Told::TooLong
+    Reply::TooLong
 }

@@ -1,6 +1,6 @@
 // The sheet on standard output, or a message on standard error.
-ghost use Rattle.lot_sheet.specs.Told.{Fits};
-use crate::office::Told;
+ghost use Rattle.lot_sheet.specs.Reply.{Fits};
+use crate::office::Reply;
 use libc::STDERR_FILENO;
 use libc::STDOUT_FILENO;
 
@@ -30,13 +30,13 @@ fn say_too_long() {
     );
 }
 
-pub fn say(told: Told, text: &[u8])
+pub fn say(told: Reply, text: &[u8])
     requires { ⌜ Fits told (now text) ⌝ }
 {
     match told {
-        Told::Sheet(n) => say_sheet(&text[..n]),
-        Told::BadRecord(index) => say_bad_record(index),
-        Told::TotalOver => say_total_over(),
-        Told::TooLong => say_too_long(),
+        Reply::Sheet(n) => say_sheet(&text[..n]),
+        Reply::BadRecord(index) => say_bad_record(index),
+        Reply::TotalOver => say_total_over(),
+        Reply::TooLong => say_too_long(),
     }
 }

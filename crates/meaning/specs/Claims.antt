@@ -41,7 +41,7 @@ use Rattle.meaning.specs.Figure3.{Action, event, τ, Doomed, Viable, In,
 use Rattle.meaning.specs.Closing.{closeRef, close, Scoped}
 use Rattle.meaning.specs.Doom.{onlyFail}
 use Rattle.meaning.specs.FigureExamples.{Facts}
-use Rattle.meaning.specs.Examples.{rows, EachMeant, tableB}
+use Rattle.meaning.specs.Examples.{rows, EachMeant, abstractB}
 
 -- ---- Figure 1
 
@@ -201,4 +201,4 @@ ExamplesMeant = EachMeant rows
 
 -- 01, "The program and its lines": the bytes of table B are read as the table of K1 to K3
 unfoldable pub TableBRead : Type 0
-TableBRead = judgeBytes InBytes.tableB ≡ accepted (numbersOf tableB) tableB
+TableBRead = judgeBytes InBytes.tableB ≡ accepted (numbersOf abstractB) abstractB

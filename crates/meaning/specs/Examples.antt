@@ -2,7 +2,7 @@
 --     Row, rows        a table, a list of events, and whether the last definition holds it
 --     Meant            the table is accepted; every model of Figure 2 and the chains of Figure 3 say what the row says
 --     EachMeant        it holds of each row
---     tableOf, tableB  a table over five sets; 01's table B
+--     tableOf, abstractB  a table over five sets; 01's table B
 -- "failed at n" is two rows: the events without the last are held, with it they are not. How many residuals there are
 -- is a matter of crate monitor_spec. That each row is meant is in `Examples/Laws.antt`. Assumes nothing.
 use Prim.Native.Nat.{ℕ}
@@ -68,8 +68,8 @@ abbrev byRow : ℕ → Term → Term
 byRow k p = prefix (family 4 k) p
 
 -- 01, "The program and its lines": "Table B, A = 3, sets {0} and {1}, prefix {0}, prefix {1}, call 0"
-unfoldable pub tableB : Table
-tableB =
+unfoldable pub abstractB : Table
+abstractB =
     record {
       alphabet = 3;
       sets = one (0 ∷ []) ∷ one (1 ∷ []) ∷ [];
@@ -77,7 +77,7 @@ tableB =
     }
 
 abbrev onB : List ℕ → Bool → Row
-onB es v = record { table = tableB; events = es; held = v }
+onB es v = record { table = abstractB; events = es; held = v }
 
 -- x in {0, 1}, then two of 1 beside one of 1, over row x
 abbrev beside : Term

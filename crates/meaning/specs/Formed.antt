@@ -5,13 +5,13 @@
 --     rules-scoped     each parameter is one of the prefixes around, and at most 3
 --     last-exists, body-formed    there is a last definition; bodies are well formed
 -- Assumes nothing.
-use Prim.Native.Nat.{ℕ, zero, suc, _≤_, _<_}
+use Prim.Native.Nat.{ℕ, _≤_, _<_}
 use native.Mathlib.Omega.{arith}
-use mathlib.Core.List.{List, [], _∷_}
+use mathlib.Core.List.{List}
 use mathlib.Core.Path.{_≡_, refl}
 use mathlib.Core.Option.{none}
 use lib.ListN.{length, getD}
-use Rattle.numbers.specs.Every.{All, from-at}
+use Rattle.numbers.specs.Every.{all-at, from-at}
 use Rattle.table.specs.Table.{SetRef, fixed, family, Term, stop, fail, prefix, choice, par, call}
 use Rattle.table.specs.Table.{Definition, Table, bodyOf}
 use Rattle.table.specs.Context.{Context, outermost, underPrefix, underParallel, Enclosed, Throughout, Each}
@@ -67,13 +67,6 @@ module _ (ds : List Definition) (level own : ℕ) where
     term-scoped (underParallel c) q (h .2) (k .2),
   )
   term-scoped c (call d) h k = tt
-
--- ---- of a table
-
-pub all-at : {A : Type 0} (X : A → Type 0) (z : A) (l : List A) (i : ℕ) → All X l → i < length l → X (getD l i z)
-all-at X z [] i h b = absurd (omega arith)
-all-at X z (x ∷ xs) zero h b = h .0
-all-at X z (x ∷ xs) (suc i) h b = all-at X z xs i (h .1) (omega arith)
 
 -- ---- where 7 is not met
 

@@ -1,7 +1,7 @@
 -- Runs over the events of a call with the sets that it has met (ours), and what the functions on them promise.
 --     Reached                     the events left come to the same, from the monitor reached
---     Follows                     so, where the residuals held are those of a set kept, and both areas are zero
---     Within, FollowedBy          a set among some; the promise of `follow`
+--     SetReached                     so, where the residuals held are those of a set kept, and both areas are zero
+--     KeptSet, FollowedBy          a set among some; the promise of `follow`
 --     SetFound, FoundBy              a set that was in an area is kept; the promise of `pick_area`
 --     Zeroed, Picked, PickedBy    both areas zero; a set that was in the present area is kept; the promise of `pick_up`
 --     LaidIn, LaidBy              the promises of `lay`; of `lay_out`
@@ -18,7 +18,7 @@ use Rattle.monitor_spec.specs.Feed.{takeEvent}
 use Rattle.monitor_spec.specs.Sensible.{Laid}
 use Rattle.state.specs.declared.record.State.{State}
 use Rattle.state.specs.Record.{stateOf, monitorOf}
-use Rattle.step_laws.specs.Holds.{AreaHolds}
+use Rattle.monitor_spec.specs.Holds.{AreaHolds}
 use Rattle.met_sets.specs.declared.run.Followed.{Followed}
 use Rattle.met_sets.specs.declared.pick.Pick.{Pick}
 use Rattle.met_sets.specs.declared.pick.Pick.the-variants.{Set, Full}
@@ -37,7 +37,7 @@ abbrev pub monitorAt : ℕ → List ℕ → List ℕ → State → ℕ → Monit
 monitorAt cap sets starts s n = laid cap (stateOf s) (slotsAt sets starts n)
 
 -- from monitor m at place i, record s and set n are reached at place j
-pub record Follows (t : Table) (cap k : ℕ) (sets starts es : List ℕ) (m : Monitor) (i : ℕ) (s : State) (n j : ℕ)
+pub record SetReached (t : Table) (cap k : ℕ) (sets starts es : List ℕ) (m : Monitor) (i : ℕ) (s : State) (n j : ℕ)
     : Type 0 where
   pub inside : n < k
   pub counted : s .count ≡ countAt starts n
@@ -46,7 +46,7 @@ pub record Follows (t : Table) (cap k : ℕ) (sets starts es : List ℕ) (m : Mo
 -- ---- along transitions that are known
 
 -- some sets are kept, n among them
-pub record Within (A : ℕ) (starts next : List ℕ) (n : ℕ) : Type 0 where
+pub record KeptSet (A : ℕ) (starts next : List ℕ) (n : ℕ) : Type 0 where
   pub sets : List ℕ
   pub count : ℕ
   pub shape : Shape A count sets starts next
@@ -58,8 +58,8 @@ pub record FollowedBy (A : ℕ) (starts next es : List ℕ) (s : State) (n j to 
   pub onward : j ≤ r .place
   pub within : r .place ≤ to
   pub follows : (t : Table) → Regular t → t .alphabet ≡ A → (cap k : ℕ) (sets : List ℕ)
-      → Met t cap k sets starts next → (m : Monitor) (i : ℕ) → Follows t cap k sets starts es m i s n j
-      → Follows t cap k sets starts es m i (r .state) (r .set) (r .place)
+      → Met t cap k sets starts next → (m : Monitor) (i : ℕ) → SetReached t cap k sets starts es m i s n j
+      → SetReached t cap k sets starts es m i (r .state) (r .set) (r .place)
 
 -- ---- between the areas and the sets kept
 

@@ -15,6 +15,7 @@ use Prim.Native.Nat.{ℕ, suc, _+_, _-_, _*_, _≤_, _<_}
 use mathlib.Core.Path.{_≡_}
 use mathlib.Core.List.{List}
 use lib.ListN.{length, getD, set, drop, replicate}
+use Rattle.table.specs.Rows.{alphabetMost}
 use Rattle.slots.specs.Insertion.{stored}
 use Rattle.numbers.specs.Every.{All}
 use Rattle.table.specs.Table.{Table}
@@ -40,7 +41,7 @@ pub record Shape (A k : ℕ) (sets starts next : List ℕ) : Type 0 where
   pub set-words : length sets ≡ 1664
   pub start-places : length starts ≡ 64
   pub next-bytes : length next ≡ 2560
-  pub small : A ≤ 128
+  pub small : A ≤ alphabetMost
   pub few : k ≤ 63
   pub rows : k * A ≤ 2560
   pub ascend : (i : ℕ) → i < k → getD starts i 0 ≤ getD starts (suc i) 0

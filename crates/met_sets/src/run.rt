@@ -3,7 +3,7 @@ ghost use mathlib.Core.Path.{_≡_};
 ghost use Prim.Native.Nat.{suc, _+_, _*_, _≤_, _<_};
 ghost use lib.ListN.{length, getD, set};
 ghost use Rattle.monitor_spec.specs.Feed.{counterMost};
-ghost use Rattle.met_sets.specs.Runs.{Within, FollowedBy};
+ghost use Rattle.met_sets.specs.Runs.{KeptSet, FollowedBy};
 use crate::sets::count_of;
 use state::State;
 
@@ -44,7 +44,7 @@ pub fn follow(
     place: usize,
     to: usize,
 ) -> Followed
-    requires { ⌜ Within alphabet (now starts) (now next) set ⌝ }
+    requires { ⌜ KeptSet alphabet (now starts) (now next) set ⌝ }
     requires { ⌜ (place ≤ to) × (to ≤ length (now events)) ⌝ }
     ensures { λ r.
         ⌜ FollowedBy alphabet (now (starts .entry)) (now (next .entry)) (now (events .entry))

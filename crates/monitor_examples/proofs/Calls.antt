@@ -45,7 +45,7 @@ use Rattle.monitor_spec.specs.Feed.{feedOf}
 use Rattle.monitor_spec.specs.Open.{freshMonitor, openAccepted, openOf}
 use Rattle.monitor_spec.specs.Offer.{bitOf, bitsFrom, wordBits, wordFrom, allBits, offerBits, offering, offerOf}
 use Rattle.monitor_spec.specs.View.{partBy, viewPart, wordsIn, viewOf}
-use Rattle.monitor_spec.specs.History.{standing, callOn, history, recordIn}
+use Rattle.monitor_spec.specs.History.{standing, afterwards, callOn, history, recordIn}
 use Rattle.monitor_spec.specs.Examples.{drawn, opening}
 use Rattle.monitor_examples.specs.Cases.{fed, afterCalls, afterFirst, cases, casesHold}
 use Rattle.monitor_examples.specs.PeakCases.{peakCases}
@@ -70,7 +70,7 @@ unfolding flatMap size sizes bodyOf bodyNumber termIn termOfDefs termAt prefixes
     presentSlots nextSlots nextVerdict freshState stateAfter counted holding taking eventRefused takeEvent
     endingOf feedOf measuring judging entrance agreeing entranceOn entering refusing freshMonitor openAccepted openOf
     drawn opening
-    standing callOn history recordIn fed afterCalls afterFirst
+    standing afterwards callOn history recordIn fed afterCalls afterFirst
 further = refl
 
 pub peaks : casesHold peakCases
@@ -92,7 +92,7 @@ unfolding flatMap size sizes bodyOf bodyNumber termIn termOfDefs termAt prefixes
     presentSlots nextSlots nextVerdict freshState stateAfter counted holding taking eventRefused takeEvent
     endingOf feedOf measuring judging entrance agreeing entranceOn entering refusing freshMonitor openAccepted openOf
     drawn opening
-    standing callOn history recordIn fed afterCalls afterFirst
+    standing afterwards callOn history recordIn fed afterCalls afterFirst
 peaks = refl
 
 pub outcomes-stand : BuffersStand

@@ -15,8 +15,8 @@ use Rattle.monitor_spec.specs.Consistent.{consistent}
 use Rattle.monitor_spec.specs.Consistent.Laws.{feed-keeps}
 use Rattle.monitor_spec.specs.Feed.{takeEvent, feedOf}
 use Rattle.monitor_spec.specs.Joined.{Call}
-use Rattle.monitor_spec.specs.History.{callOn}
-use Rattle.monitor_spec.specs.History.Laws.{afterwards, after-ending, after-refusing}
+use Rattle.monitor_spec.specs.History.{afterwards, callOn}
+use Rattle.monitor_spec.specs.History.Laws.{after-ending, after-refusing}
 use Rattle.monitor_spec.specs.Refusals.Laws.{lent, measured-out, unmeasured-out, held-out}
 use Rattle.monitor_spec.proofs.Feeds.{on-1, on-open}
 

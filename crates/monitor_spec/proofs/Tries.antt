@@ -1,9 +1,9 @@
 -- Try on every input, from Feed; and along a history, where none of 2 to 10 is met.
 --     alike-in, alike-out, unlike-in           the test of the further areas' lengths
---     as-fed, is-unlike                        the whole outcome
+--     as-copy, is-unlike                       the whole outcome
 --     try-refused, try-stops, try-gives        by conditions
 --     try-work, try-keeps                      what stands in the lent buffers
---     foretells, judges                        along a history
+--     foretells, tried-call                    along a history
 -- Assumes nothing.
 use Prim.Native.Nat.{ℕ, _≤_}
 use mathlib.Core.Path.{_≡_, refl, ap, sym, subst, _∙_}

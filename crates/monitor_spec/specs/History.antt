@@ -1,5 +1,6 @@
 -- A monitor along an Open and a list of feeding calls, and what demand 3 says of it (00, demand 3; 01, "Lists of
 -- calls"; 02, W7).
+--     afterwards           a monitor after an outcome
 --     callOn, history      a monitor after one call; after a list of calls
 --     recordIn, Opened     the record in an answer, if any; what an Open gave
 --     ShortestOutside      the length of a list's shortest beginning outside a trace set
@@ -41,11 +42,13 @@ standing s (given r) = r
 standing s (refused n p) = s
 standing s (stopped n p r) = r
 
+-- what the next call gets, after one on m with the outcome o
+unfoldable pub afterwards : Monitor → Outcome → Monitor
+afterwards m o = record { state = standing (m .state) (o .answer); area0 = o .area0; area1 = o .area1 }
+
 -- "each later one the record and areas as the call before left them": a call on the number list l
 unfoldable pub callOn : List ℕ → Monitor → Call → Monitor
-callOn l m c =
-    let o = feedOf l m (c .events) (c .work) in
-    record { state = standing (m .state) (o .answer); area0 = o .area0; area1 = o .area1 }
+callOn l m c = afterwards m (feedOf l m (c .events) (c .work))
 
 -- "feeding calls, which are Feed's, any number or none, all on one accepted table"
 unfoldable pub history : List ℕ → Monitor → List Call → Monitor

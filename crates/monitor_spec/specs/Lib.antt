@@ -1,4 +1,4 @@
--- The monitor's specification, in reading order: residuals and their words, the state, the operations, lists of
+-- The monitor's specification, in reading order: what residuals mean, valid slots, the state, the operations, lists of
 -- calls; the worked examples; what is claimed. Last, what only the laws and proofs use. Assumes nothing.
 pub mod ResidualMeaning
 pub mod Valid
@@ -27,3 +27,4 @@ pub mod Tried
 pub mod Examples
 pub mod Claims
 pub mod Regular
+pub mod Holds

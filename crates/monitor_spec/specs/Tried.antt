@@ -10,7 +10,7 @@ use mathlib.Core.List.{List}
 use lib.ListN.{length}
 use Rattle.monitor_spec.specs.State.{Monitor, Outcome}
 use Rattle.monitor_spec.specs.Refusals.{CallRefused}
-use Rattle.monitor_spec.specs.History.{standing}
+use Rattle.monitor_spec.specs.History.{afterwards}
 
 -- "two further areas of the same length"
 pub record Alike (m : Monitor) (c d : List ℕ) : Type 0 where
@@ -25,7 +25,7 @@ pub data TryRefused (l : List ℕ) (m : Monitor) (c d w : List ℕ) (n p : ℕ) 
 
 -- the copy of the monitor m, after a Try with the outcome o
 abbrev pub tried : Monitor → Outcome → Monitor
-tried m o = record { state = standing (m .state) (o .answer); area0 = o .area0; area1 = o .area1 }
+tried m o = afterwards m o
 
 -- "Operators want to know what events would do": what a feeding call then comes to
 pub record Foretells (o fed : Outcome) : Type 0 where

@@ -1,7 +1,6 @@
 // Makes the calls of the histories in `histories.txt` with Open, Feed, Try, Offer and View of
 // crate `monitor`, and prints a line for each group of histories, then `ok` if all was as stored.
-//     file      the file, piece by piece         groups    its groups
-//     line      a line: a change, or a call
+//     file      the file, line by line           line      a line: a change, or a call
 //     lent      what the calls are lent          call      one call
 //     trial     one call of Try
 //     answer    an answer held to the stored     areas     words in lent areas
@@ -10,7 +9,6 @@ mod answer;
 mod areas;
 mod call;
 mod file;
-mod groups;
 mod lent;
 mod line;
 mod trial;
@@ -22,6 +20,6 @@ fn main() {
         os::fail(path);
         return;
     }
-    file::run(fd);
+    file::run(fd, path);
     libc::close(fd);
 }

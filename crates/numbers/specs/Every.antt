@@ -1,7 +1,7 @@
 -- What holds of every element of a list, plain and with its index. No function of 01 stands here.
 --     All            a property of each element
 --     AllFrom        a property of each element and its index, counted from a start
---     all-imp, all-and, all-append, all-right    its laws;  from-imp, from-and, from-at: those with an index
+--     all-imp, all-and, all-append, all-right, all-at    its laws;  from-imp, from-and, from-at: those with an index
 -- Assumes nothing.
 use Prim.Native.Nat.{ℕ, zero, suc, _+_, _<_}
 use native.Mathlib.Omega.{arith}
@@ -34,6 +34,11 @@ module _ {A : Type 0} where
   pub all-right : (X : A → Type 0) (l r : List A) → All X (l ++ r) → All X r
   all-right X [] r h = h
   all-right X (x ∷ l) r h = all-right X l r (h .1)
+
+  pub all-at : (X : A → Type 0) (z : A) (l : List A) (i : ℕ) → All X l → i < length l → X (getD l i z)
+  all-at X z [] i h b = absurd (omega arith)
+  all-at X z (x ∷ xs) zero h b = h .0
+  all-at X z (x ∷ xs) (suc i) h b = all-at X z xs i (h .1) (omega arith)
 
   pub from-imp : (X Y : ℕ → A → Type 0) → ((i : ℕ) (x : A) → X i x → Y i x)
       → (i : ℕ) (l : List A) → AllFrom X i l → AllFrom Y i l

@@ -13,7 +13,7 @@ ghost use Rattle.monitor_spec.specs.Offer.{bitOf, bitsFrom, wordBits, wordFrom,
 ghost use Rattle.monitor_spec.specs.Offer.{offerBits, offerOf};
 ghost use Rattle.state.specs.Record.{verdictOf, monitorOf};
 ghost use Rattle.state.specs.Answers.{bitsOf, offerOutcome};
-ghost use Rattle.step_laws.specs.Holds.{AreaHolds, heldIn};
+ghost use Rattle.monitor_spec.specs.Holds.{AreaHolds, heldIn};
 use entering::enter_on;
 use state::EventBits;
 use state::Offered;

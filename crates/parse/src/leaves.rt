@@ -1,4 +1,5 @@
-// Storing a term as a word, whose digits `table_index::layout` has; reading a term without terms in it.
+// Storing a term as a word, whose digits `table_index::layout` has; reading a term without terms in
+// it.
 use table::Head;
 use table::Refusal;
 use table::Spot;

@@ -2,6 +2,7 @@
 ghost use Prim.Native.Nat.{suc, _+_, _*_, _≤_, _<_};
 ghost use mathlib.Core.Path.{_≡_};
 ghost use lib.ListN.{length, getD, set};
+ghost use Rattle.table.specs.Rows.{alphabetMost};
 ghost use Rattle.state.specs.Record.{monitorOf};
 ghost use Rattle.met_sets.specs.Sets.{countAt, Shape, SetStands, KeptBy};
 ghost use Rattle.met_sets.specs.Runs.{FoundBy, PickedBy, LaidIn, LaidBy};
@@ -109,7 +110,7 @@ pub fn pick_first(
     area0: &mut [u64],
     area1: &mut [u64],
 ) -> Pick
-    requires { ⌜ (alphabet ≤ 128) × (length (now sets) ≡ 1664) × (length (now starts) ≡ 64)
+    requires { ⌜ (alphabet ≤ alphabetMost) × (length (now sets) ≡ 1664) × (length (now starts) ≡ 64)
         × (length (now next) ≡ 2560) ⌝ }
     requires { ⌜ (state .count * 16 ≤ length (now area0))
         × (state .count * 16 ≤ length (now area1)) ⌝ }

@@ -38,7 +38,7 @@ fn lower(w: u64) -> u64
 }
 
 // A slot's key: equal slots have equal keys.
-fn key_of(slot: &[u64]) -> u64
+pub fn key_of(slot: &[u64]) -> u64
     requires { ⌜ length (now slot) ≡ 16 ⌝ }
     ensures { λ r. ⌜ r ≡ keyFrom 0 (now (slot .entry)) ⌝ }
 {

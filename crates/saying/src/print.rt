@@ -4,8 +4,8 @@
 //     say              writes a line
 //     write_line       writes the bytes of one
 //     none             the count before the first line
-// Only `write_line` makes a `Said` or an `Unsaid`, and calls `one_more`, which alone raises a count:
-// no other code can tell that a line was said, or was not, or how many were.
+// Only `write_line` makes a `Said` or an `Unsaid`, and calls `one_more`, which alone raises a
+// count: no other code can tell that a line was said, or was not, or how many were.
 ghost use Prim.Native.Nat.{_≤_};
 ghost use mathlib.Core.Path.{_≡_};
 ghost use lib.ListN.{length, take};

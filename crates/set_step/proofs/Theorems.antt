@@ -7,7 +7,7 @@ use Rattle.table.specs.Memory.{digit, remember}
 use Rattle.table.specs.Grow.{grow}
 use Rattle.table.specs.Branches.{bodyIn, branches, allBranches, branchesWith, nextBranches, branchesAt}
 use Rattle.table.specs.Node as node
-use Rattle.table.specs.Node.{nodesFrom, nodesOf, nodeAt, definitionsAt, termOf, kindOf, refOf}
+use Rattle.table.specs.Node.{definitionNodes, nodesOf, nodeAt, definitionsAt, termOf, kindOf, refOf}
 use Rattle.table.specs.Member.{elem, rowIn, rowOf, inRow, recalled, member}
 use Rattle.meaning.specs.Figure1.{bodyCount}
 use Rattle.node_word.specs.Word.{digitBits, digitBound, pack, termOfWord, memoryOf}
@@ -40,6 +40,6 @@ examples = tt
 pub way-examples : WayExamples
 unfolding WayExamples wayHolds wayOf leafWay nth sameWords kindAt holdsAt termOfWord memoryOf pack digitBits digitBound
     branches allBranches branchesWith nextBranches branchesAt grow resolve resolveDef resolveIn keep flatMap pairs nodes
-    size sizes bodyOf bodyNumber bodyCount bodyIn termIn termOfDefs termAt termOf nodeAt nodesOf nodesFrom node.nodes
+    size sizes bodyOf bodyNumber bodyCount bodyIn termIn termOfDefs termAt termOf nodeAt nodesOf definitionNodes node.nodes
     definitionsAt kindOf refOf digit remember recalled member inRow rowOf rowIn elem
 way-examples = tt

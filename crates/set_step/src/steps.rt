@@ -58,8 +58,8 @@ fn step_many(
     walk(list, work, store, bound, e, 1, 1, &mut slot, dst, c)
 }
 
-// Holds all results of the i-th residual of an area in another; only where its moves do not say
-// them, or results of a leaf come again, is the store needed.
+// Holds all results of the i-th residual of an area in another: one by one as its moves say them,
+// or through the store where they do not, or where results of a leaf are seen to come again.
 fn step_one(
     list: &[u16],
     work: &[u64],

@@ -1,6 +1,6 @@
 // Runs `sheet` of crate `sheet` on the lot books of `sheets.txt`, and prints a line for each group
 // of cases, then `ok` if every answer was the stored one.
-//     file       the file, piece by piece
+//     file       the file, line by line
 //     case       a line as a case
 //     trial      one call, held to its answer
 // The file's head says how a line is read, and where the answers come from.

@@ -9,7 +9,7 @@ use Rattle.lot_book.specs.declared.entry.Lot.{Lot}
 use Rattle.lot_book.specs.Book.{Book, lots, bad, bookOf, takenSum}
 use Rattle.sheet_spec.specs.Sheet.{Outcome, given, refused, sheetOf, outcomeOf, printed}
 use Rattle.sheet_spec.specs.Sheet.{sheetText, sheetSize}
-use Rattle.sheet_words.specs.Call.{isGiven, callOf, sheetCall, SheetWay, sheetGiven, sheetRefused}
+use Rattle.sheet_words.specs.Call.{isSheetGiven, callOf, sheetCall, SheetWay, sheetGiven, sheetRefused}
 use Rattle.sheet_words.specs.Claims.{SheetTells, ZeroExactly}
 
 way : (o x : Outcome) → o ≡ x → SheetWay o (callOf o)
@@ -23,10 +23,10 @@ sheet-tells book out = way (sheetOf book out) (sheetOf book out) refl
 
 -- no refusal's number is 0
 abbrev Zero : Outcome → Type 0
-Zero o = eqb (callOf o .number) 0 ≡ isGiven o
+Zero o = eqb (callOf o .number) 0 ≡ isSheetGiven o
 
 printed-zero : (rs : List Lot) (out : List ℕ) → Zero (printed rs out)
-unfolding printed callOf isGiven
+unfolding printed callOf isSheetGiven
 printed-zero rs out = go (ltb 18446744073709551615 (takenSum rs)) (ltb (length out) (sheetSize rs))
   where
     text : List ℕ
@@ -38,7 +38,7 @@ printed-zero rs out = go (ltb 18446744073709551615 (takenSum rs)) (ltb (length o
     go false false = refl
 
 book-zero : (b : Book) (out : List ℕ) → Zero (outcomeOf b out)
-unfolding outcomeOf callOf isGiven
+unfolding outcomeOf callOf isSheetGiven
 book-zero (lots rs) out = printed-zero rs out
 book-zero (bad i) out = refl
 

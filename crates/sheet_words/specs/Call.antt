@@ -41,9 +41,9 @@ pub record SheetTold (x : Sheet) (n v : ℕ) : Type 0 where
 -- ---- an outcome
 
 -- there is no refusal
-unfoldable pub isGiven : Outcome → Bool
-isGiven (given n out) = true
-isGiven (refused n at out) = false
+unfoldable pub isSheetGiven : Outcome → Bool
+isSheetGiven (given n out) = true
+isSheetGiven (refused n at out) = false
 
 unfoldable pub callOf : Outcome → SheetCall
 callOf (given n out) = sheetSaid 0 n out

@@ -8,10 +8,10 @@ use mathlib.Core.Path.{_≡_}
 use mathlib.Core.List.{List}
 use lib.Dec.{eqb}
 use Rattle.sheet_spec.specs.Sheet.{sheetOf}
-use Rattle.sheet_words.specs.Call.{isGiven, sheetCall, SheetWay}
+use Rattle.sheet_words.specs.Call.{isSheetGiven, sheetCall, SheetWay}
 
 unfoldable pub SheetTells : Type 0
 SheetTells = (book out : List ℕ) → SheetWay (sheetOf book out) (sheetCall book out)
 
 unfoldable pub ZeroExactly : Type 0
-ZeroExactly = (book out : List ℕ) → eqb (sheetCall book out .number) 0 ≡ isGiven (sheetOf book out)
+ZeroExactly = (book out : List ℕ) → eqb (sheetCall book out .number) 0 ≡ isSheetGiven (sheetOf book out)

@@ -10,12 +10,11 @@ use mathlib.Core.Path.{_≡_, refl}
 use mathlib.Core.List.{List}
 use lib.ListN.{length, getD}
 use lib.Dec.{ltb}
-use Rattle.numbers.specs.Every.{All, all-imp}
+use Rattle.numbers.specs.Every.{All, all-imp, all-at}
 use Rattle.table.specs.Table.{Table}
 use Rattle.table.specs.Memory.{noMemory}
 use Rattle.table.specs.Rules.{Rules}
 use Rattle.meaning.specs.Figure1.{bodyCount}
-use Rattle.meaning.specs.Formed.{all-at}
 use Rattle.residuals.specs.Residual.{Residual, leaf, resolveDef, after}
 use Rattle.residuals.specs.Slots.{slotsOf}
 use Rattle.monitor_spec.specs.Regular.Laws.{regular}

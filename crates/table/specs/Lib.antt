@@ -1,5 +1,5 @@
 -- The table layer, in reading order: the table, its inputs and its grammar; the rules and the refusals; Read and Write;
--- then the contracts of the code; then the examples and what is proved. The laws of each file stand below it.
+-- then what the code answers and the terms as nodes; then the examples and what is proved. The laws of each file stand below it.
 -- Assumes nothing.
 pub mod Table
 pub mod Rows

@@ -54,17 +54,17 @@ nodes s i (par r p q) =
 nodes s i (call d) = node s i (call d) ∷ []
 
 -- Those of definitions from number `own` on, whose first number has index i.
-unfoldable pub nodesFrom : ℕ → ℕ → List Definition → List Node
-nodesFrom own i [] = []
-nodesFrom own i (d ∷ ds) =
-    nodes (bodySpot own) (suc i) (d .body) ++ nodesFrom (suc own) (i + length (definitionNumbers d)) ds
+unfoldable pub definitionNodes : ℕ → ℕ → List Definition → List Node
+definitionNodes own i [] = []
+definitionNodes own i (d ∷ ds) =
+    nodes (bodySpot own) (suc i) (d .body) ++ definitionNodes (suc own) (i + length (definitionNumbers d)) ds
 
 -- the index of the first definition's level
 unfoldable pub definitionsAt : Table → ℕ
 definitionsAt t = 3 + length (flatMap setNumbers (t .sets))
 
 unfoldable pub nodesOf : Table → List Node
-nodesOf t = nodesFrom 0 (definitionsAt t) (t .definitions)
+nodesOf t = definitionNodes 0 (definitionsAt t) (t .definitions)
 
 abbrev pub noNode : Node
 noNode = node (bodySpot 0) 0 fail

@@ -1,6 +1,6 @@
 // The table layer's definitions, laws and claims, and the types that its code answers (document 01,
 // "Numbers and table", "Operations", "When the monitor declines"). The functions are in crates
-// parse, judge and codec. `specs/Lib.antt` lists the definitions in reading order,
+// event_sets, parse, judge and codec. `specs/Lib.antt` lists the definitions in reading order,
 // `specs/Claims.antt` what is proved of them.
 mod answer;
 pub mod bounds;

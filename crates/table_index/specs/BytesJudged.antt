@@ -3,7 +3,7 @@
 --     JudgedAs         the code's answer is a judgement;  BytesJudged, BytesDeclined: promises of the code
 --     judged-bytes     onBytes gives the judgement of the bytes
 --     on-..            onBytes by cases
---     Within, place-within    a refused number's place is one of the list, or its end
+--     PlaceInside, place-within    a refused number's place is one of the list, or its end
 -- Assumes nothing.
 use Prim.Native.Nat.{ℕ, suc, _+_, _≤_, _<_}
 use native.Mathlib.Omega.{arith}
@@ -26,8 +26,8 @@ use Rattle.table.specs.Tokens.{ended, listTokens}
 use Rattle.table.specs.Tokens.Laws.{Follows, whole-list, list-whole, nothing-left}
 use Rattle.table.specs.Writing.{numbersOf}
 use Rattle.table.specs.Fields.{Fields}
-use Rattle.table.specs.Judge.{Judgement, accepted, declined, judge, sized, judgeList, judgeBytes}
-use Rattle.table.specs.Judge.Laws.{Accepts, judge-in, judge-out, bytes-in}
+use Rattle.table.specs.Judge.{Judgement, accepted, declined, judge, judgeBytes}
+use Rattle.table.specs.Judge.Laws.{Accepts, judge-in, judge-out, list-declined, bytes-in}
 use Rattle.table.specs.Refusals.{links, TooLong}
 use Rattle.table.specs.Refusals.{Refused, too-long, truncated-list, out-of-range, trailing-input}
 use Rattle.table.specs.Refusals.{bad-reference, too-wide, too-many-branches}
@@ -111,10 +111,6 @@ module _ (ns : List ℕ) (next size : ℕ) (bad : Bool) (ms : List ℕ) (t : Tab
   on-after h = simp (lt-ltb _ _ h)
 
 -- ---- the refusals of a number list, but 2
-list-declined : (l : List ℕ) (n at : ℕ) → judge (listTokens 0 l) ≡ declined n at → judgeList l ≡ declined n at
-unfolding judgeList sized
-list-declined l n at e = rw e refl
-
 not-long : (l : List ℕ) (n at bt : ℕ) → judge (listTokens 0 l) ≡ declined n at → TooLong l bt → ⊥
 not-long l n at bt e h =
     let f =
@@ -125,10 +121,10 @@ not-long l n at bt e h =
     let z : _≡_ {A = ℕ} 0 1 = cc in
     omega arith
 
-abbrev pub Within : List ℕ → ℕ → ℕ → Type 0
-Within l n at = 5 ≤ n → n ≤ 7 → at ≤ length l
+abbrev pub PlaceInside : List ℕ → ℕ → ℕ → Type 0
+PlaceInside l n at = 5 ≤ n → n ≤ 7 → at ≤ length l
 
-within : (l : List ℕ) (n at : ℕ) → judge (listTokens 0 l) ≡ declined n at → Refused l n at → Within l n at
+within : (l : List ℕ) (n at : ℕ) → judge (listTokens 0 l) ≡ declined n at → Refused l n at → PlaceInside l n at
 within l n at j (too-long e h) a b = absurd (not-long l n at at j h)
 within l n at j (truncated-list e h) a b = absurd (omega arith)
 within l n at j (out-of-range e h) a b =
@@ -147,7 +143,7 @@ within l n at j (bad-reference e h) a b =
 within l n at j (too-wide e h) a b = absurd (omega arith)
 within l n at j (too-many-branches e h) a b = absurd (omega arith)
 
-pub place-within : (l : List ℕ) (n at : ℕ) → judge (listTokens 0 l) ≡ declined n at → Within l n at
+pub place-within : (l : List ℕ) (n at : ℕ) → judge (listTokens 0 l) ≡ declined n at → PlaceInside l n at
 place-within l n at e = within l n at e (refused-out l n at (list-declined l n at e))
 
 -- ---- the judgement of bytes

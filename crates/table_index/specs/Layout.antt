@@ -81,33 +81,58 @@ widthUnit = 2 ^ 46
 abbrev pub branchesUnit : ℕ
 branchesUnit = 2 ^ 50
 
--- how many values a target, and the number of branches, may have
+-- ---- digits: how many values each may have
+
+abbrev pub kinds : ℕ
+kinds = 2 ^ 3
+
+abbrev pub parameters : ℕ
+parameters = 2 ^ 3
+
+abbrev pub parallels : ℕ
+parallels = 2
+
+abbrev pub entries : ℕ
+entries = 2
+
+abbrev pub prefixCounts : ℕ
+prefixCounts = 2 ^ 6
+
+abbrev pub owns : ℕ
+owns = 2 ^ 5
+
+abbrev pub rights : ℕ
+rights = 2 ^ 11
+
 abbrev pub targets : ℕ
 targets = 2 ^ 16
+
+abbrev pub reaches : ℕ
+reaches = 2 ^ 4
 
 abbrev pub branchCounts : ℕ
 branchCounts = 2 ^ 9
 
 abbrev pub kindDigit : ℕ → ℕ
-kindDigit x = x % 2 ^ 3
+kindDigit x = x % kinds
 
 abbrev pub parameterDigit : ℕ → ℕ
-parameterDigit x = x / parameterUnit % 2 ^ 3
+parameterDigit x = x / parameterUnit % parameters
 
 abbrev pub parallelDigit : ℕ → ℕ
-parallelDigit x = x / parallelUnit % 2
+parallelDigit x = x / parallelUnit % parallels
 
 abbrev pub entryDigit : ℕ → ℕ
-entryDigit x = x / entryUnit % 2
+entryDigit x = x / entryUnit % entries
 
 abbrev pub prefixesDigit : ℕ → ℕ
-prefixesDigit x = x / prefixesUnit % 2 ^ 6
+prefixesDigit x = x / prefixesUnit % prefixCounts
 
 abbrev pub ownDigit : ℕ → ℕ
-ownDigit x = x / ownUnit % 2 ^ 5
+ownDigit x = x / ownUnit % owns
 
 abbrev pub rightDigit : ℕ → ℕ
-rightDigit x = x / rightUnit % 2 ^ 11
+rightDigit x = x / rightUnit % rights
 
 abbrev pub targetDigit : ℕ → ℕ
 targetDigit x = x / targetUnit % targets
@@ -124,7 +149,7 @@ unfoldable pub withWidth : ℕ → ℕ → ℕ
 withWidth x r = x % widthUnit + r * widthUnit
 
 abbrev pub reachDigit : ℕ → ℕ
-reachDigit x = x / widthUnit % 2 ^ 4
+reachDigit x = x / widthUnit % reaches
 
 abbrev pub branchesDigit : ℕ → ℕ
 branchesDigit x = x / branchesUnit % branchCounts

@@ -34,7 +34,7 @@ use Rattle.table.specs.Grammar.{row, eventSet, eventSets, setRef, termWith, def
 use Rattle.table.specs.References.{levelIn}
 use Rattle.table.specs.Judge.{declined, judge}
 use Rattle.table.specs.Member.{setOf}
-use Rattle.table.specs.Node.{nodes, nodesFrom, noNode, parameterOf}
+use Rattle.table.specs.Node.{nodes, definitionNodes, noNode, parameterOf}
 use Rattle.table_index.specs.Layout.{rowsMost, secondAt, termsAt, setsAt, bodiesAt, levelsAt, widthsAt}
 use Rattle.table_index.specs.Layout.{widthUnit, targets, structureOf}
 use Rattle.table_index.specs.Index.{maskOf, firstWord, secondWord, setMasks, kindOfSet, firstRow, packed, wordOf}
@@ -185,7 +185,7 @@ pub record DefinitionsFound (sets : List SetDef) (l : List ℕ) (count i : ℕ) 
   pub few : m ≤ 1024
   pub same : length w' ≡ length w
   pub words : (k : ℕ) → k < m
-      → structureOf (getD w' (termsAt + k) 0) ≡ wordOf sets k (getD (nodesFrom 0 i definitions) k noNode)
+      → structureOf (getD w' (termsAt + k) 0) ≡ wordOf sets k (getD (definitionNodes 0 i definitions) k noNode)
   pub roots : (d : ℕ) → d < count → getD w' (bodiesAt + d) 0 ≡ sizes (lib.ListN.take d definitions)
   pub levels : (d : ℕ) → d < count → getD w' (levelsAt + d) 0 ≡ levelIn definitions d
   pub kept : (x : ℕ) → ((termsAt ≤ x) × (x < setsAt) → ⊥) → ((bodiesAt ≤ x) × (x < widthsAt) → ⊥)
@@ -199,10 +199,10 @@ DefinitionsRead sets l count i w w' (NoTerm r) =
 
 -- ---- the whole
 
-pub record Whole (l w : List ℕ) : Type 0 where
+pub record Parsed (l w : List ℕ) : Type 0 where
   pub parsed : table (listTokens 0 l) ≡ got (tableIn l) (listTokens (length l) [])
   pub structure : Structured (tableIn l) w
 
 abbrev pub ParseDone : List ℕ → List ℕ → Judged → Type 0
-ParseDone l w' Accepted = Whole l w'
+ParseDone l w' Accepted = Parsed l w'
 ParseDone l w' (Declined r) = (judge (listTokens 0 l) ≡ declined (r .number) (r .place)) × (length w' ≡ 8192)

@@ -25,7 +25,7 @@ use Rattle.taking.specs.declared.event.Taken.{Taken}
 use Rattle.taking.specs.declared.event.Taken.the-variants.{Went, Stopped}
 use Rattle.state.specs.Record.{monitorOf}
 use Rattle.tree_walk.specs.Layout.{storeWords}
-use Rattle.step_laws.specs.Holds.{AreaHolds, heldIn}
+use Rattle.monitor_spec.specs.Holds.{AreaHolds, heldIn}
 
 -- the words of the store that a step asks for
 abbrev pub stepWords : ℕ

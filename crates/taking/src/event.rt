@@ -7,7 +7,7 @@ ghost use Rattle.monitor_spec.specs.State.{slotCount};
 ghost use Rattle.state.specs.Record.{monitorOf};
 ghost use Rattle.tree_walk.specs.Layout.{storeWords};
 ghost use Rattle.leaf_memo.specs.Memo.{StoreOf};
-ghost use Rattle.step_laws.specs.Holds.{AreaHolds, heldIn};
+ghost use Rattle.monitor_spec.specs.Holds.{AreaHolds, heldIn};
 ghost use Rattle.taking.specs.Taking.{Empty, NextBy, Holding, Standing, Advanced};
 ghost use Rattle.taking.specs.Taking.{Moved, TakenBy};
 use set_step::Held;
@@ -30,7 +30,7 @@ pub enum Taken {
 // Fills the destination, which is zero, with the residuals after event e of those that the source
 // holds; so many events were taken before. The destination's slots are the most that there may be.
 // Where the event is refused it is zero again. The store is for a step's own use.
-fn next_set(
+pub fn next_set(
     list: &[u16],
     work: &[u64],
     e: u8,
@@ -67,7 +67,7 @@ fn next_set(
 
 // Fills the other area with the residuals after event e, and zeroes the words in use of the present
 // one; where the event is refused, both areas are as they were.
-fn advance(
+pub fn advance(
     list: &[u16],
     work: &[u64],
     e: u8,

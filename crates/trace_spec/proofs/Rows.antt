@@ -42,7 +42,7 @@ use Rattle.monitor_spec.specs.Feed.{feedOf}
 use Rattle.monitor_spec.specs.Offer.{bitOf, bitsFrom, wordBits, wordFrom, allBits, offerBits}
 use Rattle.monitor_spec.specs.Open.{freshMonitor, openAccepted, openOf}
 use Rattle.line_spec.specs.Line.{cut, headBy, headOf, fresh, monitorLeft}
-use Rattle.line_spec.specs.Claims.{drawn}
+use Rattle.line_spec.specs.Claims.{oneEventTable}
 use Rattle.trace_spec.specs.TraceLine.{eventsFrom, eventsIn}
 use Rattle.trace_spec.specs.Trace.{beginOpen, beginList, beginTable, beginHead, beginningOf, permittedBy}
 use Rattle.trace_spec.specs.Trace.{eventLines, startLine, traceFrom, traceOf}
@@ -66,7 +66,7 @@ unfolding flatMap size sizes bodyOf bodyNumber termIn termOfDefs termAt prefixes
     consistent through presentSlots nextSlots nextVerdict freshState stateAfter counted holding taking eventRefused
     takeEvent endingOf feedOf measuring judging entrance agreeing entranceOn entering refusing freshMonitor openAccepted
     openOf carry later scanWith readNumber byteToken byteTokensWith byteTokens judgeBytes cut headBy headOf fresh
-    monitorLeft drawn bitOf bitsFrom wordBits wordFrom allBits offerBits eventsFrom eventsIn beginOpen beginList
+    monitorLeft oneEventTable bitOf bitsFrom wordBits wordFrom allBits offerBits eventsFrom eventsIn beginOpen beginList
     beginTable beginHead beginningOf permittedBy eventLines startLine traceFrom traceOf readLines reachedIn reachedAt
     reachedAfter reachedFrom reachedBy readsFrom readsOf Rows
 rows = (refl, refl, refl, refl, refl, refl, refl, refl, refl, refl, refl)

@@ -24,7 +24,7 @@ use Rattle.table.specs.Examples.{tableB}
 use Rattle.monitor_spec.specs.State.{running, failedAt, State}
 use Rattle.monitor_spec.specs.Offer.{EventBits}
 use Rattle.line_spec.specs.Line.{parts, wrong, headOf, lineOf}
-use Rattle.line_spec.specs.Claims.{drawn}
+use Rattle.line_spec.specs.Claims.{oneEventTable}
 use Rattle.trace_spec.specs.TraceLine.{TraceLine, starts, takes, refuses, LineAt, eventsIn}
 use Rattle.trace_spec.specs.Trace.{traceOf, lineBy}
 use Rattle.trace_spec.specs.Reads.{ended, readLines, reachedBy, readsOf, Decided}
@@ -111,6 +111,6 @@ Rows =
     × (traceOf (128 ∷ 0 ∷ []) ≡ refuses 4 0 ∷ [])
     × (traceOf (129 ∷ 128 ∷ 1 ∷ []) ≡ refuses 2 0 ∷ [])
     × (traceOf (16 ∷ 3 ∷ 2 ∷ []) ≡ refuses 3 2 ∷ [])
-    × (traceOf (10 ∷ drawn fail ++ (0 ∷ []))
+    × (traceOf (10 ∷ oneEventTable fail ++ (0 ∷ []))
     ≡ starts (failed 0 0 0) (words 0) ∷ takes 0 (failed 1 0 0) (words 0) ∷ [])
     × (eventsIn (record { first = 5; second = 2 }) ≡ 0 ∷ 2 ∷ 65 ∷ [])

@@ -33,7 +33,7 @@ pub record TracedOn (l w : List ℕ) (m : Monitor) (e : ℕ) (s : State) (bits :
   pub tracing : Tracing l w (monitorOf s a b)
 
 -- an event that is refused: "Events are placed from the input's first", and the areas are kept
-pub record StoppedAt (l : List ℕ) (m : Monitor) (e number place : ℕ) (a b : List ℕ) : Type 0 where
+pub record RefusedEvent (l : List ℕ) (m : Monitor) (e number place : ℕ) (a b : List ℕ) : Type 0 where
   pub stopped : takeEvent (tableIn l) m e ≡ stops number
   pub placed : place ≡ m .state .taken
   pub first : a ≡ m .area0
@@ -41,4 +41,4 @@ pub record StoppedAt (l : List ℕ) (m : Monitor) (e number place : ℕ) (a b : 
 
 abbrev pub TracedBy : List ℕ → List ℕ → Monitor → ℕ → Traced → List ℕ → List ℕ → Type 0
 TracedBy l w m e (Went s bits) a b = TracedOn l w m e s bits a b
-TracedBy l w m e (Stopped number place) a b = StoppedAt l m e number place a b
+TracedBy l w m e (Stopped number place) a b = RefusedEvent l m e number place a b

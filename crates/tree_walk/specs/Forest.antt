@@ -24,7 +24,7 @@ abbrev pub ValidNode : Table → ℕ → Memory → Type 0
 ValidNode t n m = Digits m × (n < termCount t) × ((i : ℕ) → digit m i < t .alphabet)
 
 -- of "one whole residual tree of known STOP, prefix and parallel terms": at a pair stands a parallel, at a leaf none. A
--- leaf may be of any other kind here: only STOP and prefix stand in a valid slot (valid_slots/specs), and the walk
+-- leaf may be of any other kind here: only STOP and prefix stand in a valid slot (monitor_spec), and the walk
 -- needs less
 abbrev pub Valid : Table → Residual → Type 0
 Valid t (leaf n m) = ValidNode t n m × (kindOf (termOf t n) ≡ 4 → ⊥)

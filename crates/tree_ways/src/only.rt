@@ -134,8 +134,8 @@ fn decode(v: u64) -> Way
     })
 }
 
-// The word of the residual with n nodes from k on. At a pair, its left side's is on top of the stack
-// and its right side's below it.
+// The word of the residual with n nodes from k on. At a pair, its left side's is on top of the
+// stack and its right side's below it.
 fn root_code(list: &[u16], work: &[u64], area: &[u64], k: usize, n: usize, e: u64) -> u64
     requires { ⌜ Indexed (now list) (now work) ⌝ }
     requires { ⌜ (e < tableIn (now list) .alphabet) × Rooted (tableIn (now list)) (now area) k n ⌝ }

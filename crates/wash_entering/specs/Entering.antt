@@ -19,7 +19,7 @@ use Rattle.wash_spec.specs.Entering.{agreesBy, TimedEntrance, shut, admits, sch
 use Rattle.wash_state.specs.declared.answer.TimedState.{TimedState}
 use Rattle.wash_state.specs.declared.answer.TimedState.the-variants.{NotStarted, Started}
 use Rattle.wash_state.specs.Answers.{timedStateOf}
-use Rattle.wash_start.specs.Standing.{listAt, Ready}
+use Rattle.wash_start.specs.Standing.{listAt, TimedReady}
 
 pub record AgreedAt (everyday wash windows : List ℕ) (s : State) (last : ℕ) (a b : List ℕ) (r : Bool) (work' : List ℕ)
     : Type 0 where
@@ -40,7 +40,7 @@ pub record Agreed (everyday wash windows : List ℕ) (s : TimedState) (a b : Lis
 unfoldable pub TimedEntered : TimedEntrance → List ℕ → List ℕ → List ℕ → TimedState → List ℕ → List ℕ → Judged → List ℕ
     → Type 0
 TimedEntered e everyday wash windows s a b Accepted work' =
-    (e ≡ admits (tableIn everyday) (tableIn wash)) × Ready everyday wash windows s a b work'
+    (e ≡ admits (tableIn everyday) (tableIn wash)) × TimedReady everyday wash windows s a b work'
 TimedEntered e everyday wash windows s a b (Declined r) work' = e ≡ shut (r .number) (r .place) work'
 
 -- what `timedEntrance` comes to after the everyday table, with a work area of the right length

@@ -6,7 +6,7 @@ ghost use lib.ListN.{length};
 ghost use Rattle.tree_walk.specs.Layout.{storeWords};
 ghost use Rattle.monitor_spec.specs.State.{areasMeasured};
 ghost use Rattle.wash_start.specs.Fresh.{ListAccepted};
-ghost use Rattle.wash_start.specs.Standing.{Ready};
+ghost use Rattle.wash_start.specs.Standing.{TimedReady};
 ghost use Rattle.wash_event.specs.Event.{OnReady, OnBy, TimedBy};
 use feeding::Taken;
 use feeding::take_anew;
@@ -59,7 +59,7 @@ pub fn take_timed(
     work: &mut [u64],
     store: &mut [u64],
 ) -> Taken
-    requires { ⌜ Ready (now everyday) (now wash) (now windows) state
+    requires { ⌜ TimedReady (now everyday) (now wash) (now windows) state
         (now area0) (now area1) (now work) ⌝ }
     requires { ⌜ length (now store) ≡ storeWords ⌝ }
     ensures { λ r.

@@ -29,7 +29,7 @@ TimedStanding everyday wash windows (Started s last) a b work =
     Indexed (listAt everyday wash windows last) work
     × Standing (tableIn (listAt everyday wash windows last)) (monitorOf s a b)
 
-pub record Ready (everyday wash windows : List ℕ) (s : TimedState) (a b work : List ℕ) : Type 0 where
+pub record TimedReady (everyday wash windows : List ℕ) (s : TimedState) (a b work : List ℕ) : Type 0 where
   pub first : ListAccepted everyday
   pub second : ListAccepted wash
   pub good : T (goodTimetable windows)

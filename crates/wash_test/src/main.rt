@@ -1,6 +1,6 @@
 // Runs `timed_feed` of crate `monitor` on the calls of `washes.txt`, and prints a line for each
 // group of calls, then `ok` if every answer was the stored one.
-//     file       the file, piece by piece
+//     file       the file, line by line
 //     case       a line as a call
 //     lists      the lists of a line
 //     trial      one call, held to its answer

@@ -24,7 +24,7 @@ use Rattle.wash_spec.specs.Entering.{TimedEntrance, shut, admits, timedMeasured
 use Rattle.wash_spec.specs.Entering.{timedEntrance}
 use Rattle.wash_spec.specs.Feed.{timedPairs, timedEnding, timedRefusing, timedGoing, timedOf}
 use Rattle.wash_words.specs.Words.{timedRecordMeasured}
-use Rattle.wash_words.specs.Call.{timedNumber, isGiven, callOf, timedMonitorIn, timedCall}
+use Rattle.wash_words.specs.Call.{timedNumber, isTimedGiven, callOf, timedMonitorIn, timedCall}
 
 -- ---- one event: 17, 13, or as an event of the monitor stops
 
@@ -92,10 +92,10 @@ entrance-shut everyday wash ws m true w =
 -- ---- a call
 
 abbrev Said : TimedOutcome → Type 0
-Said o = eqb (timedNumber (o .answer)) 0 ≡ isGiven (o .answer)
+Said o = eqb (timedNumber (o .answer)) 0 ≡ isTimedGiven (o .answer)
 
 ending-said : (k : ℕ) (x : Ended TimedMonitor) → Why (x .why) → Said (timedEnding k x)
-unfolding timedEnding timedNumber isGiven
+unfolding timedEnding timedNumber isTimedGiven
 ending-said k x h = go (x .why) refl
   where
     go : (o : Option ℕ) → x .why ≡ o → Said (timedEnding k x)
@@ -104,7 +104,7 @@ ending-said k x h = go (x .why) refl
 
 going-said : (ws : List ℕ) (m : TimedMonitor) (ps : List (ℕ × ℕ)) (k : ℕ) (x : TimedEntrance) → Shut x
     → Said (timedGoing ws m ps k x)
-unfolding timedGoing timedRefusing timedNumber isGiven
+unfolding timedGoing timedRefusing timedNumber isTimedGiven
 going-said ws m ps k (shut n p v) h = ne-eqb n 0 h
 going-said ws m ps k (admits t u) h = ending-said k _ (through-why (takeTimed t u ws) (timed-stop t u ws) ps m 0)
 
@@ -117,12 +117,12 @@ timed-said everyday wash ws m es ms w =
 
 pub timed-zero : (everyday wash ws r a b es ms w : List ℕ)
     → eqb (timedCall everyday wash ws r a b es ms w .number) 0
-    ≡ (timedRecordMeasured r && isGiven (timedOf everyday wash ws (timedMonitorIn r a b) es ms w .answer))
+    ≡ (timedRecordMeasured r && isTimedGiven (timedOf everyday wash ws (timedMonitorIn r a b) es ms w .answer))
 unfolding timedCall callOf unmeasured
 timed-zero everyday wash ws r a b es ms w = go (timedRecordMeasured r) refl
   where
     go : (x : Bool) → timedRecordMeasured r ≡ x
         → eqb (timedCall everyday wash ws r a b es ms w .number) 0
-        ≡ (timedRecordMeasured r && isGiven (timedOf everyday wash ws (timedMonitorIn r a b) es ms w .answer))
+        ≡ (timedRecordMeasured r && isTimedGiven (timedOf everyday wash ws (timedMonitorIn r a b) es ms w .answer))
     go true e = rw (e, timedCall) (timed-said everyday wash ws (timedMonitorIn r a b) es ms w)
     go false e = rw (e, timedCall)

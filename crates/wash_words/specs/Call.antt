@@ -25,10 +25,10 @@ timedNumber (refused n p) = n
 timedNumber (stopped n p s) = n
 
 -- there is none
-unfoldable pub isGiven : TimedAnswer → Bool
-isGiven (given s) = true
-isGiven (refused n p) = false
-isGiven (stopped n p s) = false
+unfoldable pub isTimedGiven : TimedAnswer → Bool
+isTimedGiven (given s) = true
+isTimedGiven (refused n p) = false
+isTimedGiven (stopped n p s) = false
 
 -- its place, 0 where there is none
 unfoldable pub timedPlace : TimedAnswer → ℕ

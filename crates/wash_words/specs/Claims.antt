@@ -17,7 +17,7 @@ use Rattle.monitor_spec.specs.State.{State}
 use Rattle.wash_spec.specs.Timed.{TimedState, notStarted, started}
 use Rattle.wash_spec.specs.Feed.{timedOf}
 use Rattle.wash_words.specs.Words.{timedRecordMeasured, timedIn, timedWords}
-use Rattle.wash_words.specs.Call.{isGiven, timedMonitorIn, timedCall, TimedWay}
+use Rattle.wash_words.specs.Call.{isTimedGiven, timedMonitorIn, timedCall, TimedWay}
 
 unfoldable pub TimedReadsBack : Type 0
 TimedReadsBack = (s : TimedState) → timedIn (timedWords s) ≡ s
@@ -43,4 +43,4 @@ unfoldable pub ZeroExactly : Type 0
 ZeroExactly =
     (everyday wash windows r a b events minutes w : List ℕ)
     → eqb (timedCall everyday wash windows r a b events minutes w .number) 0
-    ≡ (timedRecordMeasured r && isGiven (timedOf everyday wash windows (timedMonitorIn r a b) events minutes w .answer))
+    ≡ (timedRecordMeasured r && isTimedGiven (timedOf everyday wash windows (timedMonitorIn r a b) events minutes w .answer))

@@ -3,7 +3,7 @@ ghost use mathlib.Core.Path.{_≡_};
 ghost use lib.ListN.{length};
 ghost use Rattle.wash_spec.specs.Feed.{timedOf};
 ghost use Rattle.wash_state.specs.Answers.{timedMonitorOf, timedOutcome};
-ghost use Rattle.wash_start.specs.Standing.{Ready};
+ghost use Rattle.wash_start.specs.Standing.{TimedReady};
 ghost use Rattle.washing.specs.Washing.{TimedEndedBy};
 use feeding::STORE_WORDS;
 use feeding::Taken;
@@ -27,7 +27,7 @@ fn take_all_timed(
     minutes: &[u64],
     work: &mut [u64],
 ) -> TimedAnswer
-    requires { ⌜ Ready (now everyday) (now wash) (now windows) state
+    requires { ⌜ TimedReady (now everyday) (now wash) (now windows) state
         (now area0) (now area1) (now work) ⌝ }
     requires { ⌜ length (now events) ≡ length (now minutes) ⌝ }
     ensures { λ r.

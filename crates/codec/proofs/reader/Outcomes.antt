@@ -20,7 +20,7 @@ use Rattle.table.specs.declared.answer.Answer.the-variants.{Count, Refused}
 use Rattle.table.specs.Table.{Table}
 use Rattle.table.specs.Tokens.{listTokens}
 use Rattle.table.specs.Judge.{Judgement, accepted, declined, judge, judgeBytes}
-use Rattle.table_index.specs.BytesJudged.{onBytes, JudgedAs, Within}
+use Rattle.table_index.specs.BytesJudged.{onBytes, JudgedAs, PlaceInside}
 use Rattle.table_index.specs.BytesJudged.{on-accepted, on-after, judged-bytes, place-within}
 use Rattle.table.specs.Operations.{zeros, measured, readJudged, readOf}
 use Rattle.table.specs.Answers.{answerOf, outcome, Said}
@@ -36,7 +36,7 @@ module _ (l w' : List ℕ) (r : Judged) (d : JudgeDone l w' r) where
   pub done-declined : (q : Refusal) → r ≡ Declined q → judge (listTokens 0 l) ≡ declined (q .number) (q .place)
   done-declined q e = subst (JudgeDone l w') e d .0
 
-  pub done-within : (q : Refusal) → r ≡ Declined q → Within l (q .number) (q .place)
+  pub done-within : (q : Refusal) → r ≡ Declined q → PlaceInside l (q .number) (q .place)
   done-within q e = place-within l (q .number) (q .place) (done-declined q e)
 
   -- ---- the bytes, from their numbers

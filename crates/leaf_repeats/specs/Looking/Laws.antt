@@ -1,26 +1,24 @@
 -- The laws of a look at a residual's results.
 --     follower-known, follower-resolves     a leaf's follower is a term, which can be resolved
---     key-fits                              a residual of such a term fits a slot
 --     looks-from, looks-head                the first nodes; there are some where one is marked
 --     looks-leaf, looks-next                a marked leaf; the nodes after the first
 -- Assumes nothing.
 use Prim.Native.Nat.{ℕ, suc, _+_, _-_, _/_, _%_, _<_, _≤_}
 use native.Mathlib.Omega.{arith}
 use native.Mathlib.Decide.{decLt}
-use mathlib.Core.Path.{_≡_, refl, ap, _∙_}
+use mathlib.Core.Path.{_≡_, ap, _∙_}
 use mathlib.Core.List.{List, _∷_, map}
 use lib.ListN.{length, getD}
 use borrow.Author.Tests.{eq-eqb}
 use Rattle.table.specs.Table.{Table, termCount}
-use Rattle.table.specs.Memory.{Memory, remember}
+use Rattle.table.specs.Memory.{remember}
 use Rattle.node_word.specs.Word.{termOfWord, memoryOf}
 use Rattle.residuals.specs.Residual.{resolve}
 use Rattle.residuals.specs.Slots.{nodes}
 use Rattle.resolving.specs.Words.{kindAt}
 use Rattle.resolving.specs.Lawful.{Lawful, follower-in}
-use Rattle.resolving.specs.ResidualWords.{nth, Resolves, resolvedInto}
-use Rattle.resolving.specs.ResidualWords.Pushed.{head-pushAll}
-use Rattle.resolving.specs.Distinct.{window, empty, Resolvable}
+use Rattle.resolving.specs.ResidualWords.{nth}
+use Rattle.resolving.specs.Distinct.{window, Resolvable}
 use Rattle.resolving.specs.Distinct.Laws.{window-cons, window-none}
 use Rattle.tree_walk.specs.Walk.{room, leafResults, longest}
 use Rattle.tree_walk.specs.Walk.Leaves.{results-yes, nodes-short}
@@ -60,14 +58,6 @@ module _ {t : Table} {bound e w : ℕ} (law : Lawful t) (s : LooksLeaf t bound e
     pub follower-resolves : (mm m : ℕ) → memoryOf mm ≡ memoryOf w → memoryOf m ≡ remember e (memoryOf mm)
         → Resolvable t bound (k + 1) (memoryOf m)
     follower-resolves mm m emm em = rw (em, ek, emm) next-resolves
-
--- ---- a residual in a slot
-
-pub key-fits : (t : Table) (b n : ℕ) (m : Memory) (i : ℕ) (slot : List ℕ) → Resolves t b n m i empty
-    → slot ≡ resolvedInto t n m i empty → getD slot 0 0 < 16
-unfolding resolvedInto
-key-fits t b n m i slot s es =
-    rw es (omega (arith, head-pushAll empty (nodes (nth (resolve t n m) i)) refl, s .room))
 
 -- ---- the nodes
 

@@ -34,7 +34,7 @@ use Rattle.tree_walk.specs.Forest.Words.{known-node}
 use Rattle.tree_walk.specs.Course.{nodeCount, nodesFrom}
 use Rattle.leaf_memo.specs.Memo.{StoreOf}
 use Rattle.leaf_memo.specs.Memo.Laws.{store-behind}
-use Rattle.leaf_results.specs.Prepared.{Sound, LeafFilled}
+use Rattle.leaf_results.specs.Prepared.{Loaded, LeafFilled}
 use Rattle.leaf_memo.specs.Below.{getD-below, take-below, nodes-same}
 
 -- ---- each node of a tree is a known term, and its results have room
@@ -86,14 +86,14 @@ pub leaf-fits : (t : Table) → Lawful t → (e w : ℕ) → termOfWord w < term
 leaf-fits t law e w h = leaf-fits-by t law e w h _ refl
 
 -- the event has room in a node word
-pub event-fits : {t : Table} {bound e : ℕ} {store : List ℕ} → Lawful t → Sound t bound e store → e < digitBound
+pub event-fits : {t : Table} {bound e : ℕ} {store : List ℕ} → Lawful t → Loaded t bound e store → e < digitBound
 event-fits law s = omega (arith, s .event, law .events-most, events-fit)
 
-pub sound-store : (t : Table) (bound e : ℕ) (store : List ℕ) → Sound t bound e store → StoreOf t store
+pub sound-store : (t : Table) (bound e : ℕ) (store : List ℕ) → Loaded t bound e store → StoreOf t store
 sound-store t bound e store s = record { size = s .size; memo = s .memo }
 
-pub sound-kept : (t : Table) (bound e : ℕ) (old new : List ℕ) → Sound t bound e old → take 257 new ≡ take 257 old
-    → StoreOf t new → Sound t bound e new
+pub sound-kept : (t : Table) (bound e : ℕ) (old new : List ℕ) → Loaded t bound e old → take 257 new ≡ take 257 old
+    → StoreOf t new → Loaded t bound e new
 sound-kept t bound e old new s same h =
     let n = nodes-same old new 1 same (s .few) (omega arith) in
     record {
@@ -108,7 +108,7 @@ sound-kept t bound e old new s same h =
       room = rw n (s .room);
     }
 
-module _ (t : Table) (bound e : ℕ) (store : List ℕ) (s : Sound t bound e store) (k : ℕ) (a : 1 ≤ k)
+module _ (t : Table) (bound e : ℕ) (store : List ℕ) (s : Loaded t bound e store) (k : ℕ) (a : 1 ≤ k)
     (b : k ≤ nodeCount store) where
   many : length (nodesFrom store 1) ≡ nodeCount store
   unfolding nodesFrom

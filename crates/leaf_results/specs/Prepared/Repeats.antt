@@ -17,7 +17,7 @@ use Rattle.tree_walk.specs.Course.{nodeCount, LeafAt}
 use Rattle.leaf_memo.specs.Memo.{Copied, EntryAt, StoreOf, KeptInEntry}
 use Rattle.leaf_memo.specs.Memo.Copies.{leaf-copied}
 use Rattle.leaf_memo.specs.Memo.Laws.{store-copies, kept-before, store-kept}
-use Rattle.leaf_results.specs.Prepared.{Sound, LeafFilled, FilledBefore}
+use Rattle.leaf_results.specs.Prepared.{Loaded, LeafFilled, FilledBefore}
 use Rattle.leaf_memo.specs.Below.{getD-below, take-below, leaf-same}
 use Rattle.leaf_results.specs.Prepared.Nodes.{node-few}
 
@@ -96,7 +96,7 @@ module _ (t : Table) (e : ℕ) where
           (f .leaf z));
     }
 
-module _ (t : Table) (bound e : ℕ) (store : List ℕ) (s : Sound t bound e store) (k : ℕ) (a : 1 ≤ k)
+module _ (t : Table) (bound e : ℕ) (store : List ℕ) (s : Loaded t bound e store) (k : ℕ) (a : 1 ≤ k)
     (b : k ≤ nodeCount store) where
   pub last-filled : Lawful t → (new : List ℕ) → LeafFilled t e store new k → FilledBefore t e new (k + 1) k
   last-filled law new f =

@@ -33,7 +33,7 @@ use Rattle.tree_ways.specs.Takes.Counts.{none-of}
 use Rattle.leaf_results.specs.declared.preparing.TreeEnd.{TreeEnd}
 use Rattle.leaf_memo.specs.Memo.{StoreOf}
 use Rattle.leaf_memo.specs.Memo.Laws.{store-marks}
-use Rattle.leaf_results.specs.Prepared.{Sound, LeafFilled, FilledBefore, TreeFrom, TreeFilled, Fills}
+use Rattle.leaf_results.specs.Prepared.{Loaded, LeafFilled, FilledBefore, TreeFrom, TreeFilled, Fills}
 use Rattle.leaf_memo.specs.Below.{getD-below, take-below, nodes-same, leaf-same, nodes-drop, nodes-length}
 use Rattle.leaf_results.specs.Prepared.Asked.{still-prepared, prefix-word, pair-word}
 use Rattle.leaf_results.specs.Prepared.Nodes.{leaf-fits, sound-store, sound-kept, node-resolves}
@@ -55,7 +55,7 @@ prepared-kept t law e p old new same k (pair n m l r) v h (inr d) =
       prepared-kept t law e p old new same (k + 1 + length (nodes l)) r (v .3) (omega (arith, z)) (d .2),
     )
 
-module _ {t : Table} {bound e : ℕ} {old : List ℕ} (s : Sound t bound e old) (k : ℕ) (f : TreeFrom t old k) where
+module _ {t : Table} {bound e : ℕ} {old : List ℕ} (s : Loaded t bound e old) (k : ℕ) (f : TreeFrom t old k) where
   pub node-inside : k ≤ nodeCount old
   node-inside = by-place (native.Mathlib.Decide.decLt (nodeCount old) k)
     where
@@ -165,7 +165,7 @@ module _ {t : Table} {bound e : ℕ} {old : List ℕ} (s : Sound t bound e old) 
         next-spelt = nodes-same old (marked 1) (k + 1) (marked-slot 1) (s .few) (omega (arith, node-inside, s .few))
 
         pub left-asks : (last : ℕ) → FilledBefore t e old k last
-            → Sound t bound e (set old (k * 257) 1) × TreeFrom t (set old (k * 257) 1) (k + 1)
+            → Loaded t bound e (set old (k * 257) 1) × TreeFrom t (set old (k * 257) 1) (k + 1)
             × FilledBefore t e (set old (k * 257) 1) (k + 1) last
         left-asks last b = (
           sound-kept t bound e old (marked 1) s (marked-slot 1) (marked-store 1),
@@ -209,7 +209,7 @@ module _ {t : Table} {bound e : ℕ} {old : List ℕ} (s : Sound t bound e old) 
           further : k < a .next
           further = omega (arith, left-told (one .l) (one .r) (one .tail) (one .spelt) (one .left) .1)
 
-          pub right-asks : StoreOf t x → Sound t bound e x × TreeFrom t x (a .next) × (k < a .next)
+          pub right-asks : StoreOf t x → Loaded t bound e x × TreeFrom t x (a .next) × (k < a .next)
           right-asks h = (
             sound-kept t bound e old x s left-slot h,
             record {
@@ -257,7 +257,7 @@ module _ {t : Table} {bound e : ℕ} {old : List ℕ} (s : Sound t bound e old) 
 
 -- ---- the whole residual
 
-module _ {t : Table} {bound e : ℕ} {old : List ℕ} (s : Sound t bound e old) where
+module _ {t : Table} {bound e : ℕ} {old : List ℕ} (s : Loaded t bound e old) where
   pub whole-asks : TreeFrom t old 1
   whole-asks = record {
     first = omega arith;

@@ -13,7 +13,7 @@ use Rattle.state.specs.declared.record.State.{State}
 use Rattle.state.specs.Record.{stateOf, monitorOf}
 use Rattle.line_spec.specs.Whole.{ResumeOutcome, resumeOf}
 use Rattle.line_spec.specs.Lent.{nextBy, resumeNext}
-use Rattle.line_spec.specs.Judged.{pieceEnd, Took, Goes, Follows}
+use Rattle.line_spec.specs.Judged.{pieceEnd, Took, Goes, ComesTo}
 use Rattle.line_spec.specs.Judged.Laws.{goes-next, goes-took, goes-over}
 use Rattle.format.specs.declared.answer.Line as code
 use Rattle.format.specs.Line.{lineSaid}
@@ -60,7 +60,7 @@ module _ (n : ℕ) (p : List ℕ) (size : length p ≡ n) (part : Part) (fits : 
             goes-next n o now (resumeSaid l (Going next) a' b' w') filled (part .last) (told (Going next) e) full goes l
             (monitorOf next a' b') refl
 
-        pub turn-over : (x : code.Line) → r ≡ Over x → Follows n o (lineSaid x)
+        pub turn-over : (x : code.Line) → r ≡ Over x → ComesTo n o (lineSaid x)
         unfolding now
         turn-over x e =
             goes-over n o now (resumeSaid l (Over x) a' b' w') filled (part .last) (told (Over x) e) full short goes

@@ -19,7 +19,7 @@ use Rattle.line_spec.specs.Whole.{ResumeOutcome, resumedBy, resumeOf}
 use Rattle.line_spec.specs.Lent.{lentLine, nextBy, resumeNext, resumeAll, lentPieces, withCourse}
 use Rattle.line_spec.specs.Lent.Laws.{pieces-lent}
 use Rattle.line_spec.specs.Lent.Ends.{stays}
-use Rattle.line_spec.specs.Judged.{Full, frontLeft, pieceEnd, Took, Goes, Follows, endsIn, standsAfter}
+use Rattle.line_spec.specs.Judged.{Full, frontLeft, pieceEnd, Took, Goes, ComesTo, endsIn, standsAfter}
 use Rattle.line_spec.specs.Judged.{Judged, ended, stood}
 use Rattle.line_spec.specs.Judged.Taken.{course-took}
 
@@ -88,10 +88,10 @@ module _ (n : ℕ) (o p q : ResumeOutcome) (es : List ℕ) where
         sym c ∙ sym (ap (λ (r : ResumeOutcome). r .course) (unended last said f)) ∙ h in
         subst (λ (i : ℕ). Took (m .state) i (d .state)) (fills f) (course-took k l m d es (p .work) g)
 
-    pub goes-over : (last ≡ true → length es < n) → Goes n o p → (x : Line) → q .course ≡ over x → Follows n o x
+    pub goes-over : (last ≡ true → length es < n) → Goes n o p → (x : Line) → q .course ≡ over x → ComesTo n o x
     goes-over short g x h = by last refl
       where
-        by : (b : Bool) → last ≡ b → Follows n o x
+        by : (b : Bool) → last ≡ b → ComesTo n o x
         by true e =
             endsIn (g .pieces) es (g .full) (short e)
             (ap (λ (r : ResumeOutcome). concludeOf (r .course)) (resumed-more g) ∙ said-last last said e x h)
@@ -121,7 +121,7 @@ module _ (s l a b w : List ℕ) (fit : lent l a b w ≡ true) where
   front-line x e = ap lineOf (sym (append-nil s)) ∙ lines [] x (inr refl) e
 
   -- it did not
-  pub follows-judged : (n : ℕ) (x : Line) → 16387 ≤ length s → Follows n (frontLeft s (openInputOf s l a b w)) x
+  pub follows-judged : (n : ℕ) (x : Line) → 16387 ≤ length s → ComesTo n (frontLeft s (openInputOf s l a b w)) x
       → Judged n s x
   unfolding concludeOf
   follows-judged n x h (endsIn ess es f i e) = ended ess es f i (lines (ess ++ (es ∷ [])) x (inl h) e)

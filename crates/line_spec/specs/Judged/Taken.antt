@@ -10,26 +10,20 @@ use mathlib.Core.List.{List, [], _∷_}
 use mathlib.Core.Option.{Option, none, some}
 use lib.ListN.{length}
 use Rattle.table.specs.Table.{Table}
-use Rattle.residuals.specs.Residual.{Residual}
 use Rattle.monitor_spec.specs.Fold.{StepEnd, went, stops, Ended, through}
 use Rattle.monitor_spec.specs.Fold.Laws.{through-went, through-stops}
 use Rattle.monitor_spec.specs.State.{State, stateAfter, Monitor, Answer, given, stopped, Outcome}
 use Rattle.monitor_spec.specs.State.{counted, holding}
 use Rattle.monitor_spec.specs.State as state
 use Rattle.monitor_spec.specs.Entering.{Entrance, shut, admits, entranceOn, refusing}
-use Rattle.monitor_spec.specs.Feed.{counterMost, nextSlots, taking, takeEvent, endingOf, feedOf}
-use Rattle.monitor_spec.specs.Feed.Laws.{EventCase, meets, passes, event-case, metBy, take-refused, take-passes}
+use Rattle.monitor_spec.specs.Feed.{nextSlots, taking, takeEvent, endingOf, feedOf}
+use Rattle.monitor_spec.specs.Feed.Laws.{event-case, passes-counts, metBy, take-refused, take-passes}
 use Rattle.monitor_spec.specs.Feed.Laws.{feed-shut, feed-admits}
 use Rattle.line_spec.specs.Line.{monitorLeft}
 use Rattle.line_spec.specs.Pieces.{going, fed, fedBy}
 use Rattle.line_spec.specs.Judged.{Took}
 
 -- ---- one event
-
-passes-counts : {t : Table} {cap k : ℕ} {rs : List Residual} {e : ℕ} {o : Option ℕ} → EventCase t cap k rs e o
-    → o ≡ none → k ≡ counterMost → ⊥
-passes-counts (meets n x) h = absurd (let z : _≡_ {A = ℕ} 0 1 = cc in omega arith)
-passes-counts (passes a b c) h = b
 
 pub event-took : (t : Table) (m d : Monitor) (e : ℕ) → takeEvent t m e ≡ went d → Took (m .state) 1 (d .state)
 unfolding taking stateAfter counted holding

@@ -11,6 +11,7 @@ use mathlib.Core.Logic.{_⊎_, inr}
 use lib.ListN.{length}
 use Rattle.table.specs.Judge.{judgeList}
 use Rattle.table.specs.Operations.{zeros}
+use Rattle.table.specs.Operations.Laws.{length-zeros}
 use Rattle.monitor_spec.specs.Fold.{through}
 use Rattle.monitor_spec.specs.State.{Monitor, Outcome, areasMeasured, workMeasured}
 use Rattle.monitor_spec.specs.Entering.{Entrance, shut, admits, judging, agreeing, entranceOn, entering, refusing}
@@ -24,7 +25,7 @@ use Rattle.line_spec.specs.Pieces.{throughPieces, piecesOf}
 use Rattle.line_spec.specs.Pieces.Joined.{over-stays, pieces-whole}
 use Rattle.line_spec.specs.Opening.{lent, OpenAnswer, started, refuses, OpenOutcome, openRefused, openInputOf}
 use Rattle.line_spec.specs.Opening.{courseBy, openCourse}
-use Rattle.line_spec.specs.Opening.Laws.{work-measured, zeros-length}
+use Rattle.line_spec.specs.Opening.Laws.{work-measured}
 use Rattle.line_spec.specs.Opening.Front.{open-unfit, open-course, open-began}
 use Rattle.line_spec.specs.Whole.{ResumeOutcome, resumedBy, resumeOf, finished, wholeBy, wholeAfter, wholeOf}
 use Rattle.line_spec.specs.Lent.{lentLine, resumeFirst, frontEvents, nextBy, resumeNext, resumeAll, lentPieces}
@@ -62,7 +63,7 @@ pub fed-work : (l : List ℕ) (m : Monitor) (es w : List ℕ) → length w ≡ 8
     → fed l (feedOf l m es w) ≡ pieceOf (going l m) es
 unfolding pieceOf
 fed-work l m es w e =
-    let z = zeros-length 8192 in
+    let z = length-zeros 8192 in
     feed-same l m es w (zeros 8192) (work-measured w e) (work-measured (zeros 8192) z) (e ∙ sym z)
 
 -- the work area keeps its length
@@ -74,7 +75,7 @@ left-length l m es w = by (entranceOn l m w) refl
     by (shut n p v) e =
         ap (λ (o : Outcome). length (o .work)) (feed-shut l m es w n p v e) ∙ on-length l m w n p v e
     by (admits t) e =
-        ap (λ (o : Outcome). length (o .work)) (feed-admits l m es w t e) ∙ zeros-length (length w)
+        ap (λ (o : Outcome). length (o .work)) (feed-admits l m es w t e) ∙ length-zeros (length w)
 
 resume-work : (l : List ℕ) (m : Monitor) (es w : List ℕ) → resumeOf l m es w .work ≡ feedOf l m es w .work
 unfolding resumeOf resumedBy
@@ -132,7 +133,7 @@ module _ (s l a b w : List ℕ) (fit : lent l a b w ≡ true) where
           → Ready (openCourse (openInputOf s l a b w)) (openInputOf s l a b w .work)
       by (started st count next) e =
           ready (openCourse (openInputOf s l a b w)) (openInputOf s l a b w .work)
-          (ap length (open-began s l a b w st count next e .work) ∙ zeros-length 8192)
+          (ap length (open-began s l a b w st count next e .work) ∙ length-zeros 8192)
       by (refuses n p) e = refuses-ready (openInputOf s l a b w) n p e
 
   first-piece : pieceOf (openCourse (openInputOf s l a b w)) (frontEvents s (openInputOf s l a b w .answer))

@@ -17,6 +17,7 @@ use borrow.Author.Tests.{eq-eqb, eqb-true}
 use Rattle.table.specs.Table.{Table}
 use Rattle.table.specs.Judge.{Judgement, accepted, declined, judgeBytes}
 use Rattle.table.specs.Operations.{zeros}
+use Rattle.table.specs.Operations.Laws.{length-zeros}
 use Rattle.monitor_spec.specs.Valid.Laws.{and-split}
 use Rattle.monitor_spec.specs.State.{State, Answer, given, stopped, Outcome}
 use Rattle.monitor_spec.specs.State as state
@@ -28,7 +29,7 @@ use Rattle.line_spec.specs.Opening.{lentFit, lent, started, refuses, Ope
 use Rattle.line_spec.specs.Opening.{startedOn}
 use Rattle.line_spec.specs.Opening.{openHead, openInputOf, courseBy, openCourse, OpenWay, lengthsWrong, headWrong}
 use Rattle.line_spec.specs.Opening.{tableDeclined, tableAccepted, Began}
-use Rattle.line_spec.specs.Opening.Laws.{fed-fresh, fresh-work, zeros-length, table-accepted, table-declined}
+use Rattle.line_spec.specs.Opening.Laws.{fed-fresh, fresh-work, table-accepted, table-declined}
 
 -- ---- lent lengths
 
@@ -126,7 +127,7 @@ module _ (s l a b w : List ℕ) (fit : lent l a b w ≡ true) where
       let o = freshOn ns a b (zeros 8192) in
       start-course (length ns) next (ns ++ zeros (16384 - length ns)) o (empty-never ns a b (zeros 8192))
       ∙ ap (λ (x : List ℕ). fed x o) (take-append-seam ns (zeros (16384 - length ns)))
-      ∙ fed-fresh ns a b (zeros 8192) (d .area0) (d .area1) (zeros-length 8192)
+      ∙ fed-fresh ns a b (zeros 8192) (d .area0) (d .area1) (length-zeros 8192)
 
   by-way : (o : OpenOutcome) → OpenWay s l a b w o → openCourse o ≡ frontOf s .course
   unfolding openCourse courseBy startedOn frontOf frontHead frontBy
@@ -172,7 +173,7 @@ module _ (s l a b w : List ℕ) (st : State) (count next : ℕ) where
             ∙ head-events s bs es h ∙ ap (λ (x : ℕ). drop x s) (sym n);
         within = omega arith;
         few = let m = length-append ns (zeros (16384 - length ns)) in omega arith;
-        work = fresh-work ns a b (zeros 8192) (d .area0) (d .area1) (zeros-length 8192);
+        work = fresh-work ns a b (zeros 8192) (d .area0) (d .area1) (length-zeros 8192);
       }
 
   pub open-began : openInputOf s l a b w .answer ≡ started st count next

@@ -1,4 +1,5 @@
 -- What Read and Open with an empty list leave of lent buffers of the right lengths, whatever stood in them.
+--     areas-measured                     areas of 4,096 words have a right length
 --     fed-fresh                          Open's course is that of a fresh monitor
 --     fresh-work                         it clears the work area
 --     table-accepted, table-declined     a table's bytes read and started, by the judgement on them
@@ -8,13 +9,14 @@ use native.Mathlib.Omega.{arith}
 use mathlib.Core.Path.{_≡_, refl, ap, ap₂, sym, _∙_}
 use mathlib.Core.Bool.{Bool, true, false, _&&_}
 use mathlib.Core.List.{List, [], _++_}
-use lib.ListN.{length, length-replicate}
+use lib.ListN.{length}
 use lib.Seq.{take-append-seam}
 use lib.Dec.{ltb}
 use borrow.Author.Tests.{eq-eqb}
 use Rattle.table.specs.Table.{Table}
 use Rattle.table.specs.Judge.{Judgement, accepted, declined, judgeList, judgeBytes}
 use Rattle.table.specs.Operations.{zeros, measured, readJudged, readOf}
+use Rattle.table.specs.Operations.Laws.{length-zeros}
 use Rattle.table.specs.Operations as read
 use Rattle.residuals.specs.Residual.{residualsOf}
 use Rattle.residuals.specs.Slots.{slotsOf}
@@ -52,7 +54,7 @@ begun-work t n k = by (ltb n (length (slotsOf (residualsOf t [])))) refl
     by true e = rw (e, begunWith)
     by false e = rw (e, begunWith)
 
-areas-measured : (a b : List ℕ) → length a ≡ 4096 → length b ≡ 4096 → areasMeasured a b ≡ true
+pub areas-measured : (a b : List ℕ) → length a ≡ 4096 → length b ≡ 4096 → areasMeasured a b ≡ true
 unfolding areasMeasured
 areas-measured a b e f = rw (e, f)
 
@@ -88,9 +90,6 @@ module _ (l a b w : List ℕ) (e : length a ≡ 4096) (f : length b ≡ 4096) (g
       by (accepted ns t) j = ap (λ (o : Outcome). o .work) (fresh-accepted ns t j) ∙ begun-work t 256 8192
       by (declined n p) j = ap (λ (o : Outcome). o .work) (fresh-declined n p j) ∙ ap zeros g
 
-pub zeros-length : (n : ℕ) → length (zeros n) ≡ n
-zeros-length n = length-replicate {A = ℕ} n 0
-
 -- nothing of what stood in the areas is left
 pub fed-fresh : (l a b w : List ℕ) → length a ≡ 4096 → length b ≡ 4096 → length w ≡ 8192
     → fed l (freshOn l a b w) ≡ fed l (fresh l)
@@ -98,15 +97,15 @@ unfolding fresh fed fedBy
 fed-fresh l a b w e f g = by (judgeList l) refl
   where
     z : length (zeros 4096) ≡ 4096
-    z = zeros-length 4096
+    z = length-zeros 4096
 
     by : (j : Judgement) → judgeList l ≡ j → fed l (freshOn l a b w) ≡ fed l (fresh l)
     by (accepted ns t) j =
         ap (fed l) (fresh-accepted l a b w e f g ns t j
-        ∙ sym (fresh-accepted l (zeros 4096) (zeros 4096) (zeros 8192) z z (zeros-length 8192) ns t j))
+        ∙ sym (fresh-accepted l (zeros 4096) (zeros 4096) (zeros 8192) z z (length-zeros 8192) ns t j))
     by (declined n p) j =
         ap (fed l) (fresh-declined l a b w e f g n p j)
-        ∙ sym (ap (fed l) (fresh-declined l (zeros 4096) (zeros 4096) (zeros 8192) z z (zeros-length 8192) n p j))
+        ∙ sym (ap (fed l) (fresh-declined l (zeros 4096) (zeros 4096) (zeros 8192) z z (length-zeros 8192) n p j))
 
 -- ---- Read
 

@@ -19,7 +19,7 @@ use Rattle.lot_book.specs.Lot.{LotScan, lot, unread, readLot}
 use Rattle.lot_book.specs.Lot.Scans.{lot-extent}
 use Rattle.lot_book.specs.Book.{sound, Book, lots, bad, add, step, unlessNone, readBook, bookFrom}
 use Rattle.lot_book.specs.Book.{totalOf, Added}
-use Rattle.lot_book.specs.Book.Sound.{Sound, sound-out}
+use Rattle.lot_book.specs.Book.Sound.{GoodRecord, sound-out}
 
 -- ---- readBook, for any count of records that is enough
 same-rest : (s : List ℕ) (floor i : ℕ) (f g : ℕ → List ℕ → Book) (x : LotScan) → readLot s ≡ x
@@ -142,7 +142,7 @@ added-again t n e sum f = let o = over-total sum (sym e ∙ f) in sym (total-ove
 pub record First (floor i : ℕ) (r : Lot) (s : List ℕ) (rs : List Lot) : Type 0 where
   pub rest : List Lot
   pub whole : rs ≡ r ∷ rest
-  pub good : Sound floor r
+  pub good : GoodRecord floor r
   pub next : bookFrom (r .number + 1) (i + 1) s ≡ lots rest
 
 first-of : (floor i : ℕ) (r : Lot) (s : List ℕ) (rs : List Lot) (b : Book) → bookFrom (r .number + 1) (i + 1) s ≡ b

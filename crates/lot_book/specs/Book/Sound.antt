@@ -1,6 +1,6 @@
 -- The tests of `sound`, in the order of the code, and as facts.
 --     sound-low to sound-running      one law for each way out of the function `sound`
---     Sound, sound-out, sound-in      what it tests, as facts
+--     GoodRecord, sound-out, sound-in      what it tests, as facts
 -- Assumes nothing.
 use Prim.Native.Nat.{ℕ, _≤_, _<_}
 use native.Mathlib.Omega.{arith}
@@ -52,7 +52,7 @@ module _ (floor : ℕ) (r : Lot) where
                 simp (le-leb _ _ a, lt-ltb _ _ b, le-leb _ _ d, le-leb _ _ e, lt-ltb _ _ f, le-ltb _ _ h)
 
 -- ---- what it tests
-pub record Sound (floor : ℕ) (r : Lot) : Type 0 where
+pub record GoodRecord (floor : ℕ) (r : Lot) : Type 0 where
   pub above : floor ≤ r .number
   pub lot-fits : r .number < 10000000000
   pub marked : r .mark ≤ 1
@@ -69,7 +69,7 @@ six a b c d e f h =
     let y = both d (e && f) (x .1) in
     (v .0, (w .0, (x .0, (y .0, both e f (y .1)))))
 
-pub sound-out : (floor : ℕ) (r : Lot) → sound floor r ≡ true → Sound floor r
+pub sound-out : (floor : ℕ) (r : Lot) → sound floor r ≡ true → GoodRecord floor r
 unfolding sound
 sound-out floor r e =
     let h = six (leb floor (r .number)) (ltb (r .number) 10000000000) (leb (r .mark) 1) (leb (r .place) (r .taken))
@@ -87,7 +87,7 @@ sound-out floor r e =
     unmarked (inl h) z = let l : 0 < r .mark = ltb→lt 0 (r .mark) h in absurd (omega arith)
     unmarked (inr h) z = eqb→eq (r .place) 0 h
 
-pub sound-in : (floor : ℕ) (r : Lot) → Sound floor r → sound floor r ≡ true
+pub sound-in : (floor : ℕ) (r : Lot) → GoodRecord floor r → sound floor r ≡ true
 sound-in floor r h = by (decLt 0 (r .mark))
   where
     by : Dec (0 < r .mark) → sound floor r ≡ true

@@ -7,21 +7,17 @@
 -- Assumes nothing.
 use Prim.Native.Nat.{ℕ, zero, suc, _+_, _-_, _*_, _≤_, _<_}
 use native.Mathlib.Omega.{arith}
-use native.Mathlib.Numerals.{add-one}
 use mathlib.Core.Path.{_≡_, refl, sym, _∙_, subst}
-use mathlib.Core.List.{List, _∷_}
+use mathlib.Core.List.{List}
 use lib.ListN.{length, getD, drop, drop-of-length-le}
-use lib.Seq.{drop-cons}
 use borrow.Author.Tests.{le-ltb, lt-ltb, le-leb, lt-leb, eq-eqb, ne-eqb}
 use Rattle.numbers.specs.Number.{Scan, value, truncated, malformed, carry, later, scanWith, limitOf}
 use Rattle.numbers.specs.Number.Groups.{limit-zero, limit-suc, limit-some}
 use Rattle.numbers.specs.Number.Extent.{Found, ReadsAt, scan-at}
+use Rattle.numbers.specs.Position.Reads.{drop-head}
 use Rattle.lot_book.specs.declared.number.Number.{Number}
 use Rattle.lot_book.specs.declared.number.Number.the-variants.{Value, Unread}
-use Rattle.lot_book.specs.Number.{scanNumber, found, numberAt, groupsAt, Small, Grouped}
-
-drop-head : (s : List ℕ) (at : ℕ) → at < length s → drop at s ≡ getD s at 0 ∷ drop (at + 1) s
-drop-head s at h = rw (add-one, drop-cons s at 0) refl
+use Rattle.lot_book.specs.Number.{scanNumber, numberFound, numberAt, groupsAt, Small, Grouped}
 
 value-path : (v w p q : ℕ) → v ≡ w → p ≡ q → Value v p ≡ Value w q
 value-path v w p q e f = cc
@@ -51,19 +47,19 @@ after : ℕ → Number → Number
 after low (Value v q) = Value (low + v * 128) q
 after low Unread = Unread
 
-found-carry : (at low : ℕ) (x : Scan) → found at (carry low x) ≡ after low (found (at + 1) x)
-unfolding found carry after
+found-carry : (at low : ℕ) (x : Scan) → numberFound at (carry low x) ≡ after low (numberFound (at + 1) x)
+unfolding numberFound carry after
 found-carry at low (value v n rest) = value-path _ _ _ _ refl (omega arith)
 found-carry at low truncated = refl
 found-carry at low malformed = refl
 
 module _ (s : List ℕ) (at : ℕ) where
   pub cut : (k : ℕ) → length s ≤ at → Grouped k s at Unread
-  unfolding groupsAt later found
+  unfolding groupsAt later numberFound
   cut k h = record { answer = rw (drop-of-length-le s h) refl; small = tt }
 
   zero-at : (k : ℕ) → at < length s → getD s at 0 ≡ 0 → Unread ≡ groupsAt k s at
-  unfolding groupsAt later found
+  unfolding groupsAt later numberFound
   zero-at zero h z = rw (drop-head s at h) (simp (eq-eqb _ _ z))
   zero-at (suc k) h z = rw (drop-head s at h) (simp (eq-eqb _ _ z))
 
@@ -72,7 +68,7 @@ module _ (s : List ℕ) (at : ℕ) where
 
   -- the tenth byte
   large-at : at < length s → 1 < getD s at 0 → Unread ≡ groupsAt 0 s at
-  unfolding groupsAt later found
+  unfolding groupsAt later numberFound
   large-at h l =
       let nz : (getD s at 0 ≡ 0 → ⊥) = λ e. omega arith in
       rw (drop-head s at h) (simp (ne-eqb _ _ nz, lt-leb _ _ l))
@@ -81,7 +77,7 @@ module _ (s : List ℕ) (at : ℕ) where
   large k z h l = rw z (record { answer = large-at h l; small = tt })
 
   last-at : at < length s → (getD s at 0 ≡ 0 → ⊥) → getD s at 0 ≤ 1 → Value (getD s at 0) (at + 1) ≡ groupsAt 0 s at
-  unfolding groupsAt later found
+  unfolding groupsAt later numberFound
   last-at h nz l = rw (drop-head s at h) (simp (ne-eqb _ _ nz, le-leb _ _ l))
 
   pub last : (k b : ℕ) → k ≡ 0 → b ≡ getD s at 0 → at < length s → (b ≡ 0 → ⊥) → b ≤ 1
@@ -91,7 +87,7 @@ module _ (s : List ℕ) (at : ℕ) where
 
   short-at : (k : ℕ) → at < length s → (getD s at 0 ≡ 0 → ⊥) → getD s at 0 < 128
       → Value (getD s at 0) (at + 1) ≡ groupsAt (suc k) s at
-  unfolding groupsAt later found
+  unfolding groupsAt later numberFound
   short-at k h nz l = rw (drop-head s at h) (simp (ne-eqb _ _ nz, lt-ltb _ _ l))
 
   short-of : (k j b : ℕ) → k ≡ suc j → b ≡ getD s at 0 → at < length s → (b ≡ 0 → ⊥) → b < 128
@@ -141,11 +137,11 @@ module _ (s : List ℕ) (at : ℕ) where
 
   -- ---- the equations of numberAt
   pub none : length s ≤ at → Unread ≡ numberAt s at
-  unfolding numberAt scanWith found
+  unfolding numberAt scanWith numberFound
   none h = rw (drop-of-length-le s h) refl
 
   pub one : (a : ℕ) → a ≡ getD s at 0 → at < length s → a < 128 → Value a (at + 1) ≡ numberAt s at
-  unfolding numberAt scanWith found
+  unfolding numberAt scanWith numberFound
   one a e h l = rw (drop-head s at h, ← e) (simp (lt-ltb _ _ l))
 
   long : at < length s → 128 ≤ getD s at 0 → numberAt s at ≡ after (getD s at 0 - 128) (groupsAt 8 s (at + 1))
@@ -163,8 +159,8 @@ module _ (s : List ℕ) (at : ℕ) where
   broken x h l f g = sym (long h l ∙ rw (← (g .answer), f) refl)
 
 -- ---- for callers
-value-found : (at v q : ℕ) (x : Scan) → Value v q ≡ found at x → Found at v q x
-unfolding found
+value-found : (at v q : ℕ) (x : Scan) → Value v q ≡ numberFound at x → Found at v q x
+unfolding numberFound
 value-found at v q (value w n rest) e = record { n = n; rest = rest; scan = cc; next = cc }
 value-found at v q truncated e = let z : _≡_ {A = ℕ} 0 1 = cc in absurd (omega arith)
 value-found at v q malformed e = let z : _≡_ {A = ℕ} 0 1 = cc in absurd (omega arith)
@@ -178,8 +174,8 @@ pub data NoNumber : Scan → Type 0 where
   cut-short : NoNumber truncated
   ill-written : NoNumber malformed
 
-unread-found : (at : ℕ) (x : Scan) → Unread ≡ found at x → NoNumber x
-unfolding found
+unread-found : (at : ℕ) (x : Scan) → Unread ≡ numberFound at x → NoNumber x
+unfolding numberFound
 unread-found at (value w n rest) e = let z : _≡_ {A = ℕ} 0 1 = cc in absurd (omega arith)
 unread-found at truncated e = cut-short
 unread-found at malformed e = ill-written

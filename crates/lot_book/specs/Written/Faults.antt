@@ -19,7 +19,7 @@ use Rattle.lot_book.specs.Lot.{LotScan, lot, unread, readLot, lotBytes}
 use Rattle.lot_book.specs.Lot.Scans.{LotLost, lost-number, lost-taken, lost-mark, lost-place, lot-lost, lost-lot}
 use Rattle.lot_book.specs.Lot.Scans.{lot-extent}
 use Rattle.lot_book.specs.Book.{sound, Book, lots, bad, add, bookFrom, bookOf}
-use Rattle.lot_book.specs.Book.Sound.{Sound, sound-out}
+use Rattle.lot_book.specs.Book.Sound.{GoodRecord, sound-out}
 use Rattle.lot_book.specs.Book.Laws.{book-none, book-more, book-unsound, book-unread}
 use Rattle.lot_book.specs.Written.{bookBytes, NoNumberIn, NoLot, no-lot, no-taken, no-mark, no-place}
 use Rattle.lot_book.specs.Written.{Fault, unreadable, wrong, BadAt}
@@ -116,7 +116,7 @@ add-bad r (lots rs) j e = let z : _≡_ {A = ℕ} 0 1 = cc in absurd (omega arit
 add-bad r (bad i) j e = e
 
 one-more : (floor i : ℕ) (s : List ℕ) (j : ℕ) (r : Lot) (t : List ℕ) → s ≡ lotBytes r ++ t
-    → Sound floor r → r .taken < 2 ^ 64 → BadFrom (r .number + 1) (i + 1) t j → BadFrom floor i s j
+    → GoodRecord floor r → r .taken < 2 ^ 64 → BadFrom (r .number + 1) (i + 1) t j → BadFrom floor i s j
 unfolding bookBytes
 one-more floor i s j r t e h l b =
     let c = b .counted in

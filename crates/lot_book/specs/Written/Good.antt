@@ -9,22 +9,22 @@ use mathlib.Core.Logic.{_⊎_, inl, inr}
 use mathlib.Core.List.{List, [], _∷_}
 use Rattle.numbers.specs.Every.{All}
 use Rattle.lot_book.specs.declared.entry.Lot.{Lot}
-use Rattle.lot_book.specs.Book.Sound.{Sound}
+use Rattle.lot_book.specs.Book.Sound.{GoodRecord}
 use Rattle.lot_book.specs.Written.{GoodLot, Ascending, GoodBook, InRange}
 
 -- ---- a good book whose lots are `floor` or more, each above the one before it
 abbrev pub GoodFrom : ℕ → List Lot → Type 0
 GoodFrom floor [] = Unit
-GoodFrom floor (r ∷ rs) = (Sound floor r × (r .taken < 2 ^ 64)) × GoodFrom (r .number + 1) rs
+GoodFrom floor (r ∷ rs) = (GoodRecord floor r × (r .taken < 2 ^ 64)) × GoodFrom (r .number + 1) rs
 
-pub good-range : (floor : ℕ) (r : Lot) → Sound floor r → r .taken < 2 ^ 64 → InRange r
+pub good-range : (floor : ℕ) (r : Lot) → GoodRecord floor r → r .taken < 2 ^ 64 → InRange r
 good-range floor r h t =
     let a = h .lot-fits in
     let b = h .marked in
     let c = h .reached in
     record { number = omega arith; taken = t; mark = omega arith; place = omega arith }
 
-good-sound : (floor : ℕ) (r : Lot) → GoodLot r → floor ≤ r .number → Sound floor r
+good-sound : (floor : ℕ) (r : Lot) → GoodLot r → floor ≤ r .number → GoodRecord floor r
 good-sound floor r g h =
     record {
       above = h;
@@ -39,7 +39,7 @@ good-sound floor r g h =
     by (inl e) = omega arith
     by (inr e) = omega arith
 
-sound-good : (floor : ℕ) (r : Lot) → Sound floor r → r .taken < 2 ^ 64 → GoodLot r
+sound-good : (floor : ℕ) (r : Lot) → GoodRecord floor r → r .taken < 2 ^ 64 → GoodLot r
 sound-good floor r h t =
     record {
       lot-fits = h .lot-fits;

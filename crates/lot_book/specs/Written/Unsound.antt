@@ -11,7 +11,7 @@ use mathlib.Core.List.{List, [], _∷_, _++_}
 use lib.ListN.{length}
 use Rattle.lot_book.specs.declared.entry.Lot.{Lot}
 use Rattle.lot_book.specs.Book.{sound}
-use Rattle.lot_book.specs.Book.Sound.{Sound, sound-out, sound-in}
+use Rattle.lot_book.specs.Book.Sound.{GoodRecord, sound-out, sound-in}
 use Rattle.lot_book.specs.Written.{Wrong, not-ascending, other-mark, above-taken, not-zero, wide-lot, wide-place}
 
 abbrev pub floorAfter : ℕ → List Lot → ℕ
@@ -56,7 +56,7 @@ wrong-in before r (wide-lot h) s = omega (arith, sound-out (floorAfter 0 before)
 wrong-in before r (wide-place h) s = omega (arith, sound-out (floorAfter 0 before) r s .place-fits)
 
 module _ (before : List Lot) (r : Lot) (s : sound (floorAfter 0 before) r ≡ false) where
-  all-hold : Sound (floorAfter 0 before) r → Wrong before r
+  all-hold : GoodRecord (floorAfter 0 before) r → Wrong before r
   all-hold h =
       let e = sym s ∙ sound-in (floorAfter 0 before) r h in
       let z : _≡_ {A = Bool} false true = e in

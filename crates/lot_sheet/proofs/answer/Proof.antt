@@ -2,7 +2,7 @@
 use Prim.Native.Nat.{ℕ}
 use mathlib.Core.Path.{sym, _∙_}
 use lib.ListN.{length-replicate}
-use Rattle.lot_sheet.specs.Told.Laws.{tell-fits}
+use Rattle.lot_sheet.specs.Reply.Laws.{tell-fits}
 use borrow.Author.Needs.{needs}
 use Rattle.lot_sheet.proofs.answer.Statement.{statement}
 use Rattle.lot_sheet.proofs.answer.Tie as tie

@@ -37,7 +37,7 @@ use Rattle.meaning.specs.ClosedResiduals.{pairs, resolveWith, resolveCal
 use Rattle.meaning.specs.ClosedResiduals.{residuals}
 use Rattle.meaning.specs.ClosedResidualsHold.{residuals-hold}
 use Rattle.meaning.specs.Doom.{onlyFail}
-use Rattle.meaning.specs.Examples.{tableOf, Row, Meant, EachMeant, no-row, one-row, tableB, rows}
+use Rattle.meaning.specs.Examples.{tableOf, Row, Meant, EachMeant, no-row, one-row, abstractB, rows}
 
 abbrev nonempty : List F.Term → Bool
 nonempty [] = false
@@ -91,9 +91,9 @@ each-meant (r ∷ rs) j e =
 
 -- the tables of the rows, 01's bytes of table B, and the table of one definition, FAIL
 all-judged : (map judged rows ≡ map taken rows)
-    × (judgeBytes InBytes.tableB ≡ accepted (numbersOf tableB) tableB)
+    × (judgeBytes InBytes.tableB ≡ accepted (numbersOf abstractB) abstractB)
     × (judgeList (numbersOf onlyFail) ≡ accepted (numbersOf onlyFail) onlyFail)
-unfolding tableOf tableB onlyFail judgeBytes judgeList judge judgeRead sized listBytes bytesOf groups unlessMet placed
+unfolding tableOf abstractB onlyFail judgeBytes judgeList judge judgeRead sized listBytes bytesOf groups unlessMet placed
     placeOf trailing byteTokens byteTokensWith byteToken readNumber scanWith listTokens table number andThen next pure
     times events row setOfKind eventSet eventSets kindFits rowCount rowsOf rowsFit refOfKind setRef termOfKind termWith
     definition definitionsOf size numbersOf rowNumbers setNumbers refNumbers termNumbers definitionNumbers flatMap
@@ -103,14 +103,14 @@ unfolding tableOf tableB onlyFail judgeBytes judgeList judge judgeRead sized lis
 all-judged = (refl, refl, refl)
 
 rows-left : map left rows ≡ map (λ r. r .held) rows
-unfolding tableOf tableB bodyCount body bodyOf plain plainRef member rowIn elem sub subSet subArg
+unfolding tableOf abstractB bodyCount body bodyOf plain plainRef member rowIn elem sub subSet subArg
     residuals run afterEvent resolveClosed resolveCall resolveWith pairs flatMap
 rows-left = refl
 
 pub rows-meant : EachMeant rows
 rows-meant = each-meant rows (all-judged .0) rows-left
 
-pub table-b-read : judgeBytes InBytes.tableB ≡ accepted (numbersOf tableB) tableB
+pub table-b-read : judgeBytes InBytes.tableB ≡ accepted (numbersOf abstractB) abstractB
 table-b-read = all-judged .1
 
 pub only-fail-rules : Rules onlyFail

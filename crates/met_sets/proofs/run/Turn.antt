@@ -14,16 +14,16 @@ use Rattle.state.specs.Record.Laws.{succeeding-counts}
 use Rattle.met_sets.specs.declared.run.Followed.{Followed}
 use Rattle.met_sets.specs.Sets.{countAt}
 use Rattle.met_sets.specs.Sets.Laws.{shape-stands}
-use Rattle.met_sets.specs.Runs.{Within, FollowedBy}
+use Rattle.met_sets.specs.Runs.{KeptSet, FollowedBy}
 use Rattle.met_sets.specs.Runs.Laws.{follows-next}
 
 abbrev pub at : State → ℕ → ℕ → Followed
 at s n i = record { state = s; set = n; place = i }
 
 module _ (A : ℕ) (starts next es : List ℕ) where
-  module _ (n e r : ℕ) (w : Within A starts next n) (h : e < A) (known : r ≡ getD next (n * A + e) 0)
+  module _ (n e r : ℕ) (w : KeptSet A starts next n) (h : e < A) (known : r ≡ getD next (n * A + e) 0)
       (some : 0 < r) where
-    pub within-next : Within A starts next (r - 1)
+    pub within-next : KeptSet A starts next (r - 1)
     within-next =
         let y = w .shape .known n e (w .inside) h in
         record { sets = w .sets; count = w .count; shape = w .shape; inside = omega arith }

@@ -26,7 +26,7 @@ use Rattle.monitor_spec.specs.Expected.Laid.{monitor-path, laid-lengths}
 use Rattle.monitor_spec.specs.Consistent.Reading.{length-chunks}
 use Rattle.state.specs.declared.record.State.{State}
 use Rattle.state.specs.Record.{stateOf, monitorOf}
-use Rattle.step_laws.specs.Holds.{AreaHolds}
+use Rattle.monitor_spec.specs.Holds.{AreaHolds}
 use Rattle.met_sets.specs.declared.pick.Pick.{Pick}
 use Rattle.met_sets.specs.declared.pick.Pick.the-variants.{Set, Full}
 use Rattle.met_sets.specs.Sets.{countAt, slotsAt, Shape, SetStands, Met, KeptBy}

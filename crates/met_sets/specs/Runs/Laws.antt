@@ -40,7 +40,7 @@ use Rattle.state.specs.declared.record.State.{State}
 use Rattle.state.specs.Record.{stateOf, monitorOf}
 use Rattle.met_sets.specs.Sets.{countAt, slotsAt, SetStands, Leads, Met}
 use Rattle.met_sets.specs.Sets.Laws.{shape-stands}
-use Rattle.met_sets.specs.Runs.{Reached, monitorAt, Follows, Within, Picked}
+use Rattle.met_sets.specs.Runs.{Reached, monitorAt, SetReached, KeptSet, Picked}
 
 -- ---- by events
 
@@ -75,7 +75,7 @@ went-known t m m' e h = by (decLt e (t .alphabet))
 
 module _ {t : Table} {cap k : ℕ} {sets starts next : List ℕ} (met : Met t cap k sets starts next) (n : ℕ)
     (h : n < k) where
-  pub within-met : Within (t .alphabet) starts next n
+  pub within-met : KeptSet (t .alphabet) starts next n
   within-met = record { sets = sets; count = k; shape = met .shape; inside = h }
 
   pub stands-met : SetStands sets starts n
@@ -103,7 +103,7 @@ slots-present cap s ss h e =
 
 module _ {t : Table} (regular : Regular t) {cap k : ℕ} {sets starts next : List ℕ}
     (met : Met t cap k sets starts next) {es : List ℕ} {m : Monitor} {i : ℕ} {s : State} {n j : ℕ}
-    (f : Follows t cap k sets starts es m i s n j) where
+    (f : SetReached t cap k sets starts es m i s n j) where
   abbrev rs : List Residual
   rs = f .reached .laid .residuals
 
@@ -169,7 +169,7 @@ module _ {t : Table} (regular : Regular t) {cap k : ℕ} {sets starts next : Lis
         )
 
     pub follows-next : (s' : State) → stateOf s' ≡ stateAfter (stateOf s) (countAt starts l) → j < length es
-        → getD es j 0 ≡ e → Follows t cap k sets starts es m i s' l (j + 1)
+        → getD es j 0 ≡ e → SetReached t cap k sets starts es m i s' l (j + 1)
     unfolding stateAfter holding
     follows-next s' q b u =
         record {
@@ -213,7 +213,7 @@ module _ {t : Table} (regular : Regular t) {cap k : ℕ} {sets starts next : Lis
 pub picked-follows : {t : Table} {cap k : ℕ} {sets starts es : List ℕ} {m : Monitor} {i : ℕ} {s : State} {a b : List ℕ}
     {j n k' : ℕ} {sets' starts' next' a' b' : List ℕ} → Reached t cap m es i (monitorOf s a b) j
     → Picked t cap k sets starts (monitorOf s a b) n k' sets' starts' next' a' b'
-    → Follows t cap k' sets' starts' es m i s n j
+    → SetReached t cap k' sets' starts' es m i s n j
 picked-follows {t} {cap} {k} {sets} {starts} {es} {m} {i} {s} {a} {b} {j} r p =
     record {
       inside = p .inside;

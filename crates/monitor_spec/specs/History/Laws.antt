@@ -14,7 +14,7 @@ use Rattle.residuals.specs.Residual.{residualsOf}
 use Rattle.monitor_spec.specs.Fold.{Ended, through, took, restarts, joins}
 use Rattle.monitor_spec.specs.Fold.Laws.{through-went, through-stops, took-went, took-stops, restarts-join}
 use Rattle.table.specs.Judge.{accepted, judgeList}
-use Rattle.monitor_spec.specs.State.{Monitor, Answer, given, stopped, Outcome, areasMeasured, workMeasured}
+use Rattle.monitor_spec.specs.State.{Monitor, Answer, given, stopped, areasMeasured, workMeasured}
 use Rattle.monitor_spec.specs.Consistent.{consistent}
 use Rattle.monitor_spec.specs.Entering.{refusing}
 use Rattle.monitor_spec.specs.Entering.Laws.{entrance-unmeasured, entrance-accepted, on-shut, on-consistent}
@@ -25,7 +25,7 @@ use Rattle.monitor_spec.specs.State.Areas.{both-true}
 use Rattle.monitor_spec.specs.Expected.{recordOf, monitorAfter}
 use Rattle.monitor_spec.specs.Expected.Laid.{laid-lengths, laid-consistent}
 use Rattle.monitor_spec.specs.Expected.Steps.{Fed, fed-sensible, take-went, take-stops, fed-next}
-use Rattle.monitor_spec.specs.History.{standing, callOn, history}
+use Rattle.monitor_spec.specs.History.{standing, afterwards, callOn, history}
 
 -- the events that a call looks at
 pub eventsOf : Call → List ℕ
@@ -40,10 +40,6 @@ extend-false : (t : Table) (n : ℕ) (s : List ℕ) (e : ℕ) (es : List ℕ) �
     → extend t n s (e ∷ es) ≡ extend t n (s ++ e ∷ []) es
 unfolding extend
 extend-false t n s e es h = rw (h, extend)
-
--- what the next call gets
-unfoldable pub afterwards : Monitor → Outcome → Monitor
-afterwards m o = record { state = standing (m .state) (o .answer); area0 = o .area0; area1 = o .area1 }
 
 pub after-ending : (m : Monitor) (k : ℕ) (x : Ended Monitor) → afterwards m (endingOf k x) ≡ x .at
 unfolding afterwards endingOf standing

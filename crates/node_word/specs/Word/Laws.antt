@@ -1,5 +1,5 @@
 -- Laws of node words.
---     events-fit                                   128 events have room
+--     events-fit                                   the events of every alphabet have room
 --     term-pack, memory-pack                       a word gives back its term and its memory
 --     word-pack                                    and is packed of them
 --     words-fit                                    words of terms below 1,024 have room in 64 bits
@@ -13,9 +13,10 @@ use native.Mathlib.Nat.{div-div-eq-div-mul}
 use mathlib.Core.Path.{_≡_, refl, ap, sym, _∙_}
 use lib.Bits.{bitAnd, and-mask}
 use Rattle.table.specs.Memory.{Memory, noMemory, digit, remember}
+use Rattle.table.specs.Rows.{alphabetMost}
 use Rattle.node_word.specs.Word.{digitBits, digitBound, memoryBound, pack, termOfWord, memoryOf, Digits}
 
-pub events-fit : 128 ≤ digitBound
+pub events-fit : alphabetMost ≤ digitBound
 unfolding digitBound digitBits
 events-fit = omega arith
 

@@ -2,6 +2,7 @@
 --     cut1, cut2, cut3        the bytes end before the first, second and third
 --     one, two, three         a number of so many bytes
 --     loose2, loose3, large3  a second or third byte of 0; a third above 3
+--     drop-head               the bytes from a position on: the one there, and those after it
 -- Not here: what callers need, `Position/Laws.antt`. Assumes nothing.
 use Prim.Native.Nat.{ℕ, _+_, _-_, _*_, _≤_, _<_}
 use native.Mathlib.Omega.{arith}
@@ -15,7 +16,7 @@ use Rattle.numbers.specs.declared.Reading.the-variants.{Value, Truncated
 use Rattle.numbers.specs.Number.{carry, later, scanWith, readNumber}
 use Rattle.numbers.specs.Position.{found, readAt}
 
-drop-head : (s : List ℕ) (at : ℕ) → at < length s → drop at s ≡ getD s at 0 ∷ drop (at + 1) s
+pub drop-head : (s : List ℕ) (at : ℕ) → at < length s → drop at s ≡ getD s at 0 ∷ drop (at + 1) s
 drop-head s at h = rw (add-one, drop-cons s at 0) refl
 
 value-path : (v w p q : ℕ) → v ≡ w → p ≡ q → Value v p ≡ Value w q

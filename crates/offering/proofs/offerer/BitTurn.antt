@@ -16,8 +16,8 @@ use Rattle.tree_ways.specs.declared.takes.Tree.{Tree}
 use Rattle.tree_ways.specs.Takes.{Takes}
 use Rattle.residuals.specs.Residual.{Residual, leaf, after, afterAll}
 use Rattle.monitor_spec.specs.Offer.{bitOf}
-use Rattle.step_laws.specs.Holds.{AreaHolds, heldIn}
-use Rattle.step_laws.specs.Holds.Laws.{length-held, holds-takes}
+use Rattle.monitor_spec.specs.Holds.{AreaHolds, heldIn}
+use Rattle.step_laws.specs.HeldAreas.{length-held, holds-takes}
 
 none-first : (l m : List Residual) → ltb 0 (length l) ≡ false → bitOf 0 m ≡ bitOf 0 (l ++ m)
 none-first [] m h = refl

@@ -16,8 +16,8 @@ use Rattle.monitor_spec.specs.Feed.{presentSlots}
 use Rattle.monitor_spec.specs.Offer.{allBits, offerBits}
 use Rattle.state.specs.Record.{verdictOf, monitorOf}
 use Rattle.state.specs.Answers.{bitsOf}
-use Rattle.step_laws.specs.Holds.{AreaHolds, heldIn}
-use Rattle.step_laws.specs.Holds.Laws.{present-holds}
+use Rattle.monitor_spec.specs.Holds.{AreaHolds, heldIn}
+use Rattle.step_laws.specs.HeldAreas.{present-holds}
 
 module _ (t : Table) (s : State) (a b : List ℕ) where
   abbrev Bits : EventBits → Type 0

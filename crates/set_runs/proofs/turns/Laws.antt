@@ -16,7 +16,7 @@ use Rattle.state.specs.declared.answer.Answer.{Answer}
 use Rattle.state.specs.Record.{monitorOf}
 use Rattle.met_sets.specs.declared.run.Followed.{Followed}
 use Rattle.met_sets.specs.Sets.{countAt, SetStands}
-use Rattle.met_sets.specs.Runs.{Follows, Within, FollowedBy, LaidBy}
+use Rattle.met_sets.specs.Runs.{SetReached, KeptSet, FollowedBy, LaidBy}
 use Rattle.met_sets.specs.Runs.Laws.{within-met, stands-met}
 use Rattle.met_sets.specs.Runs.Areas.{zeroed-room}
 use Rattle.taking.specs.declared.run.Run.{Run}
@@ -32,11 +32,11 @@ use Rattle.set_runs.specs.Turns.{Goes, TurnBy, GoesBy, Since}
 
 module _ {t : Table} (regular : Regular t) {m : Monitor} {es : List ℕ} {i k : ℕ} {sets starts next : List ℕ} {s : State}
     {n j : ℕ} {a b : List ℕ} (h : Going t m es i k sets starts next s n j a b) {A : ℕ} (ea : A ≡ t .alphabet) where
-  pub going-within : Within A starts next n
-  going-within = subst (λ (x : ℕ). Within x starts next n) (sym ea) (within-met (h .met) n (h .follows .inside))
+  pub going-within : KeptSet A starts next n
+  going-within = subst (λ (x : ℕ). KeptSet x starts next n) (sym ea) (within-met (h .met) n (h .follows .inside))
 
   module _ {to : ℕ} {r : Followed} (f : FollowedBy A starts next es s n j to r) where
-    on : Follows t (h .cap) k sets starts es m i (r .state) (r .set) (r .place)
+    on : SetReached t (h .cap) k sets starts es m i (r .state) (r .set) (r .place)
     on = f .follows t regular (sym ea) (h .cap) k sets (h .met) m i (h .follows)
 
     pub going-stands : SetStands sets starts (r .set)

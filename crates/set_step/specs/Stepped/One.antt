@@ -40,7 +40,7 @@ use Rattle.tree_ways.specs.Only.Pair.{became}
 use Rattle.tree_moves.specs.Moving.{StepsMoves, steppedMoves}
 use Rattle.tree_ways.specs.Members.{short-of, same-after}
 use Rattle.leaf_memo.specs.Memo.Laws.{memo-behind}
-use Rattle.leaf_results.specs.Prepared.{Sound, Fills}
+use Rattle.leaf_results.specs.Prepared.{Loaded, Fills}
 use Rattle.leaf_memo.specs.Below.{nodes-same, window-of-prefix}
 use Rattle.leaf_repeats.specs.Looking.{Looks}
 use Rattle.set_step.specs.Stepped.{slotNodes, StepsOne, steppedOne, SteppedOne}
@@ -190,7 +190,7 @@ module _ {t : Table} {bound e : ℕ} {src : List ℕ} {i : ℕ} {store dst : Lis
         let k : nodeCount store₁ + 1 - 1 ≡ getD src (i * 16) 0 = omega (arith, count-is) in
         rw k (window-of-prefix 16 store₁ src (i * 16) 1 (getD src (i * 16) 0) (loaded .0) (omega arith))
 
-    pub loaded-sound : Sound t bound e store₁
+    pub loaded-sound : Loaded t bound e store₁
     loaded-sound = record {
       size = size ∙ s .leaves .size;
       memo = memo-behind t 16 store store₁ (loaded .1) (omega arith) (s .leaves .memo);

@@ -1,6 +1,6 @@
 -- The outcomes of a sheet, by cases: one law for each way out of `sheet`.
 --     sheet-bad, sheet-over, sheet-short, sheet-given       the outcomes
---     judged-bad, judged-over, judged-within                what `judge` says of a book
+--     judged-bad, judged-lots                               what `judge` says of a book
 -- Assumes nothing.
 use Prim.Native.Nat.{ℕ, _+_, _/_, _≤_, _<_}
 use native.Mathlib.Omega.{arith}

@@ -22,8 +22,8 @@ use Rattle.residuals.specs.Slots.{slotsOf}
 use Rattle.monitor_spec.specs.State.{fill}
 use Rattle.step_laws.specs.Asks.{step-source}
 use Rattle.step_laws.specs.Outcomes.{step-holds, step-exceeds, definition-holds, definition-exceeds}
-use Rattle.step_laws.specs.Holds.{AreaHolds, heldIn}
-use Rattle.step_laws.specs.Holds.Laws.{after-held}
+use Rattle.monitor_spec.specs.Holds.{AreaHolds, heldIn}
+use Rattle.step_laws.specs.HeldAreas.{after-held}
 use Rattle.step_laws.specs.Filled.{Filled}
 
 -- an outcome o that holds the slots ss where they have room

@@ -27,6 +27,7 @@ use Rattle.table.specs.References.{firstWrong}
 use Rattle.table.specs.Width.{tooWide}
 use Rattle.table.specs.Branches.{tooManyBranches}
 use Rattle.table.specs.Judge.{declined, judgeBytes}
+use Rattle.table.specs.Judge.Laws.{unless-met-in, placed-none}
 use Rattle.table.specs.Marks.{Open}
 use Rattle.table.specs.Refusals.{links, narrowLevels, fewTerms}
 use Rattle.table.specs.Refusals.Laws.{wrong-first, width-first, branches-first}
@@ -37,7 +38,6 @@ use Rattle.table.specs.BytesRefused.{bytePlace, Decoded, RefusedBytes, l
 use Rattle.table.specs.BytesRefused.{off-bytes}
 use Rattle.table.specs.BytesRefused.{over-number, over-bytes, wrong-bytes, wide-bytes, branches-bytes}
 use Rattle.table.specs.BytesRefused.Stream.{Ends, short, loose, Stream, decode, end-none}
-use Rattle.table.specs.BytesRefused.Laws.{unmet, placed-none}
 use Rattle.table.specs.BytesRefused.Given.{ends, whole-in, refused-bytes-in}
 
 module _ (s : List ℕ) (n at : ℕ) (said : judgeBytes s ≡ declined n at) (w₀ : Bytes s) where
@@ -65,8 +65,8 @@ module _ (s : List ℕ) (n at : ℕ) (said : judgeBytes s ≡ declined n at) (w�
       (w : ns ≡ numbersOf t) where
     by-branches : firstWrong t ≡ none → tooWide t ≡ none → (o : Option ℕ) → tooManyBranches t ≡ o → RefusedBytes s n at
     by-branches a b none c =
-        let e = whole-in s ns [] d w₀ fits t f w ∙ unmet 6 _ _ (end-none _ _ (ends s ns [] d w₀ fits))
-        ∙ unmet 7 _ _ (placed-none _ _ a) ∙ unmet 8 _ _ b ∙ unmet 9 _ _ c in
+        let e = whole-in s ns [] d w₀ fits t f w ∙ unless-met-in 6 _ _ (end-none _ _ (ends s ns [] d w₀ fits))
+        ∙ unless-met-in 7 _ _ (placed-none _ _ a) ∙ unless-met-in 8 _ _ b ∙ unless-met-in 9 _ _ c in
         let q = sym said ∙ e in
         let z : _≡_ {A = ℕ} 0 1 = cc in
         absurd (omega arith)

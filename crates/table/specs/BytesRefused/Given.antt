@@ -28,6 +28,7 @@ use Rattle.table.specs.References.{firstWrong}
 use Rattle.table.specs.Width.{tooWide}
 use Rattle.table.specs.Branches.{tooManyBranches}
 use Rattle.table.specs.Judge.{accepted, declined, unlessMet, placed, judge, judgeBytes}
+use Rattle.table.specs.Judge.Laws.{unless-met-in, placed-none}
 use Rattle.table.specs.Marks.{Open}
 use Rattle.table.specs.Refusals.{links, narrowLevels, fewTerms, OutOfRange, TrailingInput}
 use Rattle.table.specs.Refusals.Laws.{length-links, wrong-first, width-first, branches-first}
@@ -39,7 +40,7 @@ use Rattle.table.specs.BytesRefused.{over-number, over-bytes, wrong-byte
 use Rattle.table.specs.BytesRefused.Stream.{bytePlaces, values-bytes, Ends, short, loose, Shown, shown}
 use Rattle.table.specs.BytesRefused.Stream.{place-bytes, end-none, end-some}
 use Rattle.table.specs.BytesRefused.Laws.{ends-end, place-after, stream-cut, stream-off, stream-got}
-use Rattle.table.specs.BytesRefused.Laws.{judge-no, judge-got, met, unmet, placed-some, placed-none}
+use Rattle.table.specs.BytesRefused.Laws.{judge-no, judge-got, met, placed-some}
 
 trailing-token : (v at : ℕ) (ts : Tokens) → trailing (token v at ts) ≡ some at
 unfolding trailing
@@ -186,20 +187,20 @@ refused-bytes-in s n at w₀ (wrong-bytes ns i e l d o p) =
     let b = place-bytes 0 ns (seen s ns [] d w₀ l .E) i (omega arith) in
     let z : placeOf (prepend (bytePlaces 0 ns) (seen s ns [] d w₀ l .E)) i ≡ bytePlace ns i = omega arith in
     rw (e, p)
-    (whole-in s ns [] d w₀ l t (o .fields) w ∙ unmet 6 _ _ (end-none _ _ (ends s ns [] d w₀ l))
+    (whole-in s ns [] d w₀ l t (o .fields) w ∙ unless-met-in 6 _ _ (end-none _ _ (ends s ns [] d w₀ l))
     ∙ met 7 _ _ _ (placed-some _ _ i f) ∙ ap (λ (c : ℕ). declined 7 c) z)
 refused-bytes-in s n at w₀ (wide-bytes ns e l d o) =
     let t = o .table in
     let f = sym (wrong-first t) ∙ pass-in 0 (links t) (o .linked) in
     let g = sym (width-first t) ∙ first-is ns at (narrowLevels t) (o .wrong) in
-    rw e (whole-in s ns [] d w₀ l t (o .fields) (o .numbers) ∙ unmet 6 _ _ (end-none _ _ (ends s ns [] d w₀ l))
-    ∙ unmet 7 _ _ (placed-none _ _ f) ∙ met 8 _ _ _ g)
+    rw e (whole-in s ns [] d w₀ l t (o .fields) (o .numbers) ∙ unless-met-in 6 _ _ (end-none _ _ (ends s ns [] d w₀ l))
+    ∙ unless-met-in 7 _ _ (placed-none _ _ f) ∙ met 8 _ _ _ g)
 refused-bytes-in s n at w₀ (branches-bytes ns e l d o) =
     let t = o .table in
     let f = sym (wrong-first t) ∙ pass-in 0 (links t) (o .linked) in
     let g = sym (width-first t) ∙ pass-in 0 (narrowLevels t) (o .narrow) in
     let h = sym (branches-first t) ∙ first-is ns at (fewTerms t) (o .wrong) in
     rw e
-    (whole-in s ns [] d w₀ l t (o .fields) (o .numbers) ∙ unmet 6 _ _ (end-none _ _ (ends s ns [] d w₀ l))
-    ∙ unmet 7 _ _ (placed-none _ _ f) ∙ unmet 8 _ _ g
+    (whole-in s ns [] d w₀ l t (o .fields) (o .numbers) ∙ unless-met-in 6 _ _ (end-none _ _ (ends s ns [] d w₀ l))
+    ∙ unless-met-in 7 _ _ (placed-none _ _ f) ∙ unless-met-in 8 _ _ g
     ∙ met 9 _ _ _ h)

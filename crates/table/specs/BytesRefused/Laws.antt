@@ -8,7 +8,7 @@ use native.Mathlib.Omega.{arith}
 use mathlib.Core.Path.{_≡_, refl, sym, ap, _∙_, subst}
 use mathlib.Core.Bool.{Bool, false}
 use mathlib.Core.List.{List, [], _∷_, _++_, append-nil}
-use mathlib.Core.Option.{Option, none, some}
+use mathlib.Core.Option.{Option, some}
 use lib.ListN.{length}
 use Rattle.table.specs.Table.{Table}
 use Rattle.table.specs.Tokens.{Tokens, token, ended, broken, listTokens, trailing, placeOf}
@@ -175,14 +175,6 @@ pub met : (n at : ℕ) (o : Option ℕ) (j : Judgement) → o ≡ some at → un
 unfolding unlessMet
 met n at o j e = rw e refl
 
-pub unmet : (n : ℕ) (o : Option ℕ) (j : Judgement) → o ≡ none → unlessMet n o j ≡ j
-unfolding unlessMet
-unmet n o j e = rw e refl
-
 pub placed-some : (ts : Tokens) (o : Option ℕ) (i : ℕ) → o ≡ some i → placed ts o ≡ some (placeOf ts i)
 unfolding placed
 placed-some ts o i e = rw e refl
-
-pub placed-none : (ts : Tokens) (o : Option ℕ) → o ≡ none → placed ts o ≡ none
-unfolding placed
-placed-none ts o e = rw e refl

@@ -1,6 +1,6 @@
 -- A list, or bytes, are accepted exactly where they are the writing of a table that keeps the rules, short enough.
---     Accepts, judge-out, judge-in             a stream
---     AcceptedList, list-out, list-in          a number list
+--     Accepts, judge-out, judge-in             a stream;  unless-met-in, placed-none: where a rule is kept
+--     AcceptedList, list-out, list-in          a number list;  list-declined: one that is refused, but not with 2
 --     AcceptedBytes, bytes-out, bytes-in       bytes
 -- Assumes nothing.
 use Prim.Native.Nat.{ℕ, _+_, _≤_}
@@ -38,7 +38,7 @@ unfolding unlessMet
 unless-met-out n none j ns t h = (refl, h)
 unless-met-out n (some at) j ns t h = let z : _≡_ {A = ℕ} 0 1 = cc in absurd (omega arith)
 
-unless-met-in : (n : ℕ) (o : Option ℕ) (j : Judgement) → o ≡ none → unlessMet n o j ≡ j
+pub unless-met-in : (n : ℕ) (o : Option ℕ) (j : Judgement) → o ≡ none → unlessMet n o j ≡ j
 unfolding unlessMet
 unless-met-in n o j e = rw e refl
 
@@ -81,7 +81,7 @@ pub judge-out : (ts : Tokens) (ns : List ℕ) (t : Table) → judge ts ≡ accep
 unfolding judge
 judge-out ts ns t h = read-out ts (table ts) ns t refl h
 
-placed-none : (ts : Tokens) (o : Option ℕ) → o ≡ none → placed ts o ≡ none
+pub placed-none : (ts : Tokens) (o : Option ℕ) → o ≡ none → placed ts o ≡ none
 unfolding placed
 placed-none ts o e = rw e refl
 
@@ -135,6 +135,11 @@ list-in l ns t a =
     let e : ltb 16384 (length (listBytes l)) ≡ false = le-ltb _ _ short' in
     let n : numbersOf t ≡ ns = sym (a .numbers ∙ w) in
     rw (j, e, n) refl
+
+-- a refusal other than 2
+pub list-declined : (l : List ℕ) (n at : ℕ) → judge (listTokens 0 l) ≡ declined n at → judgeList l ≡ declined n at
+unfolding judgeList sized
+list-declined l n at e = rw e refl
 
 -- ---- bytes
 pub record AcceptedBytes (s ns : List ℕ) (t : Table) : Type 0 where

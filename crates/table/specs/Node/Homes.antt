@@ -1,4 +1,4 @@
--- Which node stands where over definitions: what `nodesFrom` lists, as a relation to go by (ours).
+-- Which node stands where over definitions: what `definitionNodes` lists, as a relation to go by (ours).
 --     NodeStands                     x is the node of number n over definitions
 --     stands-in, stands-out          it is the list's element
 --     node-stands                    its term stands there, under its prefixes
@@ -19,7 +19,7 @@ use Rattle.table.specs.Branches.{bodyIn}
 use Rattle.table.specs.Stands.{Stands, body-stands, follower-stands, choice-left-stands, choice-right-stands}
 use Rattle.table.specs.Stands.{par-left-stands, par-right-stands}
 use Rattle.table.specs.Stands.Laws.{renumber, later-stands}
-use Rattle.table.specs.Node.{Node, node, nodesFrom, noNode, bodySpot}
+use Rattle.table.specs.Node.{Node, node, definitionNodes, noNode, bodySpot}
 use Rattle.table.specs.Node.Parts.{Part, here, follower, choice-left, choice-right, par-left, par-right}
 use Rattle.table.specs.Node.Parts.{length-nodes, left-at, right-at, part-fits, part-below, part-trans, part-in}
 use Rattle.table.specs.Node.Parts.{part-out, part-own}
@@ -32,8 +32,8 @@ pub data NodeStands : ℕ → ℕ → List Definition → ℕ → ℕ → Node �
       → NodeStands (suc own) (i + length (definitionNumbers d)) ds h n x
       → NodeStands own i (d ∷ ds) (suc h) (size (d .body) + n) x
 
-pub length-nodesFrom : (own i : ℕ) (ds : List Definition) → length (nodesFrom own i ds) ≡ sizes ds
-unfolding nodesFrom sizes
+pub length-nodesFrom : (own i : ℕ) (ds : List Definition) → length (definitionNodes own i ds) ≡ sizes ds
+unfolding definitionNodes sizes
 length-nodesFrom own i [] = refl
 length-nodesFrom own i (d ∷ ds) =
     let a = length-nodes (bodySpot own) (suc i) (d .body) in
@@ -43,13 +43,13 @@ length-nodesFrom own i (d ∷ ds) =
 -- ---- over definitions
 
 pub stands-in : {own i h n : ℕ} {ds : List Definition} {x : Node} → NodeStands own i ds h n x
-    → getD (nodesFrom own i ds) n noNode ≡ x
-unfolding nodesFrom
+    → getD (definitionNodes own i ds) n noNode ≡ x
+unfolding definitionNodes
 stands-in (first {own = own} {i = i} {n = n} {d = d} {ds = ds} y) =
-    let more = nodesFrom (suc own) (i + length (definitionNumbers d)) ds in
+    let more = definitionNodes (suc own) (i + length (definitionNumbers d)) ds in
     left-at (bodySpot own) (suc i) (d .body) more n (part-below y) ∙ part-in y
 stands-in (later {own = own} {i = i} {n = n} {d = d} {ds = ds} y) =
-    let more = nodesFrom (suc own) (i + length (definitionNumbers d)) ds in
+    let more = definitionNodes (suc own) (i + length (definitionNumbers d)) ds in
     right-at (bodySpot own) (suc i) (d .body) more n ∙ stands-in y
 
 pub stands-at : {own i h n m : ℕ} {ds : List Definition} {x : Node} → n ≡ m → NodeStands own i ds h n x
@@ -107,13 +107,13 @@ pub stands-own : {own i h n : ℕ} {ds : List Definition} {x : Node} → NodeSta
 stands-own (first y) = omega (arith, part-own y)
 stands-own (later y) = omega (arith, stands-own y)
 
-pub record Within (ds : List Definition) (h n m : ℕ) : Type 0 where
+pub record InBody (ds : List Definition) (h n m : ℕ) : Type 0 where
   pub known : h < length ds
   pub from : sizes (take h ds) ≤ n
   pub until : n + m ≤ sizes (take (suc h) ds)
 
 pub stands-within : {own i h n : ℕ} {ds : List Definition} {x : Node} → NodeStands own i ds h n x
-    → Within ds h n (size (x .term))
+    → InBody ds h n (size (x .term))
 unfolding sizes
 stands-within (first y) =
     let k = part-fits y in record { known = omega arith; from = omega arith; until = omega arith }
@@ -122,7 +122,7 @@ stands-within (later y) =
     record { known = omega (arith, k .known); from = omega (arith, k .from); until = omega (arith, k .until) }
 
 -- a number is in one definition only
-pub within-one : (ds : List Definition) (d h n : ℕ) → Within ds d n 1 → Within ds h n 1 → d ≡ h
+pub within-one : (ds : List Definition) (d h n : ℕ) → InBody ds d n 1 → InBody ds h n 1 → d ≡ h
 unfolding sizes
 within-one [] d h n a b = absurd (omega (arith, a .known))
 within-one (x ∷ ds) zero zero n a b = refl

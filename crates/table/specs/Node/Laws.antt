@@ -15,18 +15,15 @@ use Rattle.table.specs.Writing.{refNumbers, termNumbers}
 use Rattle.table.specs.Context.{Each}
 use Rattle.table.specs.Fields.{Fields, depthOf}
 use Rattle.table.specs.Branches.{bodyIn}
-use Rattle.table.specs.Node.{Node, node, nodes, nodesOf, nodeAt, termOf, definitionsAt}
+use Rattle.table.specs.Node.{Node, node, nodesOf, nodeAt, termOf, definitionsAt}
 use Rattle.table.specs.Node.{bodySpot, followerSpot, sideSpot, besideSpot}
 use Rattle.table.specs.Node.Parts.{Part, here, follower, choice-left, choice-right, par-left, par-right}
 use Rattle.table.specs.Node.Parts.{size-positive, depth-positive, Flags, part-flags, part-depth, part-each}
-use Rattle.table.specs.Node.Parts as parts
+pub use Rattle.table.specs.Node.Parts.{length-nodes}
 use Rattle.table.specs.Node.Homes.{NodeStands, length-nodesFrom, stands-in, stands-out}
 use Rattle.table.specs.Node.Homes.{stands-at, stands-part, stands-fits}
 use Rattle.table.specs.Node.Homes.{stands-own, stands-within, within-one, stands-home}
 use Rattle.table.specs.Node.Homes.{sizes-next, sizes-inside, stands-body}
-
-pub length-nodes : (s : Spot) (i : ℕ) (p : Term) → length (nodes s i p) ≡ size p
-length-nodes s i p = parts.length-nodes s i p
 
 pub length-nodesOf : (t : Table) → length (nodesOf t) ≡ termCount t
 unfolding nodesOf termCount

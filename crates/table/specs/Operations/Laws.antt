@@ -2,14 +2,15 @@
 --     read-done, write-done              what a count says of the input
 --     read-accepted, write-accepted      the whole outcome where the input is accepted and the lengths are right
 --     writes-back, reads-back            the round trips
+--     length-zeros                       the length of so many zeros
 --     read-fills                         Read's output keeps its length
 -- Assumes nothing.
-use Prim.Native.Nat.{ℕ, zero, suc, _+_, _-_, _≤_}
+use Prim.Native.Nat.{ℕ, _+_, _-_, _≤_}
 use native.Mathlib.Omega.{arith}
 use mathlib.Core.Path.{_≡_, refl, sym, ap, _∙_, subst}
 use mathlib.Core.Bool.{Bool, true, false, cond, _&&_}
 use mathlib.Core.List.{List, [], _∷_, _++_}
-use lib.ListN.{length, take, drop, length-append}
+use lib.ListN.{length, take, drop, length-append, length-replicate}
 use lib.Seq.{take-append-seam}
 use lib.Dec.{eqb, leb}
 use borrow.Author.Tests.{eq-eqb, eqb-true, le-leb}
@@ -163,9 +164,8 @@ reads-back l out work n h out' work' o m =
     rw (d .front, x) refl
 
 -- ---- lengths
-length-zeros : (n : ℕ) → length (zeros n) ≡ n
-length-zeros zero = refl
-length-zeros (suc n) = ap suc (length-zeros n)
+pub length-zeros : (n : ℕ) → length (zeros n) ≡ n
+length-zeros n = length-replicate {A = ℕ} n 0
 
 numbers-shorter : (ns : List ℕ) → length ns ≤ length (listBytes ns)
 unfolding listBytes

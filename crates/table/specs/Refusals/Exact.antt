@@ -27,7 +27,7 @@ use Rattle.table.specs.Fields.Laws.{fields-in, fields-out}
 use Rattle.table.specs.Writing.{numbersOf}
 use Rattle.table.specs.Judge.{Judgement, accepted, declined, unlessMet, placed, judgeRead, judge, sized}
 use Rattle.table.specs.Judge.{judgeList}
-use Rattle.table.specs.Judge.Laws.{judge-out, judge-in}
+use Rattle.table.specs.Judge.Laws.{judge-out, judge-in, list-declined}
 use Rattle.table.specs.Refusals.{links, narrowLevels, fewTerms, TrailingInput, BadReference, TooWide}
 use Rattle.table.specs.Refusals.{TooManyBranches, TooLong}
 use Rattle.table.specs.Refusals.Laws.{length-links, wrong-first, width-first, branches-first}
@@ -171,10 +171,6 @@ module _ (l : List ℕ) where
   unfolding judgeList judge judgeRead sized
   read-no n at e = rw e refl
 
-  judge-no : (n at : ℕ) → judge ts ≡ declined n at → judgeList l ≡ declined n at
-  unfolding judgeList sized
-  judge-no n at e = rw e refl
-
   read-part : (t : Table) (more : List ℕ) → Fields t → l ≡ numbersOf t ++ more
       → table ts ≡ got t (listTokens (0 + length (numbersOf t)) more)
   read-part t more f w =
@@ -239,8 +235,8 @@ module _ (l : List ℕ) where
 
   pub declined-in : (n at : ℕ) → Declined l n at → judgeList l ≡ declined n at
   declined-in n at (unread e) = read-no n at e
-  declined-in n at (trails e h) = rw e (judge-no 6 at (over-in at h))
-  declined-in n at (unlinked e h) = rw e (judge-no 7 at (wrong-in at h))
-  declined-in n at (broad e h) = rw e (judge-no 8 at (wide-in at h))
-  declined-in n at (branching e h) = rw e (judge-no 9 at (many-in at h))
+  declined-in n at (trails e h) = rw e (list-declined l 6 at (over-in at h))
+  declined-in n at (unlinked e h) = rw e (list-declined l 7 at (wrong-in at h))
+  declined-in n at (broad e h) = rw e (list-declined l 8 at (wide-in at h))
+  declined-in n at (branching e h) = rw e (list-declined l 9 at (many-in at h))
   declined-in n at (long e h) = rw e (long-in at h)

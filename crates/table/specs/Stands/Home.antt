@@ -10,13 +10,13 @@ use Rattle.table.specs.Table.{Term, size, Definition}
 use Rattle.table.specs.Table.Laws.{size-positive}
 use Rattle.table.specs.Stands.{Stands, body-stands, follower-stands, choice-left-stands, choice-right-stands}
 use Rattle.table.specs.Stands.{par-left-stands, par-right-stands}
-use Rattle.table.specs.Node.Homes.{Within, within-one, sizes-next}
+use Rattle.table.specs.Node.Homes.{InBody, within-one, sizes-next}
 
 -- a part of a term within a definition is within it too
-part-within : {ds : List Definition} {h n k m j : ℕ} → Within ds h n k → n ≤ m → m + j ≤ n + k → Within ds h m j
+part-within : {ds : List Definition} {h n k m j : ℕ} → InBody ds h n k → n ≤ m → m + j ≤ n + k → InBody ds h m j
 part-within w a b = record { known = w .known; from = omega (arith, w .from); until = omega (arith, w .until) }
 
-pub home-within : {ds : List Definition} {h c n : ℕ} {x : Term} → Stands ds h c n x → Within ds h n (size x)
+pub home-within : {ds : List Definition} {h c n : ℕ} {x : Term} → Stands ds h c n x → InBody ds h n (size x)
 unfolding size
 home-within {ds} (body-stands {h = h} l) =
     record { known = l; from = omega arith; until = omega (arith, sizes-next ds h l) }

@@ -20,7 +20,7 @@ use Rattle.table_index.specs.Layout.{branchesDigit}
 use Rattle.table_index.specs.Index.{targetOf}
 use Rattle.table_index.specs.Index.Laws.{WordDigits, digits}
 use Rattle.table_index.specs.Filling.{BranchesKnown, prefixesAt, BranchesAsked, BranchesGiven}
-use Rattle.table_index.specs.Filling.Kinds.{kind-at, kind-small, size-some}
+use Rattle.table_index.specs.Filling.Kinds.{kind-at, kind-most, size-some}
 use Rattle.table_index.specs.Filling.Kinds.{stop-is, fail-is, prefix-is, choice-is, par-is, call-is}
 use Rattle.table_index.specs.Filling.Spans.{body-inside, calls-below}
 
@@ -169,7 +169,7 @@ module _ (t : Table) (w : List ℕ) (n : ℕ) (a : BranchesAsked t w n) where
   pub branches-none : ((kindDigit Word ≡ 0) ⊎ (kindDigit Word ≡ 2) → ⊥) → (kindDigit Word ≡ 1 → ⊥)
       → (kindDigit Word ≡ 3 → ⊥) → (kindDigit Word ≡ 4 → ⊥) → (kindDigit Word ≡ 5 → ⊥) → ⊥
   branches-none h x y z u =
-      let k = kind-small (termOf t n) in
+      let k = kind-most (termOf t n) in
       let d = D .kind in
       let a : (kindDigit Word ≡ 0 → ⊥) = λ e. h (inl e) in
       let b : (kindDigit Word ≡ 2 → ⊥) = λ e. h (inr e) in

@@ -23,7 +23,7 @@ use Rattle.table.specs.Writing.{refNumbers, termNumbers, definitionNumbers}
 use Rattle.table.specs.Branches.{branchesWith, branchesAt, allBranches, branches}
 use Rattle.table.specs.Branches.{followerAbove, bodyAbove, tooManyBranches}
 use Rattle.table.specs.Branches.Capped.{capped}
-use Rattle.table.specs.Node.{Node, node, nodes, nodesFrom, nodesOf, definitionsAt, nodeAt, noNode, termOf}
+use Rattle.table.specs.Node.{Node, node, nodes, definitionNodes, nodesOf, definitionsAt, nodeAt, noNode, termOf}
 use Rattle.table.specs.Node.{bodySpot, followerSpot, sideSpot, besideSpot}
 use Rattle.table.specs.Node.Laws.{length-nodes, length-nodesOf}
 use Rattle.table_index.specs.Layout.{termsAt, termCountAt, entryDigit, branchesDigit}
@@ -103,13 +103,13 @@ module _ (t : Table) where
   first-in-term n s i (call d) = refl
 
   first-in-bodies : (n own i : ℕ) (ds : List Definition)
-      → firstFalse n (Tests (nodesFrom own i ds)) ≡ bodyAbove Calls n ds
-  unfolding firstFalse nodesFrom bodyAbove
+      → firstFalse n (Tests (definitionNodes own i ds)) ≡ bodyAbove Calls n ds
+  unfolding firstFalse definitionNodes bodyAbove
   first-in-bodies n own i [] = refl
   first-in-bodies n own i (d ∷ ds) =
       let j = i + length (definitionNumbers d) in
       let p = d .body in
-      tests-append n (size p) (nodes (bodySpot own) (suc i) p) (nodesFrom (suc own) j ds)
+      tests-append n (size p) (nodes (bodySpot own) (suc i) p) (definitionNodes (suc own) j ds)
       (length-nodes (bodySpot own) (suc i) p)
       ∙ ap₂ orElse (first-in-term n (bodySpot own) (suc i) p) (first-in-bodies (n + size p) (suc own) j ds)
       ∙ orElse-assoc (unless (few t (node (bodySpot own) (suc i) p)) n) (followerAbove Calls n p)

@@ -1,6 +1,6 @@
 -- What a term's kind says of it.
 --     kind-at                                                    the kind of a term, by its word
---     kind-small                                                 a kind is at most 5
+--     kind-most                                                  a kind is at most 5
 --     stop-is, fail-is, prefix-is, choice-is, par-is, call-is    the term of a kind
 --     size-some                                                  a term has one term at least
 -- Assumes nothing.
@@ -20,14 +20,14 @@ pub kind-at : (t : Table) (w : List ℕ) → Fields t → Structured t w → (n 
     → (k : ℕ) → kindDigit (getD w (termsAt + n) 0) ≡ k → kindOf (termOf t n) ≡ k
 kind-at t w f s n h k e = sym (digits t w f s n h .kind) ∙ e
 
-pub kind-small : (p : Term) → kindOf p ≤ 5
+pub kind-most : (p : Term) → kindOf p ≤ 5
 unfolding kindOf
-kind-small stop = omega arith
-kind-small fail = omega arith
-kind-small (prefix r p) = omega arith
-kind-small (choice p q) = omega arith
-kind-small (par r p q) = omega arith
-kind-small (call d) = omega arith
+kind-most stop = omega arith
+kind-most fail = omega arith
+kind-most (prefix r p) = omega arith
+kind-most (choice p q) = omega arith
+kind-most (par r p q) = omega arith
+kind-most (call d) = omega arith
 
 pub stop-is : (p : Term) → kindOf p ≡ 0 → p ≡ stop
 unfolding kindOf

@@ -21,7 +21,7 @@ use Rattle.table_index.specs.Layout.{termsAt, levelsAt, widthsAt, kindDi
 use Rattle.table_index.specs.Index.{targetOf, Structured}
 use Rattle.table_index.specs.Index.Laws.{WordDigits, digits}
 use Rattle.table_index.specs.Filling.{storedCall, WidthAsked, WidthGiven}
-use Rattle.table_index.specs.Filling.Kinds.{kind-at, kind-small, size-some}
+use Rattle.table_index.specs.Filling.Kinds.{kind-at, kind-most, size-some}
 use Rattle.table_index.specs.Filling.Kinds.{stop-is, fail-is, prefix-is, choice-is, par-is, call-is}
 
 -- ---- what a call counts
@@ -174,7 +174,7 @@ module _ (t : Table) (w : List ℕ) (n level : ℕ) (a : WidthAsked t w n level)
       given (call d) r e v' (omega arith)
 
   pub width-none : 6 ≤ kindDigit Word → ⊥
-  width-none h = let k = kind-small (termOf t n) in let d = D .kind in omega arith
+  width-none h = let k = kind-most (termOf t n) in let d = D .kind in omega arith
 
   -- the definition that a call's word names
   pub call-named : kindDigit Word ≡ 5 → targetDigit Word < length (t .definitions)

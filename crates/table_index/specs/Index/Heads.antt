@@ -16,7 +16,7 @@ use Rattle.table.specs.declared.terms.Spot.{Spot}
 use Rattle.table.specs.Table.{fixed, family, Term, stop, fail, prefix, choice, par, call}
 use Rattle.table.specs.Table.{Definition, Table, termCount}
 use Rattle.table.specs.Writing.{refNumbers, termNumbers, definitionNumbers}
-use Rattle.table.specs.Node.{Node, nodes, nodesFrom, nodesOf, nodeAt, termOf, noNode, definitionsAt, kindOf}
+use Rattle.table.specs.Node.{Node, nodes, definitionNodes, nodesOf, nodeAt, termOf, noNode, definitionsAt, kindOf}
 use Rattle.table.specs.Node.{refOf, parameterOf, bodySpot, followerSpot, sideSpot, besideSpot}
 use Rattle.table.specs.Node.Laws.{length-nodesOf}
 
@@ -79,15 +79,15 @@ runs-nodes s i at j (par r p q) e f =
     )
 runs-nodes s i at j (call d) e f = (e, sym f)
 
-runs-from : (own at i : ℕ) (ds : List Definition) → at ≡ i + own → (j : ℕ) × Runs i (nodesFrom own at ds) j
-unfolding nodesFrom definitionNumbers
+runs-from : (own at i : ℕ) (ds : List Definition) → at ≡ i + own → (j : ℕ) × Runs i (definitionNodes own at ds) j
+unfolding definitionNodes definitionNumbers
 runs-from own at i [] e = (i, refl)
 runs-from own at i (d ∷ ds) e =
     let k = i + length (termNumbers (d .body)) in
     let (j, r) = runs-from (suc own) (at + length (definitionNumbers d)) k ds (omega arith) in (
       j,
       runs-append i k j (nodes (bodySpot own) (suc at) (d .body))
-          (nodesFrom (suc own) (at + length (definitionNumbers d)) ds)
+          (definitionNodes (suc own) (at + length (definitionNumbers d)) ds)
           (runs-nodes (bodySpot own) i (suc at) k (d .body) (omega arith) refl) r,
     )
 
@@ -121,7 +121,7 @@ module _ (t : Table) (n : ℕ) (h : n < termCount t) where
   place-is =
       let at = definitionsAt t in
       let (j, r) = runs-from 0 at at (t .definitions) (omega arith) in
-      place-run at j n (nodesFrom 0 at (t .definitions)) r (omega (arith, length-nodesOf t))
+      place-run at j n (definitionNodes 0 at (t .definitions)) r (omega (arith, length-nodesOf t))
 
 -- ---- by what the word says
 

@@ -2,7 +2,7 @@
 -- bytes of the list add (01, "When the monitor declines": "6; 7 from the left; 8; 9", and 2 right after 9).
 --     Broken-out, Nowhere-out      what the code's answer says of a first place
 --     judged-7, judged-8, judged-9, judged-all     everything but 2
---     listed-long, listed-short, listed-stop       with 2
+--     listed-long, listed-short                    with 2
 --     checked-wrong, checked-taken, checked-refused    and with the work area's length, cleared after a refusal
 -- Assumes nothing.
 use Prim.Native.Nat.{ℕ, zero, suc, _+_, _<_, _≤_}
@@ -11,7 +11,6 @@ use mathlib.Core.Path.{_≡_, refl, sym, ap, _∙_, subst}
 use mathlib.Core.List.{List, [], _∷_}
 use mathlib.Core.Option.{Option, none, some}
 use lib.ListN.{length, replicate}
-use lib.Seq.{take-length}
 use borrow.Author.Tests.{le-ltb, lt-ltb}
 use Rattle.numbers.specs.Number.{listBytes}
 use Rattle.table.specs.declared.answer.First.{First}
@@ -34,8 +33,9 @@ use Rattle.table.specs.Judge.{judgeList}
 use Rattle.table.specs.Refusals.{links}
 use Rattle.table.specs.Refusals.Laws.{length-links, wrong-first}
 use Rattle.table.specs.BytesRefused.{bytePlace}
+use Rattle.table.specs.BytesRefused.Listed.{place-all}
 use Rattle.table_index.specs.Index.{Indexed, tableIn}
-use Rattle.table_index.specs.Parse.{Whole}
+use Rattle.table_index.specs.Parse.{Parsed}
 use Rattle.table_index.specs.Judging.{Judging, firstOf, Filled, CheckDone, Checked}
 
 -- ---- the code's answers
@@ -56,7 +56,7 @@ place-list [] at i h = absurd (omega arith)
 place-list (x ∷ l) at zero h = omega arith
 place-list (x ∷ l) at (suc i) h = place-list l (suc at) i (omega arith) ∙ omega arith
 
-module _ (l w : List ℕ) (h : Whole l w) where
+module _ (l w : List ℕ) (h : Parsed l w) where
   sound : TableOk (tableIn l) × Follows (numbersOf (tableIn l)) (listTokens 0 l) (listTokens (length l) [])
   sound = table-ok-sound (listTokens 0 l) (listTokens (length l) []) (tableIn l) (h .parsed)
 
@@ -113,29 +113,21 @@ module _ (l w : List ℕ) (h : Whole l w) where
 
 -- ---- with 2
 
-whole-bytes : (l : List ℕ) → bytePlace l (length l) ≡ length (listBytes l)
-unfolding bytePlace
-whole-bytes l = ap (λ (ns : List ℕ). length (listBytes ns)) (take-length l)
-
 pub listed-long : (l w : List ℕ) → Filled l w → 16384 < bytePlace l (length l) → judgeList l ≡ declined 2 0
 unfolding judgeList sized
 listed-long l w f h =
-    let k : 16384 < length (listBytes l) = omega (arith, whole-bytes l) in rw (f .taken, lt-ltb _ _ k) refl
+    let k : 16384 < length (listBytes l) = omega (arith, place-all l) in rw (f .taken, lt-ltb _ _ k) refl
 
 pub listed-short : (l w : List ℕ) → Filled l w → bytePlace l (length l) ≤ 16384 → Indexed l w
 unfolding judgeList sized
 listed-short l w f h =
-    let k : length (listBytes l) ≤ 16384 = omega (arith, whole-bytes l) in
+    let k : length (listBytes l) ≤ 16384 = omega (arith, place-all l) in
     record {
       taken = rw (f .taken, le-ltb _ _ k) refl;
       structure = f .structure;
       reaches = f .reaches;
       branching = f .branching;
     }
-
-pub listed-stop : (l : List ℕ) (n at : ℕ) → judge (listTokens 0 l) ≡ declined n at → judgeList l ≡ declined n at
-unfolding judgeList sized
-listed-stop l n at e = rw e refl
 
 -- ---- with the work area's length
 

@@ -16,12 +16,12 @@ use Rattle.table.specs.Parser.{got, number}
 use Rattle.table.specs.Grammar.{eventSets, table}
 use Rattle.table.specs.Grammar.Sets.{sets-sound}
 use Rattle.table.specs.Writing.{setNumbers}
-use Rattle.table.specs.Node.{nodesFrom, definitionsAt, nodesOf, nodeAt, noNode}
+use Rattle.table.specs.Node.{definitionNodes, definitionsAt, nodesOf, nodeAt, noNode}
 use Rattle.table_index.specs.Layout.{termsAt, setsAt, bodiesAt, levelsAt, alphabetAt, definitionCountAt, termCountAt}
 use Rattle.table_index.specs.Layout.{startAt, structureOf}
 use Rattle.table_index.specs.Index.{SetsIndexed, Structured, setsIn, tableIn}
 use Rattle.table_index.specs.Index.Sets.{indexed-kept}
-use Rattle.table_index.specs.Parse.{DefinitionsFound, Whole}
+use Rattle.table_index.specs.Parse.{DefinitionsFound, Parsed}
 use Rattle.table_index.specs.Parse.Header.{Header, bodyCountOk, whole, table-in, ended-tokens}
 
 -- the words with one store more each: the number after the last body, the alphabet size, the number of definitions,
@@ -151,11 +151,11 @@ module _ (l w w' : List ℕ) (sets at count m end : ℕ) (h : Header l w sets at
   terms = f .terms
 
   abbrev node-path : ℕ → Type 0
-  node-path n = getD (nodesFrom 0 (at + 1) (f .definitions)) n noNode ≡ nodeAt read n
+  node-path n = getD (definitionNodes 0 (at + 1) (f .definitions)) n noNode ≡ nodeAt read n
 
   node-is : (n : ℕ) → node-path n
   unfolding nodeAt nodesOf
-  node-is n = ap (λ (i : ℕ). getD (nodesFrom 0 i (f .definitions)) n noNode) starts
+  node-is n = ap (λ (i : ℕ). getD (definitionNodes 0 i (f .definitions)) n noNode) starts
 
   root-is : (d : ℕ) → d ≤ length (f .definitions) → Dec (d < count) → getD done (bodiesAt + d) 0 ≡ bodyNumber read d
   unfolding bodyNumber
@@ -190,7 +190,7 @@ module _ (l w w' : List ℕ) (sets at count m end : ℕ) (h : Header l w sets at
       (f .definitions) end (f .parsed)
       ∙ rw (at-end, ended-tokens l, is-read) refl
 
-  pub structured : Whole l done
+  pub structured : Parsed l done
   structured =
       record {
         parsed = parsed-read;

@@ -19,7 +19,7 @@ use Rattle.table.specs.First.{orElse, unless}
 use Rattle.table.specs.First.Laws.{orElse-assoc, orElse-out, unless-out}
 use Rattle.table.specs.Context.{Context, outermost, underPrefix, underParallel}
 use Rattle.table.specs.Writing.{refNumbers, termNumbers, definitionNumbers}
-use Rattle.table.specs.Node.{Node, nodes, nodesFrom, nodesOf, noNode, nodeAt, termOf, refOf, definitionsAt}
+use Rattle.table.specs.Node.{Node, nodes, definitionNodes, nodesOf, noNode, nodeAt, termOf, refOf, definitionsAt}
 use Rattle.table.specs.Node.{bodySpot, followerSpot, sideSpot, besideSpot}
 use Rattle.table.specs.Node.Laws.{length-nodesOf}
 use Rattle.table.specs.References.{levelIn, paramFits, callFits, wrongRef, wrongIn, wrongFrom, firstWrong}
@@ -133,8 +133,8 @@ module _ (ds : List Definition) (level own : ℕ) (lev : levelIn ds own ≡ leve
 -- the definitions `rest` are those from number `own` on
 from-nodes : (ds : List Definition) (own i : ℕ) (rest : List Definition)
     → ((k : ℕ) → k < length rest → levelIn ds (own + k) ≡ levelIn rest k)
-    → wrongFrom ds own i rest ≡ firstOver (wrongAt ds) (nodesFrom own i rest)
-unfolding wrongFrom nodesFrom firstOver levelIn
+    → wrongFrom ds own i rest ≡ firstOver (wrongAt ds) (definitionNodes own i rest)
+unfolding wrongFrom definitionNodes firstOver levelIn
 from-nodes ds own i [] l = refl
 from-nodes ds own i (d ∷ rest) l =
     let z : own + 0 ≡ own = omega arith in
@@ -144,7 +144,7 @@ from-nodes ds own i (d ∷ rest) l =
     = λ k h. let s : suc own + k ≡ own + suc k = omega arith in rw s (l (suc k) (omega arith)) in
     or-same (in-nodes ds (d .level) own e outermost (bodySpot own) (suc i) (d .body) refl refl)
     (from-nodes ds (suc own) j rest next)
-    ∙ sym (over-append (wrongAt ds) (nodes (bodySpot own) (suc i) (d .body)) (nodesFrom (suc own) j rest))
+    ∙ sym (over-append (wrongAt ds) (nodes (bodySpot own) (suc i) (d .body)) (definitionNodes (suc own) j rest))
 
 wrong-nodes : (t : Table) → firstWrong t ≡ firstOver (wrongAt (t .definitions)) (nodesOf t)
 unfolding firstWrong nodesOf definitionsAt

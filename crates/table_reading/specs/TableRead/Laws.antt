@@ -12,6 +12,7 @@ use lib.ListN.{length, take, drop, length-append}
 use lib.Seq.{take-append-seam}
 use Rattle.table.specs.Judge.{Judgement, accepted, declined, judgeBytes}
 use Rattle.table.specs.Operations.{zeros, done, refusal, readJudged, readOf}
+use Rattle.table.specs.Operations.Laws.{length-zeros}
 use Rattle.table.specs.Operations as read
 use Rattle.table.specs.Answers as tableAnswers
 use Rattle.table.specs.declared.answer.Refusal.{Refusal}
@@ -22,7 +23,7 @@ use Rattle.format.specs.declared.answer.Head.the-variants.{Parts, Wrong}
 use Rattle.format.specs.Head.{HeadIs, HeadSaid}
 use Rattle.line_spec.specs.Line.{headOf}
 use Rattle.line_spec.specs.Opening.{lent}
-use Rattle.line_spec.specs.Opening.Laws.{read-right, zeros-length}
+use Rattle.line_spec.specs.Opening.Laws.{read-right}
 use Rattle.line_spec.specs.Opening.Front.{lent-out}
 use Rattle.table_reading.specs.declared.answer.TableRead.{TableRead}
 use Rattle.table_reading.specs.declared.answer.TableRead.the-variants.{Numbers, Refused}
@@ -115,7 +116,7 @@ module _ (s l a b w : List ℕ) (count next : ℕ) (l' w' : List ℕ) (x : Numbe
   pub numbers-lengths : (length a ≡ 4096) × (length b ≡ 4096) × (length w' ≡ 8192)
   numbers-lengths =
       let d = lent-out l a b w (x .fit) in
-      (d .area0, d .area1, ap length (x .work) ∙ zeros-length 8192)
+      (d .area0, d .area1, ap length (x .work) ∙ length-zeros 8192)
 
 module _ (s l a b w : List ℕ) (r : TableRead) (l' w' : List ℕ) (said : TableSaid s l a b w r l' w') where
   pub said-numbers : (count next : ℕ) → r ≡ Numbers count next → NumbersRead s l a b w count next l' w'

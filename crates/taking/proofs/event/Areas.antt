@@ -18,7 +18,7 @@ use Rattle.monitor_spec.specs.Valid.Residuals.{slot-sixteen, slots-all}
 use Rattle.monitor_spec.specs.State.{slotCount, fill}
 use Rattle.slots.specs.Canon.{Sixteen}
 use Rattle.monitor_spec.specs.State.Areas.{slotCount-fill, cleared-fill}
-use Rattle.step_laws.specs.Holds.{heldIn}
+use Rattle.monitor_spec.specs.Holds.{heldIn}
 use Rattle.taking.specs.declared.event.Next.{Next}
 use Rattle.taking.specs.declared.event.Next.the-variants.{Count, Refused}
 use Rattle.taking.specs.Taking.{Empty, NextBy, Holding, Advanced}

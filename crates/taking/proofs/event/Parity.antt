@@ -18,7 +18,7 @@ use Rattle.monitor_spec.specs.Feed.Laws.{metBy}
 use Rattle.monitor_spec.specs.Expected.Laid.{laid-lengths}
 use Rattle.state.specs.declared.record.State.{State}
 use Rattle.state.specs.Record.{stateOf, monitorOf}
-use Rattle.step_laws.specs.Holds.{heldIn}
+use Rattle.monitor_spec.specs.Holds.{heldIn}
 use Rattle.taking.specs.declared.event.Next.{Next}
 use Rattle.taking.specs.declared.event.Next.the-variants.{Count, Refused}
 use Rattle.taking.specs.Taking.{Holding, Standing, Stepped, Advanced, Moved}

@@ -19,7 +19,7 @@ use Rattle.monitor_spec.specs.State.{slotCount, fill}
 use Rattle.slots.specs.Canon.Areas.{length-fill, fill-none}
 use Rattle.monitor_spec.specs.Feed.{counterMost}
 use Rattle.monitor_spec.specs.Feed.Laws.{event-unknown, event-full, event-exceeded, event-passes}
-use Rattle.step_laws.specs.Holds.{AreaHolds, heldIn}
+use Rattle.monitor_spec.specs.Holds.{AreaHolds, heldIn}
 use Rattle.step_laws.specs.Filled.{Filled}
 use Rattle.step_laws.specs.Filled.Laws.{stepped-filled}
 use Rattle.taking.specs.declared.event.Next.the-variants.{Count, Refused}

@@ -3,16 +3,13 @@
 --     taken-went        the event is taken
 -- Assumes nothing.
 use Prim.Native.Nat.{ℕ}
-use native.Mathlib.Omega.{arith}
 use mathlib.Core.Path.{_≡_, ap, sym, _∙_}
 use mathlib.Core.List.{List}
-use mathlib.Core.Option.{Option, none}
 use Rattle.table.specs.Table.{Table}
-use Rattle.residuals.specs.Residual.{Residual}
 use Rattle.monitor_spec.specs.State.{stateAfter, Monitor}
 use Rattle.monitor_spec.specs.Fold.{went}
-use Rattle.monitor_spec.specs.Feed.{counterMost, nextSlots, taking}
-use Rattle.monitor_spec.specs.Feed.Laws.{EventCase, meets, passes, event-case, metBy, take-refused, take-passes}
+use Rattle.monitor_spec.specs.Feed.{nextSlots, taking}
+use Rattle.monitor_spec.specs.Feed.Laws.{event-case, passes-counts, metBy, take-refused, take-passes}
 use Rattle.state.specs.declared.record.State.{State}
 use Rattle.taking.specs.declared.event.Next.{Next}
 use Rattle.taking.specs.declared.event.Next.the-variants.{Count, Refused}
@@ -20,12 +17,6 @@ use Rattle.taking.specs.declared.event.Taken.the-variants.{Went, Stopped
 use Rattle.state.specs.Record.{stateOf, monitorOf, succeeding}
 use Rattle.state.specs.Record.Laws.{succeeding-counts}
 use Rattle.taking.specs.Taking.{AreasFilled, AreasKept, Moved, TakenBy}
-
--- an event that is taken can be counted
-passes-counts : {t : Table} {cap k : ℕ} {rs : List Residual} {e : ℕ} {o : Option ℕ} → EventCase t cap k rs e o
-    → o ≡ none → k ≡ counterMost → ⊥
-passes-counts (meets n x) h = absurd (let z : _≡_ {A = ℕ} 0 1 = cc in omega arith)
-passes-counts (passes a b c) h = b
 
 module _ (t : Table) (e : ℕ) (s : State) (a b : List ℕ) (r : Next) (a' b' : List ℕ)
     (g : Moved t (monitorOf s a b) e r a' b') where

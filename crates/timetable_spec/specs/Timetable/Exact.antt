@@ -1,6 +1,6 @@
 -- `changes` says of a good timetable whether the table in force changes, over every minute between two.
 --     begins-out, begins-in        a window begins within some minutes exactly where one holds a minute within them
---     other-windows                the windows of the table that is not in force
+--     others                       the windows of the table that is not in force
 --     changed-between              between two minutes that differ there is one that differs from the one before it
 --     changes-out, changes-in      the two halves of claim ChangesExactly;  unchanged-same: no change
 --     week-out, week-in            the two halves of claim WeekOrMore

@@ -21,8 +21,7 @@ use Rattle.table.specs.declared.answer.Judged.the-variants.{Accepted, Declined}
 use Rattle.table_index.specs.Index.{tableIn, Indexed}
 use Rattle.slots.specs.declared.slots.Held.the-variants.{Count, Exceeded}
 use Rattle.monitor_spec.specs.Regular.Laws.{regular}
-use Rattle.monitor_spec.specs.State.{freshState, Monitor, areasMeasured, workMeasured, slotCount}
-use Rattle.monitor_spec.specs.Valid.Laws.{and-split}
+use Rattle.monitor_spec.specs.State.{freshState, Monitor, workMeasured, slotCount}
 use Rattle.monitor_spec.specs.Entering.{shut, judging, entrance}
 use Rattle.monitor_spec.specs.Entering.Laws.{shut-same, shut-admits, entrance-judged}
 use Rattle.monitor_spec.specs.Fold.{through}
@@ -40,7 +39,6 @@ use Rattle.entering.specs.Entered.Laws.{entered-shut, entered-open}
 use Rattle.opening.specs.Opening.{Resolved}
 use Rattle.opening.specs.Opening.Laws.{fresh-same}
 use Rattle.line_spec.specs.Opening.{lent}
-use Rattle.line_spec.specs.Opening.Laws.{all-measured, zeros-length}
 use Rattle.table_reading.specs.declared.answer.TableRead.{TableRead}
 use Rattle.table_reading.specs.declared.answer.TableRead.the-variants.{Numbers}
 use Rattle.table_reading.specs.declared.answer.TableRead.the-variants as table
@@ -59,10 +57,6 @@ use Rattle.tracing.specs.Tracing.{Tracing}
 use Rattle.trace.specs.Opening.{Starts, ListOpened, FrontOpened, FrontBy, TraceOpened}
 
 -- ---- a list that is indexed
-
-pub areas-fit : (a b : List ℕ) → length a ≡ 4096 → length b ≡ 4096 → areasMeasured a b ≡ true
-areas-fit a b e f =
-    and-split (areasMeasured a b) (workMeasured (zeros 8192)) (all-measured a b (zeros 8192) e f (zeros-length 8192)) .0
 
 module _ {l w : List ℕ} (x : Indexed l w) (a a' b' : List ℕ) (size : length a ≡ 4096) where
   abbrev t : Table

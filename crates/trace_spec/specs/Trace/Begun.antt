@@ -18,6 +18,7 @@ use Rattle.numbers.specs.Number.{Bytes}
 use Rattle.table.specs.Judge.{Judgement, accepted, declined, judgeBytes, judgeList}
 use Rattle.table.specs.Judge.Laws.{list-in, bytes-out}
 use Rattle.table.specs.Operations.{zeros}
+use Rattle.table.specs.Operations.Laws.{length-zeros}
 use Rattle.monitor_spec.specs.State.{Monitor, Outcome, areasMeasured, workMeasured}
 use Rattle.monitor_spec.specs.Fold.{through}
 use Rattle.monitor_spec.specs.Feed.{endingOf}
@@ -26,7 +27,7 @@ use Rattle.monitor_spec.specs.Open.Laws.{exceededOf, open-exceeded, open-runs}
 use Rattle.monitor_spec.specs.Joined.{residualCount}
 use Rattle.line_spec.specs.Line.{Head, parts, wrong, headOf, fresh, monitorLeft}
 use Rattle.line_spec.specs.Line.Laws.{slots-256}
-use Rattle.line_spec.specs.Opening.Laws.{all-measured, zeros-length}
+use Rattle.line_spec.specs.Opening.Laws.{all-measured}
 use Rattle.trace_spec.specs.Trace.{Beginning, begins, declines, beginOpen, beginList, beginTable, beginHead}
 use Rattle.trace_spec.specs.Trace.{Begins, beginningOf}
 
@@ -45,7 +46,7 @@ pub data BeginWay (s : List ℕ) : Beginning → Type 0 where
 
 pub lent-256 : (areasMeasured (zeros 4096) (zeros 4096) && workMeasured (zeros 8192)) ≡ true
 lent-256 =
-    all-measured (zeros 4096) (zeros 4096) (zeros 8192) (zeros-length 4096) (zeros-length 4096) (zeros-length 8192)
+    all-measured (zeros 4096) (zeros 4096) (zeros 8192) (length-zeros 4096) (length-zeros 4096) (length-zeros 8192)
 
 module _ (ns ks : List ℕ) (t : Table) (says : judgeList ns ≡ accepted ks t) where
   pub fresh-exceeds : 256 < residualCount t [] → fresh ns ≡ exceededOf 256 (length (zeros 8192))

@@ -33,7 +33,7 @@ use Rattle.trace_spec.specs.Reads.{at, reachedBy}
 use Rattle.trace_spec.specs.Reads.Laws.{reached-went, trace-went, trace-stops}
 use Rattle.tracing.specs.declared.answer.TraceLine.the-variants.{Takes, Refuses}
 use Rattle.tracing.specs.Answers.{traceLineSaid}
-use Rattle.tracing.specs.Tracing.{Tracing, TracedOn, StoppedAt}
+use Rattle.tracing.specs.Tracing.{Tracing, TracedOn, RefusedEvent}
 
 module _ (l w : List ℕ) (m : Monitor) (x : Tracing l w m) where
   sound : Regular (tableIn l)
@@ -76,7 +76,7 @@ module _ (l w : List ℕ) (m : Monitor) (x : Tracing l w m) where
     unfolding permittedBy
     traced-went s q bits h = record { takes = went-out s q; permitted = h; tracing = went-tracing s q }
 
-    pub traced-stopped : (k : ℕ) → r ≡ taking.Stopped k → StoppedAt l m e k (m .state .taken) a b
+    pub traced-stopped : (k : ℕ) → r ≡ taking.Stopped k → RefusedEvent l m e k (m .state .taken) a b
     traced-stopped k q =
         let (h, f, g) : TakenBy (tableIn l) m e (taking.Stopped k) a b = rw q at said in
         record { stopped = h; placed = refl; first = f; second = g }
@@ -95,7 +95,7 @@ module _ (s l w : List ℕ) (m : Monitor) (here : reachedBy s ≡ at (tableIn l)
       trace-went s (tableIn l) m here e d (x .takes)
       ∙ ap (λ (y : offer.EventBits). traceOf s ++ takes e (d .state) y ∷ []) (sym (x .permitted))
 
-  pub trace-stop : (number place : ℕ) → StoppedAt l m e number place a b → (rest : List ℕ)
+  pub trace-stop : (number place : ℕ) → RefusedEvent l m e number place a b → (rest : List ℕ)
       → traceOf (s ++ e ∷ rest) ≡ traceOf s ++ traceLineSaid (Refuses number place) ∷ []
   trace-stop number place x rest =
       trace-stops s (tableIn l) m here e number (x .stopped) rest

@@ -1,7 +1,7 @@
 -- What stands before the first event: `schedule`, `enter_wash`, `enter_timed`.
 --     scheduled-bad, scheduled-no, scheduled-yes    16; 10; neither
 --     wash-declined, wash-accepted                  the table for wash hours
---     timed-lent                                    lent lengths
+--     lent-right                                    lent lengths
 --     timed-declined, timed-accepted                the everyday table
 -- Assumes nothing.
 use Prim.Native.Nat.{ℕ}

@@ -1,6 +1,6 @@
 -- An event on one table: `take_on`.
 --     on-first, on-due, on-taken     before the first event; where a start is due; where none is
---     parity-free                    the test of the code says which area is zero
+--     ready-free                     the test of the code says which area is zero
 -- Assumes nothing.
 use Prim.Native.Nat.{ℕ, _%_}
 use mathlib.Core.Path.{_≡_, _∙_}

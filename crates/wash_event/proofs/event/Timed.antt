@@ -25,7 +25,7 @@ use Rattle.wash_spec.specs.Taking.Laws.{take-back}
 use Rattle.wash_state.specs.declared.answer.TimedState.{TimedState}
 use Rattle.wash_state.specs.declared.answer.TimedState.the-variants.{NotStarted, Started}
 use Rattle.wash_state.specs.Answers.{timedStateOf, timedMonitorOf}
-use Rattle.wash_start.specs.Standing.{listAt, TimedStanding, Ready}
+use Rattle.wash_start.specs.Standing.{listAt, TimedStanding, TimedReady}
 use Rattle.wash_start.specs.Standing.Laws.{list-drawing}
 use Rattle.wash_event.specs.Event.{OnReady, AreasOn, OnBy, TimedBy}
 use Rattle.wash_event.proofs.event.Standing.{standing-free, on-standing}
@@ -40,7 +40,7 @@ unfolding clockBack
 in-order s last minute e = ltb-false minute last (or-false-left (ltb minute last) (leb minuteBound minute) e)
 
 module _ (everyday wash windows : List ℕ) (x : TimedState) (minute : ℕ) (a b work : List ℕ)
-    (h : Ready everyday wash windows x a b work) where
+    (h : TimedReady everyday wash windows x a b work) where
   abbrev now : List ℕ
   now = listAt everyday wash windows minute
 

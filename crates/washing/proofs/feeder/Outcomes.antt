@@ -26,7 +26,7 @@ use Rattle.wash_state.specs.declared.answer.TimedState.{TimedState}
 use Rattle.wash_state.specs.declared.answer.TimedAnswer.{TimedAnswer}
 use Rattle.wash_state.specs.declared.answer.TimedAnswer.the-variants.{Refused}
 use Rattle.wash_state.specs.Answers.{timedMonitorOf, timedOutcome}
-use Rattle.wash_start.specs.Standing.{Ready}
+use Rattle.wash_start.specs.Standing.{TimedReady}
 use Rattle.wash_entering.specs.Entering.{TimedEntered}
 use Rattle.washing.specs.Washing.{TimedEndedBy}
 
@@ -48,7 +48,7 @@ module _ (everyday wash windows : List ℕ) (x : TimedState) (a b es ms w : List
         w₁
     opened q = rw q at h
 
-    pub fed-ready : j ≡ Accepted → Ready everyday wash windows x a b w₁
+    pub fed-ready : j ≡ Accepted → TimedReady everyday wash windows x a b w₁
     unfolding TimedEntered
     fed-ready q = opened q .1
 

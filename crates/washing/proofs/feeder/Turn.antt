@@ -28,7 +28,7 @@ use Rattle.wash_state.specs.declared.answer.TimedState.{TimedState}
 use Rattle.wash_state.specs.declared.answer.TimedState.the-variants.{Started}
 use Rattle.wash_state.specs.declared.answer.TimedAnswer.the-variants as answer
 use Rattle.wash_state.specs.Answers.{timedMonitorOf}
-use Rattle.wash_start.specs.Standing.{Ready}
+use Rattle.wash_start.specs.Standing.{TimedReady}
 use Rattle.wash_event.specs.Event.{TimedBy}
 use Rattle.washing.specs.Washing.{TimedEndedBy}
 
@@ -67,10 +67,10 @@ module _ (everyday wash windows : List ℕ) where
 
   -- m is the monitor that the call began with, x, a, b, w what is reached before event i
   pub record Head (m : TimedMonitor) (es ms : List ℕ) (x : TimedState) (a b w : List ℕ) (i : ℕ) : Type 0 where
-    pub ready : Ready everyday wash windows x a b w
+    pub ready : TimedReady everyday wash windows x a b w
     pub rest : folded m 0 (timedPairs es ms) ≡ folded (timedMonitorOf x a b) i (drop i (timedPairs es ms))
 
-  pub head-first : (es ms : List ℕ) (x : TimedState) (a b w : List ℕ) → Ready everyday wash windows x a b w
+  pub head-first : (es ms : List ℕ) (x : TimedState) (a b w : List ℕ) → TimedReady everyday wash windows x a b w
       → Head (timedMonitorOf x a b) es ms x a b w 0
   head-first es ms x a b w h = record { ready = h; rest = refl }
 

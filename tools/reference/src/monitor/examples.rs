@@ -164,7 +164,32 @@ pub fn stress() -> Vec<Example> {
     for i in 0..31 {
         chain += &format!(" 00 {}", chosen(8, &format!("05 {i:02X}")));
     }
+    // P = {0} -> 8 times P: the results of one leaf are all the same
+    let eight_equal = format!("{ONE_SET} 02 00 02 00 05 01 00 {}", chosen(8, "05 00"));
+    // P, Q = {0} -> 6 times P or Q: they are two by turns
+    let by_turns = "03 00 02 00 05 02 00 02 00 05 02 00";
+    let by_turns = format!("{ONE_SET} {by_turns} {}", chosen(6, "03 05 00 05 01"));
+    // {0} -> 16 times the same STOP
+    let one_stop = format!("{ONE_SET} 03 00 00 00 {} 00 02 00 05 01", chosen(16, "05 00"));
+    // P = {0} -> 8 times P beside Q = {1} -> Q, over {}
+    let equal = format!("00 02 00 05 01 00 {}", chosen(8, "05 00"));
+    let beside_loop = format!("{THREE_SETS} 04 {equal} 00 02 01 05 02 01 04 02 05 00 05 02");
+    // the same P beside {0} -> 16 different STOPs, over {}: each event moves one of them
+    let beside_many =
+        format!("{THREE_SETS} 04 {equal} 00 02 00 {} 01 04 02 05 00 05 02", chosen(16, "00"));
     vec![
+        example(&[&eight_equal], &[0, 0, 0], "running 3 1"),
+        example(&[&eight_equal], &[0, 1], "failed 2 2"),
+        lent(1, &[&eight_equal], &[0, 0], "running 2 1"),
+        example(&[&by_turns], &[0, 0, 0], "running 3 2"),
+        lent(1, &[&by_turns], &[], "refused 13 0"),
+        example(&[&one_stop], &[0], "running 1 1"),
+        example(&[&one_stop], &[0, 0], "failed 2 2"),
+        example(&[&beside_loop], &[0, 1, 0, 0], "running 4 1"),
+        example(&[&beside_loop], &[1, 2], "failed 2 2"),
+        example(&[&beside_many], &[0], "running 1 17"),
+        example(&[&beside_many], &[0, 0, 0], "running 3 17"),
+        lent(16, &[&beside_many], &[0], "refused 13 0"),
         example(&[&twice("01")], &[0, 0, 0], "running 3 256"),
         example(&[&twice("01")], &[], "running 0 256"),
         lent(255, &[&twice("01")], &[], "refused 13 0"),

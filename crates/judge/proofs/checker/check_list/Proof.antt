@@ -1,7 +1,8 @@
 -- `judge::checker::check_list` meets its contract: `judge` says all but 2, and the bytes of an accepted list are
 -- counted. Assumes nothing.
 use native.Mathlib.Omega.{arith}
-use Rattle.table_index.specs.Judging.Laws.{listed-long, listed-short, listed-stop}
+use Rattle.table.specs.Judge.Laws.{list-declined}
+use Rattle.table_index.specs.Judging.Laws.{listed-long, listed-short}
 use borrow.Author.Needs.{needs}
 use Rattle.judge.proofs.checker.check_list.Statement.{statement}
 use Rattle.judge.proofs.checker.check_list.Tie as tie
@@ -45,7 +46,7 @@ same-length-3 c = search needs
 returns-3 : tie.Need-returns-3
 returns-3 c =
     let f = rw (c .before .r .given .1) at (c .before .before .before .before .before .judge .ensures) in
-    (listed-stop _ _ _ (f .0), f .1)
+    (list-declined _ _ _ (f .0), f .1)
 
 pub check-list-spec : {M : Type 1} → statement M
 check-list-spec =

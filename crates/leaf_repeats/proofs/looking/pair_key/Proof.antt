@@ -1,5 +1,4 @@
--- `leaf_repeats::looking::pair_key` is safe: the residual fits a slot. Assumes nothing.
-use Rattle.leaf_repeats.specs.Looking.Laws.{key-fits}
+-- `leaf_repeats::looking::pair_key` is safe: a slot has sixteen words. Assumes nothing.
 use borrow.Author.Needs.{needs}
 use Rattle.leaf_repeats.proofs.looking.pair_key.Statement.{statement}
 use Rattle.leaf_repeats.proofs.looking.pair_key.Tie as tie
@@ -14,10 +13,7 @@ slice-aggregate-key-of : tie.Need-slice-aggregate-key-of
 slice-aggregate-key-of c = search needs
 
 key-of-requires : tie.Need-key-of-requires
-key-of-requires c κs =
-    let at-term-into = c .before .before in
-    let asked = at-term-into .before .before .before .before .pre .1 in
-    (search needs, key-fits _ _ _ _ _ _ (asked .0) (at-term-into .term-into .ensures))
+key-of-requires c κs = search needs
 
 returns : tie.Need-returns
 returns c = search needs

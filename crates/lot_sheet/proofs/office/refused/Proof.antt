@@ -1,5 +1,5 @@
 -- `lot_sheet::office::refused` meets its contract, by the refusal's number. Assumes nothing.
-use Rattle.lot_sheet.specs.Told.Laws.{refused-bad, refused-over}
+use Rattle.lot_sheet.specs.Reply.Laws.{refused-bad, refused-over}
 use Rattle.lot_sheet.proofs.office.refused.Statement.{statement}
 use Rattle.lot_sheet.proofs.office.refused.Tie as tie
 

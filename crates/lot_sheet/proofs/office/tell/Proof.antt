@@ -2,7 +2,7 @@
 use native.Mathlib.Omega.{arith}
 use mathlib.Core.Path.{sym, _∙_}
 use lib.Seq.{length-take-le}
-use Rattle.lot_sheet.specs.Told.Laws.{tell-whole, tell-long}
+use Rattle.lot_sheet.specs.Reply.Laws.{tell-whole, tell-long}
 use borrow.Author.Needs.{needs}
 use Rattle.lot_sheet.proofs.office.tell.Statement.{statement}
 use Rattle.lot_sheet.proofs.office.tell.Tie as tie

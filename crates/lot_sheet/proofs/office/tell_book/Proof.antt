@@ -1,5 +1,5 @@
 -- `lot_sheet::office::tell_book` meets its contract, by the answer of the sheet. Assumes nothing.
-use Rattle.lot_sheet.specs.Told.Laws.{told-given, told-refused}
+use Rattle.lot_sheet.specs.Reply.Laws.{told-given, told-refused}
 use borrow.Author.Needs.{needs}
 use Rattle.lot_sheet.proofs.office.tell_book.Statement.{statement}
 use Rattle.lot_sheet.proofs.office.tell_book.Tie as tie

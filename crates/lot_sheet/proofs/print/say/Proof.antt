@@ -1,7 +1,7 @@
 -- `lot_sheet::print::say` is safe: a sheet's bytes stand in the text. Assumes nothing.
 use mathlib.Core.Path.{sym}
 use lib.Seq.{length-take-le}
-use Rattle.lot_sheet.specs.Told.Laws.{fits-sheet}
+use Rattle.lot_sheet.specs.Reply.Laws.{fits-sheet}
 use borrow.Author.Needs.{needs}
 use Rattle.lot_sheet.proofs.print.say.Statement.{statement}
 use Rattle.lot_sheet.proofs.print.say.Tie as tie

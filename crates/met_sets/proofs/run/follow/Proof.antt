@@ -6,7 +6,7 @@ use mathlib.Core.Path.{refl, ap, _∙_}
 use lib.ListN.{getD}
 use Rattle.state.specs.Record.{stateOf, succeeding}
 use Rattle.met_sets.specs.Sets.Laws.{row-fits}
-use Rattle.met_sets.specs.Runs.{Within, FollowedBy}
+use Rattle.met_sets.specs.Runs.{KeptSet, FollowedBy}
 use Rattle.met_sets.proofs.run.Turn.{at as reach, within-next, next-stands, followed-first, followed-next}
 use borrow.Author.Needs.{needs}
 use Rattle.met_sets.proofs.run.follow.Statement.{statement}
@@ -14,7 +14,7 @@ use Rattle.met_sets.proofs.run.follow.Tie as tie
 
 abbrev Inv-loop : tie.InvT-loop
 Inv-loop alphabet starts next events set place to reached₀ at₀ i₀ reached at i =
-    Within alphabet starts next at × (place ≤ i) × (i ≤ to)
+    KeptSet alphabet starts next at × (place ≤ i) × (i ≤ to)
     × FollowedBy alphabet starts next events reached₀ set place to (reach reached at i)
 
 abbrev μ-loop : tie.MeasureT-loop

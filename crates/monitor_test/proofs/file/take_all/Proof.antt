@@ -1,27 +1,55 @@
--- `monitor_test::file::take_all` is safe and ends. The buffers keep their lengths; the measure is the number of turns
--- left. Assumes nothing.
+-- `monitor_test::file::take_all` is safe and ends. The buffers keep their lengths, and the line stands in its own; the
+-- measure is how many lines may be given. Assumes nothing.
 use mathlib.Core.Path.{_≡_}
 use borrow.Author.Needs.{needs}
 use lib.ListN.{length}
+use Rattle.cases.specs.Lines.{InBuffer}
 use Rattle.monitor_test.proofs.file.take_all.Statement.{statement}
 use Rattle.monitor_test.proofs.file.take_all.Tie as tie
 
 abbrev Inv-loop : tie.InvT-loop
-Inv-loop fd buffer₀ list₀ area0₀ area1₀ s₀ turns₀ buffer list area0 area1 s turns =
-    (length buffer ≡ length buffer₀) × (length list ≡ length list₀)
-    × (length area0 ≡ length area0₀) × (length area1 ≡ length area1₀)
+Inv-loop fd path buffer₀ list₀ area0₀ area1₀ r₀ l₀ buffer list area0 area1 r l =
+    (length buffer ≡ length buffer₀) × (length list ≡ length list₀) × (length area0 ≡ length area0₀)
+    × (length area1 ≡ length area1₀) × InBuffer (length buffer) l
 
 abbrev μ-loop : tie.MeasureT-loop
-μ-loop fd buffer₀ list₀ area0₀ area1₀ s₀ turns₀ buffer list area0 area1 s turns = turns
+μ-loop fd path buffer₀ list₀ area0₀ area1₀ r₀ l₀ buffer list area0 area1 r l = l .left
 
 new-requires : tie.Need-new-requires Inv-loop μ-loop
 new-requires c κs = search needs
 
+new-requires-2 : tie.Need-new-requires-2 Inv-loop μ-loop
+new-requires-2 c κs = search needs
+
+first-line-requires : tie.Need-first-line-requires Inv-loop μ-loop
+first-line-requires c κs = search needs
+
 loop-holds : tie.Need-loop-holds Inv-loop μ-loop
 loop-holds c = search needs
 
-turn-requires : tie.Need-turn-requires Inv-loop μ-loop
-turn-requires c κs = search needs
+sub-take-line : tie.Need-sub-take-line Inv-loop μ-loop
+sub-take-line c = search needs
+
+part-take-line-start : tie.Need-part-take-line-start Inv-loop μ-loop
+part-take-line-start c = search needs
+
+part-take-line-end : tie.Need-part-take-line-end Inv-loop μ-loop
+part-take-line-end c = search needs
+
+take-line-requires : tie.Need-take-line-requires Inv-loop μ-loop
+take-line-requires c κs = search needs
+
+next-line-requires : tie.Need-next-line-requires Inv-loop μ-loop
+next-line-requires c κs = search needs
+
+loop-less : tie.Need-loop-less Inv-loop μ-loop
+loop-less c = search needs
+
+loop-again : tie.Need-loop-again Inv-loop μ-loop
+loop-again c = search needs
+
+finish-requires : tie.Need-finish-requires Inv-loop μ-loop
+finish-requires c κs = search needs
 
 same-length : tie.Need-same-length Inv-loop μ-loop
 same-length c = search needs
@@ -38,30 +66,6 @@ same-length-4 c = search needs
 returns : tie.Need-returns Inv-loop μ-loop
 returns c = search needs
 
-sub-turns : tie.Need-sub-turns Inv-loop μ-loop
-sub-turns c = search needs
-
-loop-less : tie.Need-loop-less Inv-loop μ-loop
-loop-less c = search needs
-
-loop-again : tie.Need-loop-again Inv-loop μ-loop
-loop-again c = search needs
-
-same-length-5 : tie.Need-same-length-5 Inv-loop μ-loop
-same-length-5 c = search needs
-
-same-length-6 : tie.Need-same-length-6 Inv-loop μ-loop
-same-length-6 c = search needs
-
-same-length-7 : tie.Need-same-length-7 Inv-loop μ-loop
-same-length-7 c = search needs
-
-same-length-8 : tie.Need-same-length-8 Inv-loop μ-loop
-same-length-8 c = search needs
-
-returns-2 : tie.Need-returns-2 Inv-loop μ-loop
-returns-2 c = search needs
-
 pub take-all-spec : {M : Type 1} → statement M
 take-all-spec =
     tie.close
@@ -69,18 +73,19 @@ take-all-spec =
     Inv-loop
     μ-loop
     new-requires
+    new-requires-2
+    first-line-requires
     loop-holds
-    turn-requires
+    sub-take-line
+    part-take-line-start
+    part-take-line-end
+    take-line-requires
+    next-line-requires
+    loop-less
+    loop-again
+    finish-requires
     same-length
     same-length-2
     same-length-3
     same-length-4
-    returns
-    sub-turns
-    loop-less
-    loop-again
-    same-length-5
-    same-length-6
-    same-length-7
-    same-length-8
-    returns-2)
+    returns)

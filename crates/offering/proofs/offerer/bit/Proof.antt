@@ -7,8 +7,8 @@ use Rattle.table_index.specs.Index.{tableIn}
 use Rattle.index.specs.Facts.{indexed-rules}
 use Rattle.residuals.specs.Residual.{afterAll}
 use Rattle.monitor_spec.specs.Offer.{bitOf}
-use Rattle.step_laws.specs.Holds.{heldIn}
-use Rattle.step_laws.specs.Holds.Laws.{holds-room, holds-tree}
+use Rattle.monitor_spec.specs.Holds.{heldIn}
+use Rattle.step_laws.specs.HeldAreas.{holds-room, holds-tree}
 use Rattle.offering.proofs.offerer.BitTurn.{bitFrom, bit-next, bit-found, bit-done}
 use borrow.Author.Needs.{needs}
 use Rattle.offering.proofs.offerer.bit.Statement.{statement}

@@ -5,7 +5,7 @@ use Prim.Native.Nat.{_≤_}
 use mathlib.Core.Path.{refl}
 use Rattle.table_index.specs.Index.{tableIn}
 use Rattle.index.specs.Facts.{indexed-rules}
-use Rattle.step_laws.specs.Holds.{heldIn}
+use Rattle.monitor_spec.specs.Holds.{heldIn}
 use Rattle.offering.proofs.offerer.BitsTurn.{Split, split-first, split-done, split-next, split-fits}
 use borrow.Author.Needs.{needs}
 use Rattle.offering.proofs.offerer.bits.Statement.{statement}

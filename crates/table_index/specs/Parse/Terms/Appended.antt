@@ -12,7 +12,7 @@ use lib.ListN.{length, take, length-append, List·getD-append}
 use lib.Seq.{getD-at, take-append-le}
 use Rattle.table.specs.Table.{fail, size, Definition, sizes}
 use Rattle.table.specs.Writing.{definitionNumbers}
-use Rattle.table.specs.Node.{Node, nodes, nodesFrom, bodySpot}
+use Rattle.table.specs.Node.{Node, nodes, definitionNodes, bodySpot}
 use Rattle.table.specs.References.{levelIn}
 
 pub sizes-snoc : (ds : List Definition) (v : Definition) → sizes (ds ++ (v ∷ [])) ≡ sizes ds + size (v .body)
@@ -32,10 +32,10 @@ numbers-snoc (d ∷ ds) v =
     omega arith
 
 pub nodes-snoc : (own i : ℕ) (ds : List Definition) (v : Definition)
-    → nodesFrom own i (ds ++ (v ∷ []))
-    ≡ nodesFrom own i ds
+    → definitionNodes own i (ds ++ (v ∷ []))
+    ≡ definitionNodes own i ds
     ++ nodes (bodySpot (own + length ds)) (suc (i + length (flatMap definitionNumbers ds))) (v .body)
-unfolding nodesFrom flatMap
+unfolding definitionNodes flatMap
 nodes-snoc own i [] v =
     let a : own + 0 ≡ own = omega arith in
     let b : i + 0 ≡ i = omega arith in
@@ -49,7 +49,7 @@ nodes-snoc own i (d ∷ ds) v =
     omega (arith, length-append (definitionNumbers d) rest) in
     rw (a, b)
     (ap (λ (l : List Node). one ++ l) (nodes-snoc (suc own) i' ds v)
-    ∙ sym (append-assoc one (nodesFrom (suc own) i' ds)
+    ∙ sym (append-assoc one (definitionNodes (suc own) i' ds)
     (nodes (bodySpot (suc own + length ds)) (suc (i' + length (flatMap definitionNumbers ds))) (v .body))))
 
 pub levels-old : (ds : List Definition) (v : Definition) (k : ℕ) → k < length ds

@@ -17,7 +17,7 @@ use Rattle.table.specs.Parser.Steps.{Reads, none, reads-snoc, Repeats, all-done
 use Rattle.table.specs.Grammar.{definition, definitionsOf}
 use Rattle.table.specs.References.{levelIn}
 use Rattle.table.specs.Writing.{definitionNumbers}
-use Rattle.table.specs.Node.{Node, nodes, nodesFrom, noNode, bodySpot}
+use Rattle.table.specs.Node.{Node, nodes, definitionNodes, noNode, bodySpot}
 use Rattle.table_index.specs.Layout.{termsAt, setsAt, bodiesAt, levelsAt, widthsAt, structureOf}
 use Rattle.table_index.specs.Index.{wordOf, setsIn}
 use Rattle.table_index.specs.Parse.{Refuses, SetsReady, DefinitionsFound}
@@ -41,7 +41,7 @@ pub record Defined (sets : List SetDef) (l : List ℕ) (i : ℕ) (w₀ w : List 
   pub ends : p ≡ i + length (flatMap definitionNumbers definitions)
   pub same : length w ≡ length w₀
   pub words : (k : ℕ) → k < n
-      → structureOf (getD w (termsAt + k) 0) ≡ wordOf sets k (getD (nodesFrom 0 i definitions) k noNode)
+      → structureOf (getD w (termsAt + k) 0) ≡ wordOf sets k (getD (definitionNodes 0 i definitions) k noNode)
   pub roots : (k : ℕ) → k < d → getD w (bodiesAt + k) 0 ≡ sizes (take k definitions)
   pub levels : (k : ℕ) → k < d → getD w (levelsAt + k) 0 ≡ levelIn definitions k
   pub kept : (x : ℕ) → ((termsAt ≤ x) × (x < setsAt) → ⊥) → ((bodiesAt ≤ x) × (x < widthsAt) → ⊥)
@@ -75,34 +75,34 @@ module _ (sets : List SetDef) (l : List ℕ) (i : ℕ) (w₀ : List ℕ) where
     abbrev more : List Definition
     more = old ++ (b .value ∷ [])
 
-    split : nodesFrom 0 i more ≡ nodesFrom 0 i old ++ nodes (bodySpot d) (suc p) (b .value .body)
+    split : definitionNodes 0 i more ≡ definitionNodes 0 i old ++ nodes (bodySpot d) (suc p) (b .value .body)
     split =
         let at' = i + length (flatMap definitionNumbers old) in
         let u = a .counted in
         let c : 0 + length old ≡ d = omega arith in
         nodes-snoc 0 i old (b .value)
-        ∙ ap (λ (k : ℕ). nodesFrom 0 i old ++ nodes (bodySpot k) (suc at') (b .value .body)) c
-        ∙ ap (λ (k : ℕ). nodesFrom 0 i old ++ nodes (bodySpot d) (suc k) (b .value .body)) (sym (a .ends))
+        ∙ ap (λ (k : ℕ). definitionNodes 0 i old ++ nodes (bodySpot k) (suc at') (b .value .body)) c
+        ∙ ap (λ (k : ℕ). definitionNodes 0 i old ++ nodes (bodySpot d) (suc k) (b .value .body)) (sym (a .ends))
 
-    here : length (nodesFrom 0 i old) ≡ n
+    here : length (definitionNodes 0 i old) ≡ n
     here = length-nodesFrom 0 i old ∙ sym (a .terms)
 
-    old-node : (k : ℕ) → k < n → getD (nodesFrom 0 i more) k noNode ≡ getD (nodesFrom 0 i old) k noNode
+    old-node : (k : ℕ) → k < n → getD (definitionNodes 0 i more) k noNode ≡ getD (definitionNodes 0 i old) k noNode
     old-node k h =
         let e = here in
         ap (λ (x : List Node). getD x k noNode) split
-        ∙ List·getD-append (nodesFrom 0 i old) (nodes (bodySpot d) (suc p) (b .value .body)) noNode k (omega arith)
+        ∙ List·getD-append (definitionNodes 0 i old) (nodes (bodySpot d) (suc p) (b .value .body)) noNode k (omega arith)
 
     new-node : (k : ℕ) → n ≤ k
-        → getD (nodesFrom 0 i more) k noNode ≡ getD (nodes (bodySpot d) (suc p) (b .value .body)) (k - n) noNode
+        → getD (definitionNodes 0 i more) k noNode ≡ getD (nodes (bodySpot d) (suc p) (b .value .body)) (k - n) noNode
     new-node k h =
         let e = here in
         ap (λ (x : List Node). getD x k noNode) split
-        ∙ right-node (nodesFrom 0 i old) (nodes (bodySpot d) (suc p) (b .value .body)) k (omega arith)
+        ∙ right-node (definitionNodes 0 i old) (nodes (bodySpot d) (suc p) (b .value .body)) k (omega arith)
         ∙ ap (λ (x : ℕ). getD (nodes (bodySpot d) (suc p) (b .value .body)) (k - x) noNode) e
 
     next-words : (k : ℕ) → k < m → Dec (k < n)
-        → structureOf (getD w' (termsAt + k) 0) ≡ wordOf sets k (getD (nodesFrom 0 i more) k noNode)
+        → structureOf (getD w' (termsAt + k) 0) ≡ wordOf sets k (getD (definitionNodes 0 i more) k noNode)
     next-words k h (yes c) =
         let f = b .few in
         ap structureOf (b .stored .kept (termsAt + k) (λ z. omega arith) (λ z. omega arith) (λ z. omega arith))

@@ -2,7 +2,7 @@
 -- nothing.
 use native.Mathlib.Omega.{arith}
 use Rattle.index.specs.Facts.{indexed-rules}
-use Rattle.step_laws.specs.Holds.Laws.{holds-room}
+use Rattle.step_laws.specs.HeldAreas.{holds-room}
 use Rattle.taking.proofs.event.Areas.{holding-empty, advanced-count, advanced-refused}
 use borrow.Author.Needs.{needs}
 use Rattle.taking.proofs.event.advance.Statement.{statement}

@@ -1,8 +1,9 @@
 -- `trace::opener::settle` meets its contract: what is resolved is the monitor before any event, or there is no room for
 -- it. Assumes nothing.
 use mathlib.Core.Path.{refl}
+use Rattle.line_spec.specs.Opening.Laws.{areas-measured}
 use Rattle.tracing.specs.Tracing.Laws.{tracing-measured, tracing-consistent}
-use Rattle.trace.specs.Opening.Laws.{areas-fit, settled-tracing, settled-starts, settled-exceeds}
+use Rattle.trace.specs.Opening.Laws.{settled-tracing, settled-starts, settled-exceeds}
 use borrow.Author.Needs.{needs}
 use Rattle.trace.proofs.opener.settle.Statement.{statement}
 use Rattle.trace.proofs.opener.settle.Tie as tie
@@ -10,7 +11,7 @@ use Rattle.trace.proofs.opener.settle.Tie as tie
 resolve-last-requires : tie.Need-resolve-last-requires
 resolve-last-requires c κs =
     let at-start = c .before .before .before .before .before .before in
-    (at-start .pre .0, areas-fit _ _ (at-start .pre .1 .0) (at-start .pre .1 .1))
+    (at-start .pre .0, areas-measured _ _ (at-start .pre .1 .0) (at-start .pre .1 .1))
 
 enum-known-count : tie.Need-enum-known-count
 enum-known-count c = search needs

@@ -19,9 +19,9 @@ use Rattle.sheet_spec.specs.declared.answer.Sheet as answer
 use Rattle.sheet_spec.specs.declared.answer.Sheet.the-variants as gave
 use Rattle.sheet_spec.specs.Sheet.{Outcome, given, refused, sheetOf, outcomeOf, printed, sheetText, sheetSize}
 use Rattle.sheet_spec.specs.Sheet as operation
-use Rattle.lot_sheet.specs.declared.office.Told.{Told}
-use Rattle.lot_sheet.specs.declared.office.Told.the-variants.{Sheet, BadRecord, TotalOver, TooLong}
-use Rattle.lot_sheet.specs.Told.{TellOutcome, tellSaid, refusedAs, tellBook, tellOf, Fits}
+use Rattle.lot_sheet.specs.declared.office.Reply.{Reply}
+use Rattle.lot_sheet.specs.declared.office.Reply.the-variants.{Sheet, BadRecord, TotalOver, TooLong}
+use Rattle.lot_sheet.specs.Reply.{TellOutcome, tellSaid, refusedAs, tellBook, tellOf, Fits}
 
 pub refused-bad : (q : Refusal) → q .number ≡ 14 → BadRecord (q .place) ≡ refusedAs (q .number) (q .place)
 unfolding refusedAs
@@ -42,10 +42,10 @@ module _ (book text text' : List ℕ) (x : answer.Sheet) (says : operation.sheet
   unfolding tellBook
   told-given n e = answered (gave.Given n) e
 
-  pub told-refused : (q : Refusal) → x ≡ gave.Refused q → (r : Told) → r ≡ refusedAs (q .number) (q .place)
+  pub told-refused : (q : Refusal) → x ≡ gave.Refused q → (r : Reply) → r ≡ refusedAs (q .number) (q .place)
       → tellSaid r text' ≡ tellOf true book text
   unfolding tellBook
-  told-refused q e r h = ap (λ (y : Told). tellSaid y text') h ∙ answered (gave.Refused q) e
+  told-refused q e r h = ap (λ (y : Reply). tellSaid y text') h ∙ answered (gave.Refused q) e
 
 -- ---- by whether the book was read whole
 
@@ -98,18 +98,18 @@ unfolding tellOf sheetOf Fitting
 fits false s text = tt
 fits true s text = book-fits (bookOf s) text
 
-as-long : (r : Told) (text text' : List ℕ) → length text' ≡ length text → Fits r text → Fits r text'
+as-long : (r : Reply) (text text' : List ℕ) → length text' ≡ length text → Fits r text → Fits r text'
 as-long (Sheet n) text text' e h = omega arith
 as-long (BadRecord i) text text' e h = tt
 as-long TotalOver text text' e h = tt
 as-long TooLong text text' e h = tt
 
-pub tell-fits : (r : Told) (text' : List ℕ) (last : Bool) (s text : List ℕ) → tellSaid r text' ≡ tellOf last s text
+pub tell-fits : (r : Reply) (text' : List ℕ) (last : Bool) (s text : List ℕ) → tellSaid r text' ≡ tellOf last s text
     → length text' ≡ length text → Fits r text'
 tell-fits r text' last s text h e =
     let told = ap (λ (o : TellOutcome). o .told) h in
-    as-long r text text' e (subst (λ (x : Told). Fits x text) (sym told) (fits last s text))
+    as-long r text text' e (subst (λ (x : Reply). Fits x text) (sym told) (fits last s text))
 
 -- of what fits, the part that is printed
-pub fits-sheet : (told : Told) (text : List ℕ) → Fits told text → (n : ℕ) → told ≡ Sheet n → n ≤ length text
-fits-sheet told text h n e = subst (λ (x : Told). Fits x text) e h
+pub fits-sheet : (told : Reply) (text : List ℕ) → Fits told text → (n : ℕ) → told ≡ Sheet n → n ≤ length text
+fits-sheet told text h n e = subst (λ (x : Reply). Fits x text) e h

@@ -31,7 +31,7 @@ use Rattle.monitor_spec.specs.Consistent.Reading.{consistent-laid}
 use Rattle.monitor_spec.specs.Regular.Laws.{regular}
 use Rattle.monitor_spec.specs.Sensible.{Laid}
 use Rattle.step_laws.specs.Asks.{tree-at, takes-some}
-use Rattle.step_laws.specs.Holds.{AreaHolds, heldIn}
+use Rattle.monitor_spec.specs.Holds.{AreaHolds, heldIn}
 
 -- each slot of a list is read as one residual
 length-read : (t : Table) (l : List (List ℕ)) → All (SlotOf t) l → length (held t l) ≡ length l

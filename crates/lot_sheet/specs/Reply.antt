@@ -4,7 +4,7 @@
 --     Fits                     a sheet's bytes stand in the text
 --     ReadInto                 a book and the buffer that it was read into
 --     ToldWay                  what is told of a book, by what it is
--- The laws are in `Told/Laws.antt`. Assumes nothing.
+-- The laws are in `Reply/Laws.antt`. Assumes nothing.
 use Prim.Native.Nat.{ℕ, _≤_, _<_}
 use mathlib.Core.Path.{_≡_}
 use mathlib.Core.Bool.{Bool, true, false, cond}
@@ -16,19 +16,19 @@ use Rattle.input.specs.Reading.{Parts}
 use Rattle.lot_book.specs.declared.entry.Lot.{Lot}
 use Rattle.lot_book.specs.Book.{lots, bad, bookOf, takenSum}
 use Rattle.sheet_spec.specs.Sheet.{Outcome, given, refused, sheetText, sheetSize, sheetOf}
-use Rattle.lot_sheet.specs.declared.office.Told.{Told}
-use Rattle.lot_sheet.specs.declared.office.Told.the-variants.{Sheet, BadRecord, TotalOver, TooLong}
+use Rattle.lot_sheet.specs.declared.office.Reply.{Reply}
+use Rattle.lot_sheet.specs.declared.office.Reply.the-variants.{Sheet, BadRecord, TotalOver, TooLong}
 pub mod Laws
 
 pub record TellOutcome : Type 0 where
-  pub told : Told
+  pub told : Reply
   pub text : List ℕ
 
-abbrev pub tellSaid : Told → List ℕ → TellOutcome
+abbrev pub tellSaid : Reply → List ℕ → TellOutcome
 tellSaid x text = record { told = x; text = text }
 
 -- "14 bad book, placed at the record's index"; else "15 total over 2^64-1" (1 is not met: claim ToldExactly)
-unfoldable pub refusedAs : ℕ → ℕ → Told
+unfoldable pub refusedAs : ℕ → ℕ → Reply
 refusedAs n at = cond (eqb n 14) (BadRecord at) TotalOver
 
 -- "the byte count given", or the refusal
@@ -42,7 +42,7 @@ tellOf true book text = tellBook (sheetOf book text)
 tellOf false bytes text = tellSaid TooLong text
 
 -- the promise that `say` asks for
-abbrev pub Fits : Told → List ℕ → Type 0
+abbrev pub Fits : Reply → List ℕ → Type 0
 Fits (Sheet n) text = n ≤ length text
 Fits (BadRecord i) text = Unit
 Fits TotalOver text = Unit

@@ -2,7 +2,7 @@
 -- zeros").
 --     AreaHolds     an area that holds the slots of proper residuals, so many
 --     heldIn        the residuals that so many slots of an area hold
--- The laws are in `Holds/Laws.antt`. Assumes nothing.
+-- The laws are in crate step_laws, `HeldAreas.antt`. Assumes nothing.
 use Prim.Native.Nat.{ℕ, _≤_}
 use mathlib.Core.Path.{_≡_}
 use mathlib.Core.List.{List}
@@ -11,10 +11,9 @@ use Rattle.numbers.specs.Every.{All}
 use Rattle.table.specs.Table.{Table}
 use Rattle.residuals.specs.Residual.{Residual}
 use Rattle.residuals.specs.Slots.{slotsOf}
 use Rattle.monitor_spec.specs.Valid.{held}
 use Rattle.monitor_spec.specs.State.{chunks, fill}
 use Rattle.monitor_spec.specs.Proper.{Proper}
-pub mod Laws
 
 pub record AreaHolds (t : Table) (area : List ℕ) (count : ℕ) : Type 0 where
   pub residuals : List Residual
