@@ -40,6 +40,6 @@ examples = tt
 pub way-examples : WayExamples
 unfolding WayExamples wayHolds wayOf leafWay nth sameWords kindAt holdsAt termOfWord memoryOf pack digitBits digitBound
     branches allBranches branchesWith nextBranches branchesAt grow resolve resolveDef resolveIn keep flatMap pairs nodes
-    size sizes bodyOf bodyNumber bodyCount bodyIn termIn termOfDefs termAt termOf nodeAt nodesOf definitionNodes node.nodes
-    definitionsAt kindOf refOf digit remember recalled member inRow rowOf rowIn elem
+    size sizes bodyOf bodyNumber bodyCount bodyIn termIn termOfDefs termAt termOf nodeAt nodesOf definitionNodes
+    node.nodes definitionsAt kindOf refOf digit remember recalled member inRow rowOf rowIn elem
 way-examples = tt

@@ -43,4 +43,5 @@ unfoldable pub ZeroExactly : Type 0
 ZeroExactly =
     (everyday wash windows r a b events minutes w : List ℕ)
     → eqb (timedCall everyday wash windows r a b events minutes w .number) 0
-    ≡ (timedRecordMeasured r && isTimedGiven (timedOf everyday wash windows (timedMonitorIn r a b) events minutes w .answer))
+    ≡ (timedRecordMeasured r
+    && isTimedGiven (timedOf everyday wash windows (timedMonitorIn r a b) events minutes w .answer))

@@ -93,13 +93,13 @@ each-meant (r ∷ rs) j e =
 all-judged : (map judged rows ≡ map taken rows)
     × (judgeBytes InBytes.tableB ≡ accepted (numbersOf abstractB) abstractB)
     × (judgeList (numbersOf onlyFail) ≡ accepted (numbersOf onlyFail) onlyFail)
-unfolding tableOf abstractB onlyFail judgeBytes judgeList judge judgeRead sized listBytes bytesOf groups unlessMet placed
-    placeOf trailing byteTokens byteTokensWith byteToken readNumber scanWith listTokens table number andThen next pure
-    times events row setOfKind eventSet eventSets kindFits rowCount rowsOf rowsFit refOfKind setRef termOfKind termWith
-    definition definitionsOf size numbersOf rowNumbers setNumbers refNumbers termNumbers definitionNumbers flatMap
-    orElse unless levelIn paramFits callFits wrongRef wrongIn wrongFrom firstWrong grow widthWith widest callWidth
-    nextWidth allWidths firstAbove tooWide branchesWith branchesAt bodyIn nextBranches allBranches followerAbove
-    bodyAbove tooManyBranches
+unfolding tableOf abstractB onlyFail judgeBytes judgeList judge judgeRead sized listBytes bytesOf groups unlessMet
+    placed placeOf trailing byteTokens byteTokensWith byteToken readNumber scanWith listTokens table number andThen next
+    pure times events row setOfKind eventSet eventSets kindFits rowCount rowsOf rowsFit refOfKind setRef termOfKind
+    termWith definition definitionsOf size numbersOf rowNumbers setNumbers refNumbers termNumbers definitionNumbers
+    flatMap orElse unless levelIn paramFits callFits wrongRef wrongIn wrongFrom firstWrong grow widthWith widest
+    callWidth nextWidth allWidths firstAbove tooWide branchesWith branchesAt bodyIn nextBranches allBranches
+    followerAbove bodyAbove tooManyBranches
 all-judged = (refl, refl, refl)
 
 rows-left : map left rows ≡ map (λ r. r .held) rows

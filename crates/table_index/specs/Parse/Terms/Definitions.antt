@@ -91,7 +91,8 @@ module _ (sets : List SetDef) (l : List ℕ) (i : ℕ) (w₀ : List ℕ) where
     old-node k h =
         let e = here in
         ap (λ (x : List Node). getD x k noNode) split
-        ∙ List·getD-append (definitionNodes 0 i old) (nodes (bodySpot d) (suc p) (b .value .body)) noNode k (omega arith)
+        ∙ List·getD-append (definitionNodes 0 i old) (nodes (bodySpot d) (suc p) (b .value .body)) noNode k
+        (omega arith)
 
     new-node : (k : ℕ) → n ≤ k
         → getD (definitionNodes 0 i more) k noNode ≡ getD (nodes (bodySpot d) (suc p) (b .value .body)) (k - n) noNode
