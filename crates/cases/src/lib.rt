@@ -5,6 +5,8 @@
 //     buffer    bytes and numbers put at a buffer's start
 //     lent      what lent buffers hold before a call, and whether they were kept or cleared
 //     digest    one number for all elements of a buffer
+#![tactic(auto)]
+
 mod buffer;
 mod digest;
 mod lent;

@@ -2,6 +2,8 @@
 // is read. Crate `course_spec` has what the functions promise.
 //     run      from its front on
 //     Told     how it came to its end
+#![tactic(auto)]
+
 mod runner;
 
 pub use course_spec::Told;

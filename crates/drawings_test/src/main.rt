@@ -3,6 +3,8 @@
 //     file      the file, line by line              case      its lines: parts of a case, and cases
 //     trial     one input, held to its line         slots     the same by Read and Open
 // The file's head says how a line is read, and where the answers come from.
+#![tactic(auto)]
+
 mod case;
 mod file;
 mod slots;

@@ -1,5 +1,7 @@
 // Feed (document 01, "Operations"), proved equal to its definition in crate monitor_spec: all
 // events of a call.
+#![tactic(auto)]
+
 mod feeder;
 
 pub use feeder::{feed, take_all};

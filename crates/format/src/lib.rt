@@ -5,6 +5,8 @@
 //     head                  where the table and the events of an input are
 //     conclude, refused     the line of a record, and of a refusal
 //     text_of               the text of a line
+#![tactic(auto)]
+
 mod answer;
 mod header;
 mod lines;

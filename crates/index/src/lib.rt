@@ -1,6 +1,8 @@
 // The index of an accepted table: what the monitor asks of it. Each function needs the list whose
 // table was judged and the work area in which `check` left its index; it says what the abstract
 // table of the list has.
+#![tactic(auto)]
+
 ghost use Rattle.std.specs.Prelude.{◌≡◌, ◌⊎◌, ◌+◌, ◌/◌, ◌%◌, ◌^◌, ◌<◌, ◌≤◌, eqb, length};
 ghost use Rattle.table.specs.Rows.{alphabet_most};
 ghost use Rattle.table.specs.Table.{term_count, body_number, enclosing as enclosingOf};

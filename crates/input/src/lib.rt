@@ -5,6 +5,8 @@
 // What one read leaves is decided in `reading`, and there alone a part of a buffer can be made that
 // is the input's last, an end and a failure. `specs/Reading.antt` and `specs/Arrival.antt` have the
 // definitions.
+#![tactic(auto)]
+
 mod reading;
 
 ghost use Rattle.std.specs.Prelude.{length};

@@ -3,6 +3,8 @@
 // The definitions are in crate table, `specs/Judge.antt` and `specs/Refusals.antt` for the
 // judgement, and in crate table_index, `specs/Index.antt` for the index and `specs/Judging.antt`
 // for what the code promises.
+#![tactic(auto)]
+
 mod branches;
 mod checker;
 mod places;

@@ -8,6 +8,8 @@
 //     take_piece              `resume` on a piece, and then `after_piece`
 //     head                    where the table and the events of an input are
 //     read_table              its head and its table, read into a lent list
+#![tactic(auto)]
+
 mod answer;
 mod opener;
 mod whole;

@@ -4,6 +4,8 @@
 //     print      the line
 // The front is as long as a length number and the longest table, so that the table is read from it
 // whole. An input that cannot be read gets a message on standard error and no line.
+#![tactic(auto)]
+
 mod pieces;
 mod print;
 

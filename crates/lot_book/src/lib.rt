@@ -3,6 +3,8 @@
 // `specs/Lib.antt`.
 //     lot_at, Entry       the record at a position
 //     judge, Judged       all records of a book, judged first to last: how many, and their sum
+#![tactic(auto)]
+
 mod entry;
 mod judging;
 mod number;

@@ -5,6 +5,8 @@
 // The book's buffer has one byte more than a book may have: a book that fills it is too long. A
 // record has four bytes or more, so the text has room for the lines of all records that the longest
 // book can have.
+#![tactic(auto)]
+
 mod office;
 mod print;
 

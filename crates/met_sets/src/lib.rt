@@ -1,5 +1,7 @@
 // The residual sets that a call of Feed has met, kept in three local arrays: a lazy automaton, as
 // regular expression engines have. What is kept is `Met` of `specs/Sets.antt`.
+#![tactic(auto)]
+
 mod pick;
 mod run;
 mod sets;

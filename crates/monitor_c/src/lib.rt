@@ -4,6 +4,8 @@
 // number, 0 where there is none; View, which never refuses, returns a count of words. What a call
 // returns and leaves in the lent words is defined in crates `words_spec`, `sheet_words`
 // and `wash_words`.
+#![tactic(auto)]
+
 mod feeder;
 mod offerer;
 mod opener;

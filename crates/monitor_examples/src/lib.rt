@@ -2,3 +2,5 @@
 // and W7): answers, and whole outcomes with every lent word. Rows and that they hold, in `specs/`
 // and `proofs/`; no code. They stand apart from the definitions, since computing them takes longer
 // than the definitions' proofs. K1 to K12 stand in `monitor_spec`.
+#![tactic(auto)]
+

@@ -5,6 +5,8 @@
 //     trial     one call of Try
 //     answer    an answer held to the stored     areas     words in lent areas
 // The file's head says how a line is read, and where the answers come from.
+#![tactic(auto)]
+
 mod answer;
 mod areas;
 mod call;

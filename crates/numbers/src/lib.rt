@@ -4,6 +4,8 @@
 //     write, Written      a number stored at a position
 //     byte_count          how many bytes a number takes
 // No function has a `requires`: any position may be asked for.
+#![tactic(auto)]
+
 ghost use Rattle.std.specs.Prelude.{◌≡◌, ◌<◌};
 ghost use Rattle.numbers.specs.Number.{Sized};
 ghost use Rattle.numbers.specs.Position.{read_at, Stores};

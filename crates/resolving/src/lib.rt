@@ -1,6 +1,8 @@
 // Residuals as words (01, "Residuals"): what a node word says of its term, the residuals that a
 // term is resolved to, and a leaf's distinct results. The definitions are in `specs/`;
 // `specs/Lib.antt` lists them in reading order.
+#![tactic(auto)]
+
 mod descent;
 mod leaves;
 mod resolve;

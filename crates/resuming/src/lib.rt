@@ -3,6 +3,8 @@
 //     resume          a piece of events more
 //     after_piece     a course where the input ended, or did not
 //     take_piece      `resume` on a piece, and then `after_piece`
+#![tactic(auto)]
+
 mod answer;
 mod feeder;
 

@@ -4,6 +4,8 @@
 //     none     the count before the first line
 // What a line that was said is made of is decided in `print`, and there alone a `Said` and an
 // `Unsaid` can be made, and a count raised.
+#![tactic(auto)]
+
 mod print;
 
 pub use print::{Count, Said, Saying, Unsaid, none, say};

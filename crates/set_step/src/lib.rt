@@ -1,6 +1,8 @@
 // The step from one set of residuals to the next (01, "Residuals"), at the level of words: slots of
 // sixteen words in an area, ascending. The definitions are in `specs/`; `specs/Lib.antt` lists them
 // in reading order, and `specs/Claims.antt` says what `step_set`'s promise comes to.
+#![tactic(auto)]
+
 mod starts;
 mod steps;
 

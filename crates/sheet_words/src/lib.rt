@@ -1,5 +1,7 @@
 // What the function of the lot sheet for C gives (crate `monitor_c`) in lent words: its answer as a
 // number with a count or a place. What a call returns and leaves is defined in `specs/Call.antt`.
+#![tactic(auto)]
+
 ghost use Rattle.sheet_words.specs.Call.{SheetTold};
 
 use sheet::Sheet;

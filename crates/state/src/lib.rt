@@ -1,6 +1,8 @@
 // The state that a caller keeps between calls: the record, the two areas, whether they are
 // consistent, View, and what the operations answer (document 01, "Operations"). What each comes to
 // is defined in crate monitor_spec; `specs/Lib.antt` lists what the code says in those terms.
+#![tactic(auto)]
+
 mod answer;
 mod consistency;
 mod lengths;

@@ -2,6 +2,8 @@
 // "Numbers and table", "Operations", "When the monitor declines"). The functions are in crates
 // event_sets, parse, judge and codec. `specs/Lib.antt` lists the definitions in reading order,
 // `specs/Claims.antt` what is proved of them.
+#![tactic(auto)]
+
 mod answer;
 pub mod bounds;
 mod rows;

@@ -4,6 +4,8 @@
 //     case       a line as a case
 //     trial      one call, held to its answer
 // The file's head says how a line is read, and where the answers come from.
+#![tactic(auto)]
+
 mod case;
 mod file;
 mod trial;

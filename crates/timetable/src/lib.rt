@@ -3,6 +3,8 @@
 //     good_timetable          whether a list is a timetable
 //     in_force                whether the table for wash hours is in force at an absolute minute
 //     changes                 whether the table in force changes after one minute, up to another
+#![tactic(auto)]
+
 mod change;
 mod force;
 mod judging;

@@ -4,6 +4,8 @@
 // between calls, and one event, are in crate `tracing`.
 //     open_trace      the front of an input: its table read, its monitor opened
 //     trace_event     one event more
+#![tactic(auto)]
+
 mod answer;
 mod opener;
 

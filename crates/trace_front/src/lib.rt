@@ -2,6 +2,8 @@
 // The definitions are in `specs/Wanted.antt` and `specs/Front.antt`.
 //     wanted         how many bytes more it needs
 //     read_front     these read, through reads that may come short
+#![tactic(auto)]
+
 mod measure;
 mod reader;
 

@@ -5,6 +5,8 @@
 // Nothing waits for a full buffer. That of the front has room for a length number and the longest
 // table; no event is read with it. An input that cannot be read gets a message on standard error
 // and no further line.
+#![tactic(auto)]
+
 ghost use Rattle.trace_front.specs.Front.{FrontRead};
 ghost use Rattle.trace_monitor.specs.FrontTold.{FrontTold};
 

@@ -2,6 +2,8 @@
 // again: its index stands in the work area. The definitions are in crate `trace_spec`;
 // `specs/Lib.antt` lists what the code's answers are and what holds between calls.
 //     trace_event     one event more
+#![tactic(auto)]
+
 mod answer;
 mod tracer;
 

@@ -1,5 +1,7 @@
 // The results of one residual and an event, where bits for its nodes say them (crate `tree_ways`),
 // held in an area. The definitions are in `specs/Moving.antt`.
+#![tactic(auto)]
+
 mod moves;
 mod rebuilding;
 

@@ -2,6 +2,8 @@
 // what the functions promise.
 //     turn            one event
 //     say_refusal     a refusal, which is the last line
+#![tactic(auto)]
+
 mod event;
 
 pub use event::{say_refusal, turn};

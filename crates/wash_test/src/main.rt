@@ -6,6 +6,8 @@
 //     trial      one call, held to its answer
 //     answer     an answer, held to the stored numbers
 // The file's head says how a line is read, and where the answers come from.
+#![tactic(auto)]
+
 mod answer;
 mod case;
 mod file;

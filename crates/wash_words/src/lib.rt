@@ -3,6 +3,8 @@
 // `specs/Lib.antt` lists the definitions in reading order.
 //     load_timed, store_timed     a record from seven words, and into them
 //     tell_timed                  an answer as a number with a place
+#![tactic(auto)]
+
 mod answers;
 mod record;
 

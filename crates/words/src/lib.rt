@@ -4,6 +4,8 @@
 //     load, store                       a record from five words, and into them
 //     tell, tell_offer, tell_table      an answer as a number with a place or a value
 //     has_record                        whether an answer has a record
+#![tactic(auto)]
+
 mod answers;
 mod record;
 mod tables;

@@ -80,7 +80,8 @@ first_out i k (true ∷ l) h =
       omega arith,
       record {
         fails = f.fails;
-        before = λ j. elim j [ zero ↦ λ b. refl | suc m ↦ λ b. f.before m (omega arith) ];
+        before = λ j. elim j as (λ (v : ℕ). v < suc r.0 → get_or (true ∷ l) v true ≡ true)
+            [ zero ↦ λ b. refl | suc m ↦ λ b. f.before m (omega arith) ];
       },
     )
 first_out i k (false ∷ l) h =

@@ -2,7 +2,6 @@
 --     RefR        a set reference's marked writing
 --     sees-ref    the law
 -- Assumes nothing.
-use denote.Ref.{Bor}
 use Rattle.std.specs.Prelude.{ℕ, ◌≡◌, refl, Bool, length, get_or, ltb, leb}
 use Rattle.std.proofs.Common.{sym, ◌∙◌}
 use Rattle.std.proofs.Math.Path.{ap, subst}
@@ -30,8 +29,8 @@ module _ (sets : List SetDef) where
   RefKindR s (one r) = PureR (fixed s)
   RefKindR s (each rs) = ThenR (NumberR param_ok AnyForm) (λ k. PureR (family s k))
 
-  abbrev Bor : SetRef → List Mark → Type 0
-  Bor = ThenR (NumberR set_ok AnyForm) (λ s. RefKindR s (get_or sets s (one [])))
+  abbrev RefT : SetRef → List Mark → Type 0
+  RefT = ThenR (NumberR set_ok AnyForm) (λ s. RefKindR s (get_or sets s (one [])))
 
   ref_kind_to : (s : ℕ) (d : SetDef) → get_or sets s (one []) ≡ d → (r : SetRef) (M N : List Mark) → RefKindR s d r N
       → M ≡ mark s (set_ok s) ∷ N → RefR r M
@@ -47,7 +46,7 @@ module _ (sets : List SetDef) where
             (last N x.one x.two x.whole y.1 ∙ x.writes_one.1),
       )
 
-  ref_to : (r : SetRef) (M : List Mark) → Bor r M → RefR r M
+  ref_to : (r : SetRef) (M : List Mark) → RefT r M → RefR r M
   ref_to r M x =
       ref_kind_to x.first _ refl r M x.two x.writes_two
       (join M x.one x.two (mark x.first (set_ok x.first) ∷ []) x.two x.whole x.writes_one.1 refl)
@@ -61,7 +60,7 @@ module _ (sets : List SetDef) where
   kind_each s k (each rs) h =
       then_pure (NumberR param_ok AnyForm) (family s) k (mark k (param_ok k) ∷ []) (tt, refl)
 
-  ref_from : (r : SetRef) (M : List Mark) → RefR r M → Bor r M
+  ref_from : (r : SetRef) (M : List Mark) → RefR r M → RefT r M
   unfolding ref_marks
   ref_from (fixed s) M x =
       record {
@@ -92,6 +91,6 @@ module _ (sets : List SetDef) where
   pub sees_ref : Sees RefR (set_ref sets)
   unfolding set_ref
   sees_ref =
-      sees_iff Bor RefR _ ref_to ref_from
+      sees_iff RefT RefR _ ref_to ref_from
       (sees_then (NumberR set_ok AnyForm) (λ s. RefKindR s (get_or sets s (one []))) _ _ (any_number set_ok)
       (λ s M r. sees_ref_kind s (get_or sets s (one []))))

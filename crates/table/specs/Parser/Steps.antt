@@ -82,8 +82,8 @@ module _ {S A : Type 0} (p : S → Parser A) (step : S → A → S) where
           → p t mid ≡ refused k at → all n s ts ≡ refused k at
       all_stop zero r b e = absurd (omega arith)
       all_stop {s} (suc n) none b e = rw (h.again n s) (then_stop _ _ _ e)
-      all_stop {s} (suc n) (more k r) b e =
-          rw (h.again n s) (then_got _ _ _ k (then_stop _ _ _ (all_stop n r (omega arith) e)))
+      all_stop {s = s} (suc n) (more {x = x} k r) b e =
+          rw (h.again n s) (then_got _ _ _ k (then_stop _ _ _ (all_stop {s = step s x} n r (omega arith) e)))
 
 -- ---- times
 

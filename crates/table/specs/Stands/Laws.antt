@@ -108,7 +108,8 @@ in_term : {ds : List Definition} {h c n : ℕ} (x : Term) → Stands ds h c n x 
 unfolding size
 in_term stop s m a b = here_or s a (λ l. absurd (omega arith))
 in_term fail s m a b = here_or s a (λ l. absurd (omega arith))
-in_term (prefix r p) s m a b = here_or s a (λ l. in_term p (follower_stands s) m (omega arith) (omega arith))
+in_term {c = c} (prefix r p) s m a b =
+    here_or s a (λ l. in_term {c = suc c} p (follower_stands s) m (omega arith) (omega arith))
 in_term {n = n} (choice p q) s m a b =
     here_or s a (λ l. elim (dec_lt m (suc (size p + n))) [
       | yes i ↦ in_term p (choice_left_stands s) m (omega arith) (omega arith)
