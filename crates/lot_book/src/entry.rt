@@ -5,7 +5,7 @@ ghost use Rattle.lot_book.specs.Lot.{entry_at};
 use crate::number::{Number, read};
 
 // A record: "lot, taken, 0 for running or 1 for failed, place (0 if running)".
-#[derive(Drop)]
+#[derive(Clone, Copy)]
 pub struct Lot {
     pub number: u64,
     pub taken: u64,

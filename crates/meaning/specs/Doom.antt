@@ -23,6 +23,7 @@ pub mod Falls
 
 module _ (t : Table) where
   pub doomed_silent : {P Q : Term} {e : ℕ} → Doomed t P → Step t P (event e) Q → ⊥
+  doomed_silent {Q = Q} {e = e} d_fail s = elim s [ ]
   doomed_silent (d_choice p q) (choice_left s) = doomed_silent p s
   doomed_silent (d_choice p q) (choice_right s) = doomed_silent q s
   doomed_silent (d_left p) (par_left s o v) = doomed_silent p s
@@ -34,6 +35,7 @@ module _ (t : Table) where
   doomed_silent (d_call p) (call_step s) = doomed_silent p s
 
   pub doomed_stays : {P Q : Term} → Doomed t P → Step t P τ Q → Doomed t Q
+  doomed_stays {Q = Q} d_fail s = elim s [ ]
   doomed_stays (d_choice p q) (choice_τ_left s) = d_choice (doomed_stays p s) q
   doomed_stays (d_choice p q) (choice_τ_right s) = d_choice p (doomed_stays q s)
   doomed_stays (d_choice p q) choice_fail = d_fail

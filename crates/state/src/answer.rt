@@ -4,7 +4,7 @@ use table::Refusal;
 
 // A record; a refusal by number and place (1 to 10, and 13 while settling); or a refusal with the
 // record after the events already taken (11 to 13).
-#[derive(Drop)]
+#[derive(Clone, Copy)]
 pub enum Answer {
     Given(State),
     Refused(Refusal),

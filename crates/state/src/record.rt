@@ -5,7 +5,7 @@ ghost use Rattle.monitor_spec.specs.State.{counted, holding, fresh_state};
 ghost use Rattle.state.specs.Record.{state_of, succeeding};
 
 // Running, or failed at a place.
-#[derive(Drop)]
+#[derive(Clone, Copy)]
 pub enum Verdict {
     Running,
     Failed(u64),
@@ -13,7 +13,7 @@ pub enum Verdict {
 
 // The events taken, the residuals held, the most that were held since it was opened, and the
 // verdict.
-#[derive(Drop)]
+#[derive(Clone, Copy)]
 pub struct State {
     pub taken: u64,
     pub count: u64,

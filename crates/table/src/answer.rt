@@ -1,14 +1,14 @@
 // What the operations of the table layer answer.
 
 // A refusal of document 01, by its number and its place.
-#[derive(Drop)]
+#[derive(Clone, Copy)]
 pub struct Refusal {
     pub number: u8,
     pub place: usize,
 }
 
 // A count of numbers (Read) or of bytes (Write), or a refusal.
-#[derive(Drop)]
+#[derive(Clone, Copy)]
 pub enum Answer {
     Count(usize),
     Refused(Refusal),

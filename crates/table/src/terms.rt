@@ -3,7 +3,7 @@ use crate::answer::Refusal;
 
 // Where a term stands: how many prefixes and whether a parallel is around it, whether it is a body
 // or a prefix's follower, and its definition.
-#[derive(Drop)]
+#[derive(Clone, Copy)]
 pub struct Spot {
     pub prefixes: u64,
     pub parallel: u64,

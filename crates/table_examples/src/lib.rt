@@ -3,4 +3,3 @@
 // `proofs/`; no code. They stand apart from `table`, since computing them takes longer than its
 // proofs.
 #![tactic(auto)]
-

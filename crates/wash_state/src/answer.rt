@@ -3,7 +3,7 @@ use state::State;
 use table::Refusal;
 
 // Before the first event there is none; after it the record, and the last event's minute.
-#[derive(Drop)]
+#[derive(Clone, Copy)]
 pub enum TimedState {
     NotStarted,
     Started(State, u64),

@@ -24,7 +24,7 @@ use Rattle.table.specs.Grammar as grammar
 use Rattle.table.specs.Grammar.{row}
 use Rattle.table.specs.Rows.{alphabet_most}
 use Rattle.table_index.specs.Index.{mask_of, first_word, second_word}
-use Rattle.table_index.specs.Index.Sets.{mask_snoc, mask_under, first_add, second_add, first_word_lem, second_word}
+use Rattle.table_index.specs.Index.Sets.{mask_snoc, mask_under, first_add, second_add, first_word_lem, second_word_lem}
 use Rattle.table_index.specs.Parse.{RowFound}
 
 -- one event of an alphabet of size A, none below low
@@ -129,7 +129,7 @@ module _ {l : List ℕ} {A at count low high least j p : ℕ} (h : Head l A at c
       let a = mask_under (mask_of h.events) least e h.under o in
       let i : e + 1 ≤ 128 = omega arith in
       let b : 2 ^ (e + 1) ≤ 2 ^ 128 = pow_mono i in
-      rw (more_second e m g o) (second_word _ (lt_of_lt_of_le a b))
+      rw (more_second e m g o) (second_word_lem _ (lt_of_lt_of_le a b))
 
   pub head_next : (e m n : ℕ) → e ≡ get_or l p 0 → m ≡ first_word (2 ^ e) → n ≡ second_word (2 ^ e) → j < count
       → p < length l → least ≤ e → e < A

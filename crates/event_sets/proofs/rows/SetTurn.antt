@@ -65,8 +65,8 @@ pub not_over : (x y : Bool) → x ≡ not y → x ≡ false → y ≡ true
 not_over x true e h = refl
 not_over x false e h = let z : ◌≡◌ {A = Bool} false true = sym h ∙ e in absurd (false≢true z)
 
-pub rows_fit : (A n : ℕ) → rows_fit A n ≡ true → RowsFit A n
-rows_fit A n e = fits_out A n (true_T _ e)
+pub rows_fit_lem : (A n : ℕ) → rows_fit A n ≡ true → RowsFit A n
+rows_fit_lem A n e = fits_out A n (true_T _ e)
 
 -- the rows of a set behind others have room where they fit
 pub rows_room : (A row n : ℕ) → n ≤ A → (A ≤ large_above → row + large_above ≤ rows_most) → RowsFit A (row + n)
@@ -201,7 +201,7 @@ module _ (l : List ℕ) (A row₀ at : ℕ) where
             counted = q ∙ c ∙ x.counts;
             ends = ap (λ (m : ℕ). row₀ + m) (sym q);
             few = omega arith;
-            fit = rows_fit A (row₀ + count) fits;
+            fit = rows_fit_lem A (row₀ + count) fits;
             room = room;
             words = subst (λ (ms : List ℕ). RowsStored A row₀ ms w w') (sym x.masks) f.words;
             within = f.within;

@@ -110,6 +110,7 @@ module _ (s : List ℕ) where
 -- ---- and back
 pub none_then : (x : Scan) (next : ℕ → ℕ → List ℕ → LotScan) → NoNumber x → and_then x next ≡ unread
 unfolding and_then
+none_then (value _ _ _) next x5 = elim x5 [ ]
 none_then truncated next cut_short = refl
 none_then malformed next ill_written = refl
 

@@ -5,7 +5,7 @@
 use Rattle.std.specs.Prelude.{ℕ, zero, suc, ◌+◌, ◌^◌, ◌≤◌, ◌<◌, ◌≡◌, refl, Bool, true, false, List, [], ◌∷◌, ◌++◌, length}
 use Rattle.std.proofs.Common.{arith, ap, sym, ◌∙◌, subst, inl, inr, append_assoc, length-drop}
 use Rattle.numbers.specs.Every.{all_right}
-use Rattle.numbers.specs.Number.{Bytes, groups, Scan, truncated, malformed}
+use Rattle.numbers.specs.Number.{Bytes, groups, Scan, truncated, malformed, value}
 use Rattle.numbers.specs.Number.Unread.{truncated_out, truncated_in, malformed_out, malformed_in}
 use Rattle.lot_book.specs.declared.entry.Lot.{Lot}
 use Rattle.lot_book.specs.Number.{scan_number}
@@ -25,6 +25,7 @@ use Rattle.lot_book.specs.Written.Laws.{add_all, all_bad, book_written}
 
 -- ---- numbers
 no_number_out : (s : List ℕ) (x : Scan) → scan_number s ≡ x → Bytes s → NoNumber x → NoNumberIn s
+no_number_out s (value _ _ _) e w x7 = elim x7 [ ]
 no_number_out s truncated e w cut_short = inl (truncated_out 9 1 s (omega arith) w e)
 no_number_out s malformed e w ill_written = inr (malformed_out 9 1 s e)
 

@@ -35,17 +35,17 @@ every_split t (w ∷ l) h =
     let (x, y) = and_split (valid_slot t w) (every (valid_slot t) l) h in
     (valid_proper t w x, every_split t l y)
 
-is_below : (o : Order) → is_below o ≡ true → o ≡ below
-is_below below e = refl
-is_below same e = absurd (let z : ◌≡◌ {A = ℕ} 0 1 = cc in omega arith)
-is_below above e = absurd (let z : ◌≡◌ {A = ℕ} 0 1 = cc in omega arith)
+is_below_lem : (o : Order) → is_below o ≡ true → o ≡ below
+is_below_lem below e = refl
+is_below_lem same e = absurd (let z : ◌≡◌ {A = ℕ} 0 1 = cc in omega arith)
+is_below_lem above e = absurd (let z : ◌≡◌ {A = ℕ} 0 1 = cc in omega arith)
 
 ascends_split_from : (l : List (List ℕ)) (x : List ℕ) → ascends_from x l ≡ true → Ascending (x ∷ l)
 unfolding ascends_from
 ascends_split_from [] x h = (tt, tt)
 ascends_split_from (y ∷ l) x h =
     let (a, b) = and_split (is_below (compare_words x y)) (ascends_from y l) h in
-    let c : Less x y = is_below (compare_words x y) a in
+    let c : Less x y = is_below_lem (compare_words x y) a in
     let d = ascends_split_from l y b in
     ((c, all_imp (Less y) (Less x) (λ z k. less_trans x y z c k) l d.0), d)
 

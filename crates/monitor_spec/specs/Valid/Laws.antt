@@ -194,10 +194,10 @@ module _ (t : Table) where
   unfolding valid_slot
   valid_none w e = rw (e, valid_slot)
 
-  is_same : (o : Order) → is_same o ≡ true → o ≡ same
-  is_same below e = absurd (let z : ◌≡◌ {A = ℕ} 0 1 = cc in omega arith)
-  is_same same e = refl
-  is_same above e = absurd (let z : ◌≡◌ {A = ℕ} 0 1 = cc in omega arith)
+  is_same_lem : (o : Order) → is_same o ≡ true → o ≡ same
+  is_same_lem below e = absurd (let z : ◌≡◌ {A = ℕ} 0 1 = cc in omega arith)
+  is_same_lem same e = refl
+  is_same_lem above e = absurd (let z : ◌≡◌ {A = ℕ} 0 1 = cc in omega arith)
 
   pub record SlotOf (w : List ℕ) : Type 0 where
     pub residual : Residual
@@ -218,6 +218,6 @@ module _ (t : Table) where
           record {
             residual = r;
             reads = e;
-            words = same_eq (slot_of r) w (is_same (compare_words (slot_of r) w) x);
+            words = same_eq (slot_of r) w (is_same_lem (compare_words (slot_of r) w) x);
             proper = (slot_sound w r e, (fits_memories r z, leb-true (reach_sum t r) 8 k));
           }

@@ -93,9 +93,9 @@ pub first_word_lem : (m : ℕ) → first_word m < 2 ^ 64
 unfolding first_word
 first_word_lem m = omega arith
 
-pub second_word : (m : ℕ) → m < 2 ^ 128 → second_word m < 2 ^ 64
+pub second_word_lem : (m : ℕ) → m < 2 ^ 128 → second_word m < 2 ^ 64
 unfolding second_word
-second_word m h = shr_lt 64 64 h
+second_word_lem m h = shr_lt 64 64 h
 
 -- ---- one more set
 
@@ -184,9 +184,9 @@ module _ (A : ℕ) (sets : List SetDef) (v : SetDef) (w w' : List ℕ) (row s x 
           ap (λ (j : ℕ). get_or w' j 0) e ∙ firsts (i - row) (omega arith)
           ∙ ap first_word (sym (new_mask i (omega arith)))
 
-  second_at : large_above < A → (i : ℕ) → i < row + length (set_masks v)
+  second_at_lem : large_above < A → (i : ℕ) → i < row + length (set_masks v)
       → get_or (set w' (sets_at + s) x) (second_at + i) 0 ≡ second_word (get_or all i 0)
-  second_at m i h =
+  second_at_lem m i h =
       let f = fit m in
       get_or-set_other w' (sets_at + s) (second_at + i) x 0 (λ e. omega arith) ∙ go (dec_lt i row)
     where
@@ -226,6 +226,6 @@ module _ (A : ℕ) (sets : List SetDef) (v : SetDef) (w w' : List ℕ) (row s x 
         rows_few = omega arith;
         rows_fit = λ l. let f = fit l in omega arith;
         firsts = λ i h. first_at i (omega arith) ∙ ap (λ (l : List ℕ). first_word (get_or l i 0)) (sym e);
-        seconds = λ m i h. second_at m i (omega arith) ∙ ap (λ (l : List ℕ). second_word (get_or l i 0)) (sym e);
+        seconds = λ m i h. second_at_lem m i (omega arith) ∙ ap (λ (l : List ℕ). second_word (get_or l i 0)) (sym e);
         words = λ k h. word_at k (omega arith);
       }

@@ -1,0 +1,7 @@
+-- The invariants and measures of `number.+later`.
+use Prim.Native.Nat.{◌-◌}
+use Rattle.lot_book.specs.Number.Laws.{more}
+use Rattle.lot_book.proofs.number.+later.Given as goal
+
+abbrev pub decreases-later : goal.decreases-later
+decreases-later l = l.more

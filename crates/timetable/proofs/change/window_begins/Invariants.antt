@@ -1,0 +1,13 @@
+-- The invariants and measures of `change.window_begins`.
+use Prim.Native.Nat.{◌-◌, ◌≤◌}
+use mathlib.Core.Path.{◌≡◌}
+use lib.ListN.{length, drop}
+use Rattle.timetable_spec.specs.Timetable.{begins}
+use Rattle.timetable.proofs.change.window_begins.Given as goal
+
+abbrev pub invariant-loop-i : goal.invariant-loop-i
+invariant-loop-i l =
+    (l.i ≤ length l.windows) × (begins (drop l.i l.windows) l.from l.minutes ≡ begins l.windows l.from l.minutes)
+
+abbrev pub decreases-loop-i : goal.decreases-loop-i
+decreases-loop-i l = length l.windows - l.i
