@@ -72,7 +72,7 @@ returns-in-2-to-18446744073709551615 c =
     leaf_several _ _ _ _ kind held _ _ c.term_of.ensures
     c.branches.ensures.0
     c.requires.e_bound.1 _ refl
-    (omega (arith, c.in-2-to-18446744073709551615.rest.0.1, c.in-2-to-18446744073709551615.rest.1))
+    (omega (arith, c.in-2-to-18446744073709551615.in-2-to-18446744073709551615-own.rest.0.1, c.in-2-to-18446744073709551615.in-2-to-18446744073709551615-own.rest.1))
 
 pub returns-else-holds_at : goal.returns-else-holds_at
 returns-else-holds_at c =
@@ -97,4 +97,4 @@ returns-in-1 c =
 pub returns-in-6-to-18446744073709551615 : goal.returns-in-6-to-18446744073709551615
 returns-in-6-to-18446744073709551615 c =
     leaf_still _ _ _ _
-    (way_not_kind _ _ _ (λ z. c.in-6-to-18446744073709551615.rest.0.0.0.1 (c.kind_at.ensures ∙ z)))
+    (way_not_kind _ _ _ (λ z. c.in-6-to-18446744073709551615.in-6-to-18446744073709551615-own.rest.0.0.0.1 (c.kind_at.ensures ∙ z)))

@@ -95,5 +95,5 @@ returns-in-1 t c =
 pub returns-in-6-to-18446744073709551615 : goal.returns-in-6-to-18446744073709551615
 returns-in-6-to-18446744073709551615 t c =
     takes_not_kind _ c.requires.e_bound.1 _
-    (λ z. c.in-6-to-18446744073709551615.rest.0.0.1 (c.kind_at.ensures ∙ z))
-    (λ z. c.in-6-to-18446744073709551615.rest.0.0.0.1 (c.kind_at.ensures ∙ z))
+    (λ z. c.in-6-to-18446744073709551615.in-6-to-18446744073709551615-own.rest.0.0.1 (c.kind_at.ensures ∙ z))
+    (λ z. c.in-6-to-18446744073709551615.in-6-to-18446744073709551615-own.rest.0.0.0.1 (c.kind_at.ensures ∙ z))
