@@ -1,7 +1,8 @@
 // Standard input, with the error of the last read that failed.
 //     Source        both
 //     number_of     what a read answered, as a number
-ghost use Rattle.std.specs.Prelude.{◌≡◌, ◌<◌, ◌^◌, pos, negsuc, IfOk, OnErr};
+ghost use Rattle.std.specs.Prelude.{◌≡◌, ◌<◌, ◌^◌, pos, negsuc, IfOk, OnErr, length};
+ghost use Rattle.input.specs.Reading.{Came};
 
 use std::io::{Error, Read, Result, Stdin};
 
@@ -21,7 +22,9 @@ impl Source {
     }
 
     // Reads once, and answers as `number_of`.
-    pub fn read(&mut self, buffer: &mut [u8]) -> isize {
+    pub fn read(&mut self, buffer: &mut [u8]) -> isize
+        ensures { Came (length buffer.old) result }
+    {
         let got = self.stdin.read(buffer);
         if let Err(error) = got {
             self.error = error;
