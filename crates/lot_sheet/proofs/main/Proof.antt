@@ -23,7 +23,7 @@ answer-requires : tie.Need-answer-requires
 answer-requires c κs =
     let at_part = c.before.before in
     let fill = at_part.before.before.before.fill in
-    (fill.auto.0 ∙ length-replicate {A = ℕ} 65537 0, fills_part _ _ fill.ensures _ at_part.part.given.1)
+    (fill.auto.1.0 ∙ length-replicate {A = ℕ} 65537 0, fills_part _ _ fill.ensures _ at_part.part.given.1)
 
 enum-known-failure : tie.Need-enum-known-failure
 enum-known-failure c = search rules

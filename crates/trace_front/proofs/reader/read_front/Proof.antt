@@ -14,10 +14,10 @@ use Rattle.trace_front.proofs.reader.read_front.Statement.{statement}
 use Rattle.trace_front.proofs.reader.read_front.Tie as tie
 
 abbrev invariant_loop : tie.invariant_loop
-invariant_loop front₀ n₀ front n = (length front ≡ 16387) × Held front n
+invariant_loop source₀ front₀ n₀ source front n = (length front ≡ 16387) × Held front n
 
 abbrev decreases_loop : tie.decreases_loop
-decreases_loop front₀ n₀ front n = 16387 - n
+decreases_loop source₀ front₀ n₀ source front n = 16387 - n
 
 loop-holds : tie.Need-loop-init invariant_loop decreases_loop
 loop-holds c = (c.before.requires, held_none _)
@@ -81,7 +81,7 @@ add-n c =
     let at-arrive = at_front.before in
     let at-wanted = at-arrive.before.before.before in
     let at-loop = at-wanted.before.before in
-    let g = read_room at-loop.loop.front at-arrive.arrive.new.0 at-loop.loop.n
+    let g = read_room at-loop.loop.front at-arrive.arrive.new.1.0 at-loop.loop.n
     at-wanted.wanted.result at-loop.loop.invariant.1 at-loop.loop.invariant.0 at-wanted.wanted.ensures
     at_front.front.given.0 at-arrive.arrive.result at_more.more.given.0.0 at-arrive.arrive.ensures
     at_more.more.given.1 in
@@ -96,11 +96,11 @@ loop-less c =
     let at-wanted = at-if1.before in
     let at-loop = at-wanted.before.before in
     let z = at-if1.if1.false in
-    let g = read_room at-loop.loop.front at-arrive.arrive.new.0 at-loop.loop.n
+    let g = read_room at-loop.loop.front at-arrive.arrive.new.1.0 at-loop.loop.n
     at-wanted.wanted.result at-loop.loop.invariant.1 at-loop.loop.invariant.0 at-wanted.wanted.ensures
     at_front.front.given.0 at-arrive.arrive.result at_more.more.given.0.0 at-arrive.arrive.ensures
     at_more.more.given.1 in
-    let k = read_some at-loop.loop.front at-arrive.arrive.new.0 at-loop.loop.n
+    let k = read_some at-loop.loop.front at-arrive.arrive.new.1.0 at-loop.loop.n
     at-wanted.wanted.result at-loop.loop.invariant.1 at-loop.loop.invariant.0 at-wanted.wanted.ensures
     at_front.front.given.0 at-arrive.arrive.result at_more.more.given.0.0 at-arrive.arrive.ensures
     at_more.more.given.1 (omega arith) in
@@ -113,9 +113,9 @@ loop-again c =
     let at-arrive = at_front.before in
     let at-wanted = at-arrive.before.before.before in
     let at-loop = at-wanted.before.before in (
-      read_long at-loop.loop.front at-arrive.arrive.new.0 at-loop.loop.n at-wanted.wanted.result
+      read_long at-loop.loop.front at-arrive.arrive.new.1.0 at-loop.loop.n at-wanted.wanted.result
           at-loop.loop.invariant.1 at-loop.loop.invariant.0 at-wanted.wanted.ensures at_front.front.given.0,
-      read_more at-loop.loop.front at-arrive.arrive.new.0 at-loop.loop.n at-wanted.wanted.result
+      read_more at-loop.loop.front at-arrive.arrive.new.1.0 at-loop.loop.n at-wanted.wanted.result
           at-loop.loop.invariant.1 at-loop.loop.invariant.0 at-wanted.wanted.ensures at_front.front.given.0
           at-arrive.arrive.result at_more.more.given.0.0 at-arrive.arrive.ensures at_more.more.given.1,
     )
@@ -133,9 +133,9 @@ returns_2 c =
     let at-if1 = at-arrive.before.before in
     let at-wanted = at-if1.before in
     let at-loop = at-wanted.before.before in (
-      read_none at-loop.loop.front at-arrive.arrive.new.0 at-loop.loop.n at-wanted.wanted.result
+      read_none at-loop.loop.front at-arrive.arrive.new.1.0 at-loop.loop.n at-wanted.wanted.result
           at-loop.loop.invariant.1 at-loop.loop.invariant.0 at-wanted.wanted.ensures at_front.front.given.0,
-      read_short at-loop.loop.front at-arrive.arrive.new.0 at-loop.loop.n at-wanted.wanted.result
+      read_short at-loop.loop.front at-arrive.arrive.new.1.0 at-loop.loop.n at-wanted.wanted.result
           at-loop.loop.invariant.1 at-loop.loop.invariant.0 at-wanted.wanted.ensures at_front.front.given.0
           at-if1.if1.false,
     )
