@@ -44,8 +44,8 @@ first_at : (p : ℕ × ℕ) → ◌≡◌ {A = ℕ × ℕ} (p.0, 0 * 8 + p.1) p
 first_at p = ap (λ (o : ℕ). (p.0, o)) (let e : 0 * 8 + p.1 ≡ p.1 = omega arith in e)
 
 -- the slice `&x[0..n]`
-abbrev beginning : Bor (List ℕ) → ℕ → ℕ → Bor (List ℕ)
-beginning x n γ = record { ref_ptr = (x.ref_ptr.0, 0 * 8 + x.ref_ptr.1); ghost_name = γ; now = take (n - 0) x.now }
+abbrev beginning : Bor (List ℕ) → ℕ → Bor (List ℕ)
+beginning x n = record { ref_ptr = (x.ref_ptr.0, 0 * 8 + x.ref_ptr.1); now = take (n - 0) x.now }
 
 module _ (s : State) (a b : Bor (List ℕ)) (q : PartCode)
     (e : part_of q ≡ view_part (state_of s) (length a.now) (length b.now)) where
@@ -62,10 +62,10 @@ module _ (s : State) (a b : Bor (List ℕ)) (q : PartCode)
   unfolding choose
   fits_1 z = rw (ne_eqb q.area 0 z) at within
 
-  shown : (x : Bor (List ℕ)) (γ : ℕ) → x.ref_ptr ≡ choose (eqb q.area 0) a.ref_ptr b.ref_ptr
-      → x.now ≡ choose (eqb q.area 0) a.now b.now → Viewed s a b (beginning x q.words γ)
+  shown : (x : Bor (List ℕ)) → x.ref_ptr ≡ choose (eqb q.area 0) a.ref_ptr b.ref_ptr
+      → x.now ≡ choose (eqb q.area 0) a.now b.now → Viewed s a b (beginning x q.words)
   unfolding words_in
-  shown x γ f h =
+  shown x f h =
       let n : q.words - 0 ≡ q.words = omega arith in
       record {
         begins = first_at x.ref_ptr ∙ f ∙ ap (λ (p : Part). choose (eqb p.area 0) a.ref_ptr b.ref_ptr) e;
@@ -75,10 +75,10 @@ module _ (s : State) (a b : Bor (List ℕ)) (q : PartCode)
             ∙ sym (view.view_in (monitor_of s a.now b.now) (part_of q) (sym e));
       }
 
-  pub viewed_0 : (γ : ℕ) → q.area ≡ 0 → Viewed s a b (beginning a q.words γ)
+  pub viewed_0 : q.area ≡ 0 → Viewed s a b (beginning a q.words)
   unfolding choose
-  viewed_0 γ z = shown a γ (rw (eq-eqb q.area 0 z)) (rw (eq-eqb q.area 0 z))
+  viewed_0 z = shown a (rw (eq-eqb q.area 0 z)) (rw (eq-eqb q.area 0 z))
 
-  pub viewed_1 : (γ : ℕ) → (q.area ≡ 0 → ⊥) → Viewed s a b (beginning b q.words γ)
+  pub viewed_1 : (q.area ≡ 0 → ⊥) → Viewed s a b (beginning b q.words)
   unfolding choose
-  viewed_1 γ z = shown b γ (rw (ne_eqb q.area 0 z)) (rw (ne_eqb q.area 0 z))
+  viewed_1 z = shown b (rw (ne_eqb q.area 0 z)) (rw (ne_eqb q.area 0 z))
