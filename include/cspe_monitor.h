@@ -1,10 +1,10 @@
 /*
  * A runtime monitor for tables in the process algebra CSP_E, as a static library for C: of document 01 Read, Write,
  * Feed, Offer and View, and of document 02 the office's lot sheet (W2), Try (W4), Feed in wash hours (W5) and Open
- * (W7); tables have up to 128 events (W6). `rt staticlib monitor_c` proves and writes it
- * (target/staticlib/libmonitor_c.a, for x86-64 Linux). Each function is proved to return, and to leave in every word
- * that it is lent, what crates/words_spec/specs defines (of cspe_sheet crates/sheet_words/specs, of cspe_timed_feed
- * crates/wash_words/specs), on every input: no call has a condition but those below.
+ * (W7); tables have up to 128 events (W6). `tools/build monitor_c` proves and writes it
+ * (crates/monitor_c/out/libmonitor_c.a, for x86-64 Linux). Each function is proved to return, and to leave in every
+ * word that it is lent, what crates/words_spec/specs defines (of cspe_sheet crates/sheet_words/specs, of
+ * cspe_timed_feed crates/wash_words/specs), on every input: no call has a condition but those below.
  *
  * What is lent. Every buffer is the caller's, and is lent for one call: a pointer, and after it how many elements it
  * points to. A pointer is aligned for its type and is never NULL, also where its length is 0. A buffer that a call may

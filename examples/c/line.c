@@ -4,8 +4,8 @@
  * that were. It prints a line for each event, and ends with status 1 at the first answer that is not the expected one.
  * In the repository's root:
  *
- *     rt staticlib monitor_c
- *     cc -std=c99 -O2 -Iinclude -o target/line examples/c/line.c target/staticlib/libmonitor_c.a
+ *     tools/build monitor_c
+ *     cc -std=c99 -O2 -Iinclude -o target/line examples/c/line.c crates/monitor_c/out/libmonitor_c.a
  *     target/line
  */
 #include <stdio.h>

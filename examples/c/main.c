@@ -4,8 +4,8 @@
  * for another table: by the peak of a trial lot, with which a monitor is opened in one go. It prints a line for each
  * call, and ends with status 1 at the first answer that is not the expected one. In the repository's root:
  *
- *     rt staticlib monitor_c
- *     cc -std=c99 -O2 -Iinclude -o target/example examples/c/main.c target/staticlib/libmonitor_c.a
+ *     tools/build monitor_c
+ *     cc -std=c99 -O2 -Iinclude -o target/example examples/c/main.c crates/monitor_c/out/libmonitor_c.a
  *     target/example
  */
 #include <inttypes.h>

@@ -2,8 +2,8 @@
  * The lot sheet from C: a lot book of three records is written, number by number, and its sheet is printed; then each
  * refusal is met. It ends with status 1 at the first answer that is not the expected one. In the repository's root:
  *
- *     rt staticlib monitor_c
- *     cc -std=c99 -O2 -Iinclude -o target/sheet examples/c/sheet.c target/staticlib/libmonitor_c.a
+ *     tools/build monitor_c
+ *     cc -std=c99 -O2 -Iinclude -o target/sheet examples/c/sheet.c crates/monitor_c/out/libmonitor_c.a
  *     target/sheet
  */
 #include <inttypes.h>

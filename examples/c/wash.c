@@ -3,8 +3,8 @@
  * the event 3 over and over. Events with their minutes go through the window and past it; then refusals are met. It
  * ends with status 1 at the first answer that is not the expected one. In the repository's root:
  *
- *     rt staticlib monitor_c
- *     cc -std=c99 -O2 -Iinclude -o target/wash examples/c/wash.c target/staticlib/libmonitor_c.a
+ *     tools/build monitor_c
+ *     cc -std=c99 -O2 -Iinclude -o target/wash examples/c/wash.c crates/monitor_c/out/libmonitor_c.a
  *     target/wash
  */
 #include <inttypes.h>

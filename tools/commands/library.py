@@ -1,6 +1,6 @@
 """The proved library, by ctypes. Nothing else in tools/cspe calls it.
 
-    library     loads it, as a shared object of shared.c over target/staticlib/libmonitor_c.a
+    library     loads it, as a shared object of shared.c over crates/monitor_c/out/libmonitor_c.a
     Monitor     a monitor of a table: fed, asked what it permits, looked into, saved and restored
     most_events the largest alphabet that the reader takes
 
@@ -23,7 +23,7 @@ from notation.numbers import MOST_NUMBER, written
 
 HERE = Path(__file__).resolve().parent
 INSTALLED = HERE.parent / "libcspe.so"
-ARCHIVE = ROOT / "target" / "staticlib" / "libmonitor_c.a"
+ARCHIVE = ROOT / "crates" / "monitor_c" / "out" / "libmonitor_c.a"
 BUILT = ROOT / "target" / "cspe" / "libcspe.so"
 SOURCES = [HERE / "shared.c", ROOT / "include" / "cspe.h", ROOT / "include" / "cspe_monitor.h"]
 MEMORY = 4  # 01, "Residuals": "Memory is four events"
@@ -62,7 +62,7 @@ def shared_object():
     if INSTALLED.exists():
         return INSTALLED
     if not ARCHIVE.exists():
-        raise Stop("the library is not built; `rt staticlib monitor_c` proves and builds it (some minutes, once)")
+        raise Stop("the library is not built; `tools/build monitor_c` proves and builds it (some minutes, once)")
     newest = max(file.stat().st_mtime for file in [ARCHIVE, *SOURCES])
     if not BUILT.exists() or BUILT.stat().st_mtime < newest:
         build(ARCHIVE, BUILT)

@@ -1,4 +1,4 @@
-"""The proof of the program, by `rt check line_monitor`, and the proved program.
+"""The proof of the program, by `tools/build line_monitor`, and the proved program.
 
 When a crate has ended, rt leaves what it says of it in target/log/NAME.out. What rt prints goes to target/try.log.
 """
@@ -44,7 +44,7 @@ def clock(seconds):
 
 
 class Proof:
-    """`rt check line_monitor`, in the background."""
+    """`tools/build line_monitor`, in the background."""
 
     def __init__(self):
         self.waiting = reached()

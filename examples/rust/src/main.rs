@@ -3,7 +3,7 @@
 //! call, the same as `../c/main.c`, and ends with status 1 at the first answer that is not the expected one. With the
 //! word `lots` it prints a lot sheet, as `../c/sheet.c` does. In the repository's root:
 //!
-//!     rt staticlib monitor_c
+//!     tools/build monitor_c
 //!     cargo run --release --offline --manifest-path examples/rust/Cargo.toml
 //!     cargo run --release --offline --manifest-path examples/rust/Cargo.toml -- lots
 mod cspe;

@@ -73,10 +73,11 @@ def commands(lines):
 
 
 def folder(name):
-    """A copy of the repository, in which target/ is the repository's own."""
+    """A copy of the repository, in which crates/ and target/ are the repository's own."""
     copy = Path(name) / "repository"
     shutil.copytree(ROOT, copy, ignore=shutil.ignore_patterns("target", ".git", "crates", "__pycache__"))
-    (copy / "target").symlink_to(ROOT / "target")
+    for own in ("crates", "target"):
+        (copy / own).symlink_to(ROOT / own)
     return copy
 
 

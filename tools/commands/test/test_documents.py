@@ -115,9 +115,9 @@ ASSEMBLE = "python3 tools/drawing assemble --hex one_lane.csp"
 LEAST = {"README.md": 4, "docs/GUIDE.md": 20, "docs/USING.md": 1, "tools/drawing/README.md": 1}
 
 # commands with their output that are not run here: they prove
-NOT_HERE = {"README.md": ("rt check line_monitor",)}
+NOT_HERE = {"README.md": ("tools/build line_monitor",)}
 
-STACK = "cc -std=c11 -O2 -Iinclude -o target/stack tools/stack/main.c target/staticlib/libmonitor_c.a -lpthread"
+STACK = "cc -std=c11 -O2 -Iinclude -o target/stack tools/stack/main.c crates/monitor_c/out/libmonitor_c.a -lpthread"
 
 # a command as a document has it, and how it is run here (None: just so)
 RUN = {
@@ -149,10 +149,10 @@ RUN = {
 GATE = {
     ".ci/run": ".ci/run",
     "rt check NAME": "tools/check-cspe",
-    "rt check line_monitor": "tools/check-cspe",
-    "rt check lot_sheet": "tools/check-cspe",
-    "rt check trace_monitor": "tools/check-cspe",
-    "rt staticlib monitor_c": "tools/check-cspe",
+    "tools/build line_monitor": "tools/check-cspe",
+    "tools/build lot_sheet": "tools/check-cspe",
+    "tools/build trace_monitor": "tools/check-cspe",
+    "tools/build monitor_c": "tools/check-cspe",
     "cargo build --release --offline": "tools/check-reference",
     "tools/check-cspe": ".ci/run",
     "tools/check-examples": ".ci/run",

@@ -8,7 +8,7 @@ from pathlib import Path
 
 from places import EXAMPLES, ROOT, cspe
 
-LIBRARY = ROOT / "target" / "staticlib" / "libmonitor_c.a"
+LIBRARY = ROOT / "crates" / "monitor_c" / "out" / "libmonitor_c.a"
 FLAGS = f"-O1 -Wall -Wextra -pedantic -Werror -I{ROOT / 'include'} -I{EXAMPLES / 'c'}".split()
 COMPILERS = [("gcc", "c", "c99"), ("clang", "c", "c99"), ("g++", "c++", "c++17"), ("clang++", "c++", "c++17")]
 OWN = Path(__file__).parent / "header.c"

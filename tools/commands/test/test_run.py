@@ -179,7 +179,7 @@ class WrongUse(unittest.TestCase):
             with text_of("alphabet 1\nP = STOP\n") as own:
                 found = subprocess.run([tools / "cspe", "run", own], capture_output=True, text=True, check=False)
         self.assertEqual((found.returncode, found.stdout), (3, ""))
-        self.assertIn("the library is not built; `rt staticlib monitor_c` proves and builds it", found.stderr)
+        self.assertIn("the library is not built; `tools/build monitor_c` proves and builds it", found.stderr)
 
     def test_full_disk_and_closed_pipe(self):
         said = {"stdin": subprocess.DEVNULL, "stderr": subprocess.PIPE, "text": True, "check": False, "cwd": ROOT}
