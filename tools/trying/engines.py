@@ -5,7 +5,6 @@ Unproved      the program's own code without its proof, by `rt try`
 Reference     tools/reference, another implementation of document 01
 """
 
-import os
 import re
 import shutil
 
@@ -15,11 +14,8 @@ from trying.drawings import LINE, ROOT
 PROGRAM = "line_monitor"
 PEAK = re.compile(r"peak (\d+)")
 
-# `rt try` says of each way to run a program whether it wrote what is in the file `stdout`, and else what it wrote
-WAY = re.compile(r"^(?:ok|FAIL): ", re.MULTILINE)
-WRITTEN = re.compile(
-    r'^FAIL: .* ended, but did not write what is expected\non standard output, .*, found "(.*)\\n"$', re.MULTILINE
-)
+# the last line of `rt try`: the interpreter and the compiled program wrote the same
+AGREED = re.compile(r"^run=ended status=0 runners=2 ", re.MULTILINE)
 
 
 class NoAnswer(Exception):
@@ -27,43 +23,26 @@ class NoAnswer(Exception):
 
 
 class Unproved:
-    """`rt try` gives a program its file `stdin`, so it is called in a repository of links that has one of its own.
+    """`rt try` gives the program the input that it has itself, and runs it on an interpreter and compiled with checks."""
 
-    `rt try` lets every library that the program reaches use every other: where a module has the name of one of these
-    crates, it says that the front end rejected the crate.
-    """
+    what = "the program's own code, without its proof: rt try, on the interpreter and compiled with checks"
 
-    what = "the program's own code, without its proof: rt try, on the interpreter and compiled three ways"
-
-    def __init__(self, folder, seconds=None):
+    def __init__(self, seconds=None):
         """It has an answer within these seconds, or none."""
         self.seconds = seconds
-        self.folder = folder / "repository"
-        self.own = self.folder / "crates" / PROGRAM
-        self.own.mkdir(parents=True)
-        shutil.copy(ROOT / "crates.txt", self.folder)
-        for crate in (ROOT / "crates").iterdir():
-            if crate.name != PROGRAM:
-                (self.own.parent / crate.name).symlink_to(crate)
-        for part in (ROOT / "crates" / PROGRAM).iterdir():
-            if part.name not in ("stdin", "stdout"):
-                (self.own / part.name).symlink_to(part)
 
     def ask(self, run):
-        shutil.copy(run.input, self.own / "stdin")
         try:
-            room = {**os.environ, "TMPDIR": str(self.folder)}
-            _, text = said(["rt", "try", PROGRAM], self.seconds, cwd=self.folder, env=room)
+            with run.input.open("rb") as data:
+                _, text = said(["rt", "try"], self.seconds, cwd=ROOT / "crates" / PROGRAM, stdin=data)
         except TooLong:
             raise NoAnswer(f"rt try took longer than {self.seconds} s") from None
-        lines = WRITTEN.findall(text)
-        agree = len(set(lines)) == 1 and len(lines) == len(WAY.findall(text)) > 1
-        if not agree or not LINE.fullmatch(lines[0]):
+        lines = [line for line in text.splitlines() if LINE.fullmatch(line)]
+        if len(lines) != 1 or not AGREED.search(text):
             raise NoAnswer(f"rt try says: {text.strip() or 'nothing'}")
         return lines[0]
 
     def peak(self, _):
-        """The program's line does not have it."""
         return None
 
 

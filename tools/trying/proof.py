@@ -1,9 +1,9 @@
-"""The proof of the program, by `tools/build line_monitor`, and the proved program.
+"""The proof of the program, by `rt run` in its crate's folder, and the proved program.
 
-When a crate has ended, rt leaves what it says of it in target/log/NAME.out. What rt prints goes to target/try.log.
+rt says when it begins with a crate, and how the proof ended; crates that stand proved it passes over. What it prints
+goes to target/try.log. It ends by running the program, here on no input.
 """
 
-import os
 import re
 import subprocess
 import time
@@ -14,10 +14,14 @@ from trying.engines import PROGRAM
 
 TARGET = ROOT / "target"
 LOG = TARGET / "try.log"
-BUILT = TARGET / "bin" / PROGRAM
-JOBS = "4"  # crates at a time, more than there may be cores: those of a level differ in length
-DURATION = "about 5 minutes on two idle cores"
-SILENCE = 3  # seconds; while it finds crates unchanged, rt says so of one at least within them
+CRATE = ROOT / "crates" / PROGRAM
+BUILT = CRATE / "out" / PROGRAM
+DURATION = "which takes long the first time"
+
+# in what rt prints: a crate that it begins with, and how its proof ended
+BEGINS = r"rt: chose --jobs \d+ for (\w+)"
+ENDS = r"(logic=proved|logic=not-proved|rt: the library \w+ did not build)\b.*"
+STEP = re.compile(rf"^(?:{BEGINS}|{ENDS})\n", re.MULTILINE)
 
 
 def reached():
@@ -26,7 +30,7 @@ def reached():
     for line in (ROOT / "crates.txt").read_text(encoding="utf-8").splitlines():
         name, colon, words = line.partition("#")[0].partition(":")
         if colon:
-            needs[name.strip()] = words.split()
+            needs[name.split()[0]] = words.split()
     if PROGRAM not in needs:
         raise Stop(f"there is no crate {PROGRAM}; --reference asks tools/reference instead")
     found, open_ = set(), [PROGRAM]
@@ -44,21 +48,19 @@ def clock(seconds):
 
 
 class Proof:
-    """`tools/build line_monitor`, in the background."""
+    """`rt run`, in the background."""
 
     def __init__(self):
-        self.waiting = reached()
-        self.count = len(self.waiting)
-        self.heard = []  # the crates that have ended: when, the name, and what rt said of it
+        self.count = len(reached())
+        self.heard = []  # the crates that have ended: when, the name, and the seconds, or None where it is not proved
+        self.begun = None  # the crate that is being proved, and since when
+        self.read = 0  # how much of the log was looked through
         self.since = time.monotonic()
         self.was_built = BUILT.exists()
         try:
-            (TARGET / "log").mkdir(parents=True, exist_ok=True)
-            for crate in self.waiting:
-                said_of(crate).unlink(missing_ok=True)
+            TARGET.mkdir(exist_ok=True)
             with LOG.open("w", encoding="utf-8") as log:
-                more = {"RT_JOBS": JOBS, **os.environ}
-                self.rt = start(["rt", "check", PROGRAM], cwd=ROOT, env=more, stdout=log, stderr=subprocess.STDOUT)
+                self.rt = start(["rt", "run"], cwd=CRATE, stdout=subprocess.DEVNULL, stderr=log)
         except OSError as error:
             raise Stop(f"the proof cannot be started: {error}") from None
 
@@ -67,44 +69,47 @@ class Proof:
         runs = self.rt.poll() is None
         if not runs and self.rt in CHILDREN:
             CHILDREN.remove(self.rt)
-        for crate in sorted(self.waiting):
-            file = said_of(crate)
-            words = re.findall(rf"^rt: {crate} (.*)$", file.read_text(errors="replace"), re.M) if file.exists() else []
-            if words:
-                self.waiting.remove(crate)
-                self.heard.append((time.monotonic() - self.since, crate, words[-1]))
+        text = LOG.read_text(encoding="utf-8", errors="replace")
+        now = time.monotonic()
+        for step in STEP.finditer(text, self.read):
+            self.read = step.end()
+            name, ending = step.groups()
+            if name:
+                self.begun = name, now
+            elif self.begun:
+                crate, since = self.begun
+                self.heard.append((now - self.since, crate, now - since if ending == "logic=proved" else None))
+                self.begun = None
         return runs
 
     def proved(self):
         return not self.running() and self.rt.returncode == 0
 
     def up_to_date(self):
-        """Whether nothing was left to prove. rt says so of one crate after the other; while it proves, it is silent."""
-        count, since = 0, time.monotonic()
+        """Whether nothing was left to prove. Else rt says soon which crate it begins with."""
         while self.was_built and self.running():
-            if len(self.heard) > count:
-                count, since = len(self.heard), time.monotonic()
-            if time.monotonic() - since > SILENCE:
+            if self.begun or self.heard:
                 return False
             time.sleep(0.05)
-        return self.was_built and self.proved() and all("unchanged" in words for _, _, words in self.heard)
+        return self.was_built and self.proved() and not self.heard
 
     def follow(self):
         """Tells of each crate as it ends, until all are proved."""
-        tell("the proof, with a line for each crate as it ends:")
+        tell("the proof, with a line for each crate that is not proved yet, as it ends:")
         told, runs = 0, True
         while runs:
             runs = self.running()
-            for at, crate, words in self.heard[told:]:
+            for at, crate, seconds in self.heard[told:]:
                 told += 1
-                tell(f"  {clock(at)}  crate {told:2} of {self.count}  {crate:<14} {brief(words)}")
-                if "NOT PROVED" in words:
+                words = "NOT PROVED" if seconds is None else f"{int(seconds):>4} s"
+                tell(f"  {clock(at)}  crate {told:2}  {crate:<14} {words}")
+                if seconds is None:
                     raise Stop(f"{crate} is not proved, so there is no proved program; the log is {shown(LOG)}")
             time.sleep(0.2 if runs else 0)
         if not self.proved():
             last = [line for line in LOG.read_text(errors="replace").splitlines() if line.startswith("rt: ")][-3:]
             raise Stop("\n".join(["there is no proved program; rt says:", *last, f"the log is {shown(LOG)}"]))
-        tell(f"  {clock(time.monotonic() - self.since)}  all proved\n")
+        tell(f"  {clock(time.monotonic() - self.since)}  all {self.count} proved\n")
 
     def ask(self, run):
         try:
@@ -115,15 +120,3 @@ class Proof:
         if not LINE.fullmatch(text.strip()):
             raise Stop(f"the proved program says no line, but: {text.strip() or 'nothing'}")
         return text.strip()
-
-
-def said_of(crate):
-    return TARGET / "log" / f"{crate}.out"
-
-
-def brief(words):
-    """rt's words of a crate: its seconds, or that it was proved before, or else the words."""
-    if "unchanged" in words:
-        return "proved before"
-    seconds = re.fullmatch(r"proved \((\d+) s\)", words)
-    return f"{seconds[1]:>4} s" if seconds else words
