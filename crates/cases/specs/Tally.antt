@@ -1,9 +1,9 @@
 -- What a line makes of a tally, and when a run says `ok` (ours): the cases of a group must be right, or their stored
 -- answers are wrong on purpose and each must be found wrong.
---     outcomeOf               what came of a case
---     malformedAt .. opened   the steps of a tally
---     caseCounted, counted    one case more; one line more that is no comment
---     okAt                    whether `ok` is said at the end
+--     outcome_of              what came of a case
+--     malformed_at .. opened  the steps of a tally
+--     case_counted, counted   one case more; one line more that is no comment
+--     ok_at                   whether `ok` is said at the end
 --     Line, after             a line of a file; the tally after some
 --     Due, AllDue             what may come of a line of a group; of all lines
 -- Assumes nothing.

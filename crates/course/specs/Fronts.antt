@@ -1,6 +1,6 @@
 -- The front of an input: what was opened on it.
---     opened-front, refused-front      what `open_trace` gave of it, through buffers of the right lengths
---     says-started, says-refused       `open_front`
+--     opened_front, refused_front      what `open_trace` gave of it, through buffers of the right lengths
+--     says_started, says_refused       `open_front`
 -- Assumes nothing.
 use Rattle.std.specs.Prelude.{ℕ, ◌≡◌, List, [], take, drop}
 use Rattle.std.proofs.Math.Path.{ap, subst}

@@ -1,6 +1,6 @@
 -- A number in decimal, as bytes in ASCII (ours; 01, "The program and its lines", and 02, W2, print numbers).
 --     decimal          the digits of a number, with no zero in front
---     decimalWithin    of at most so many digits
+--     decimal_within   of at most so many digits
 --     denoted          the number that some digits denote
 --     IsDecimal        some bytes are the digits of a number, by what they denote alone
 -- The laws are in `Decimal/Laws.antt` and `Decimal/Unique.antt`. Assumes nothing.

@@ -1,11 +1,11 @@
 -- What the words of an index say: of an accepted number list, whose table keeps the rules. Each law is what one
 -- accessor of `index` answers.
---     indexed-rules                             the rules
---     terms-few, definitions-few, events-few    what keeps the words inside the work area
---     alphabet-is, definitions-are, terms-are, body_is                 of the table and its definitions
---     kind-is, right_is, called_is, parameter-is, enclosing-is         of a term, by the digits of its word
---     branches-is, reach-is                                            likewise
---     fixed-holds, family-holds                 the words of the row that a prefix or a parallel reads
+--     indexed_rules                             the rules
+--     terms_few, definitions_few, events_few    what keeps the words inside the work area
+--     alphabet_is, definitions_are, terms_are, body_is                 of the table and its definitions
+--     kind_is, right_is, called_is, parameter_is, enclosing_is         of a term, by the digits of its word
+--     branches_is, reach_is                                            likewise
+--     fixed_holds, family_holds                 the words of the row that a prefix or a parallel reads
 -- Assumes nothing.
 use Rattle.std.specs.Prelude.{ℕ, ◌+◌, ◌<◌, ◌≤◌, ◌≡◌, refl, ◌⊎◌, List, length, get_or}
 use Rattle.std.proofs.Common.{arith, sym, ◌∙◌, ⊎_elim}

@@ -1,9 +1,9 @@
 -- Rows as masks, and where the words of a set reference's row stand (01, "Numbers and table": "row v is the set for
 -- parameter v").
---     mask-bit                 bit e of an ascending row's mask says whether the row has e
---     first_bit, second-bit    bit e of a mask is a bit of its first word, or of its second
+--     mask_bit                 bit e of an ascending row's mask says whether the row has e
+--     first_bit, second_bit    bit e of a mask is a bit of its first word, or of its second
 --     RowAt                    the words of a row
---     fixed-row, family-row    the words of a reference's row, by the kind of its set
+--     fixed_row, family_row    the words of a reference's row, by the kind of its set
 -- Assumes nothing.
 use Rattle.std.specs.Prelude.{ℕ, zero, suc, ◌+◌, ◌*◌, ◌/◌, ◌%◌, ◌^◌, ◌-◌, ◌<◌, ◌≤◌, ◌≡◌, refl, true, false, length, get_or, take, eqb}
 use native.Mathlib.Omega.{arith}

@@ -1,5 +1,5 @@
 -- What one read brings (ours; docs/DECISIONS.md, "A line for each event, as it arrives").
---     afterArrival     bytes, the end of the input or a failure; by what `read` answered
+--     after_arrival    bytes, the end of the input or a failure; by what `read` answered
 --     Arrives          the promise of `arrive`
 -- The laws are in `Arrival/Laws.antt`. Assumes nothing.
 use Rattle.std.specs.Prelude.{ℕ, ◌≤◌, ◌<◌, true, cond, ltb, eqb, ℤ, pos, negsuc}

@@ -1,7 +1,7 @@
 -- What one read leaves of a buffer that is being filled, and what it then holds (ours; docs/DECISIONS.md, "An input
 -- that cannot be read gets no line").
 --     Came          what `read` may answer: a failure, or how many bytes came
---     afterRead     from where to read on, or what the buffer holds; by what `read` answered
+--     after_read    from where to read on, or what the buffer holds; by what `read` answered
 --     Parts         a part of a buffer: all of it, or less where the input ended
 --     Fills         the promise of `fill`
 -- The laws are in `Reading/Laws.antt`. Assumes nothing.

@@ -1,9 +1,9 @@
 -- Two stores that are the same below a place.
---     getD-below, take_below, window-below     what lies below it is the same
---     nodes-same                               so are the nodes of a residual
---     window-of-prefix                         a window of what two lists share
---     leaf-same                                so is what stands there of a leaf
---     nodes-drop, nodes-length                 the nodes from one on, as a part of the store; how many they are
+--     get_d_below, take_below, window_below    what lies below it is the same
+--     nodes_same                               so are the nodes of a residual
+--     window_of_prefix                         a window of what two lists share
+--     leaf_same                                so is what stands there of a leaf
+--     nodes_drop, nodes_length                 the nodes from one on, as a part of the store; how many they are
 -- Assumes nothing.
 use Rattle.std.specs.Prelude.{ℕ, zero, suc, ◌+◌, ◌-◌, ◌<◌, ◌≤◌, ◌≡◌, List, [], ◌∷◌, ◌++◌, length, get_or, take, drop}
 use Rattle.std.proofs.Common.{arith, ap, sym, ◌∙◌, append_assoc, take-append-drop, get_or-take, take-take, drop-drop}

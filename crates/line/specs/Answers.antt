@@ -1,8 +1,8 @@
 -- The code's answers as 01 has them (01, "Which form goes where": "Where an answer is an enum, the promises use a
 -- definition"), with what stands in the lent buffers.
---     openSaid, wholeSaid      an answer of `open`, `line` with every lent word
--- A head and a line are said in crate `format`, an answer of `resume` in crate `resuming`. The laws are in `Answers/`, by
--- the ways out of the code: `Opening` and `Whole`. Assumes nothing.
+--     open_said, whole_said    an answer of `open`, `line` with every lent word
+-- A head and a line are said in crate `format`, an answer of `resume` in crate `resuming`. The laws are in `Answers/`,
+-- by the ways out of the code: `Opening` and `Whole`. Assumes nothing.
 use Rattle.std.specs.Prelude.{ℕ, List}
 use Rattle.state.specs.Record.{state_of}
 use Rattle.format.specs.declared.answer.Line as code

@@ -1,7 +1,7 @@
 -- What may be said of an input that is read a buffer at a time (ours): its front, and then pieces of n bytes, until the
 -- input ends or a line stands.
 --     Full                   pieces that fill the buffer
---     frontLeft, pieceEnd    what the front leaves; a piece, where the input ended with it or did not
+--     front_left, piece_end  what the front leaves; a piece, where the input ended with it or did not
 --     Took                   so many events more are taken
 --     Goes, ComesTo          a monitor that goes on after full pieces; a line that is said after some
 --     Judged                 a line that is said of an input, by its front

@@ -1,8 +1,8 @@
 -- An input through lent buffers, whatever stood in them (ours): the line to expect, and the calls that come to it.
---     lentLine       the line of a whole input, or refusal 1
---     resumeNext     one piece more, with the areas and the work words as the call before left them
---     lentPieces     the line of `open`, `resume` on the front's events and on each piece, and `conclude`
---     lentEnds       the same with `after_piece` on each piece
+--     lent_line      the line of a whole input, or refusal 1
+--     resume_next    one piece more, with the areas and the work words as the call before left them
+--     lent_pieces    the line of `open`, `resume` on the front's events and on each piece, and `conclude`
+--     lent_ends      the same with `after_piece` on each piece
 -- The laws are in `Lent/Laws.antt` and, of `lent_ends`, `Lent/Ends.antt`. Assumes nothing.
 use Rattle.std.specs.Prelude.{ℕ, true, false, cond, List, [], ◌∷◌, drop}
 use Rattle.line_spec.specs.Line.{Line, refused, line_of}

@@ -2,9 +2,9 @@
 --     Head, head_of                  an input's table bytes and events, or what is wrong with its length number
 --     HeadWay                       what a head is, by the bytes of the input
 --     Line                          what is printed
---     stateLine, answerLine         of a record; of an answer of Open or Feed
---     freshOn, fresh                Open of an empty list; of 256 slots
---     startedLine, line_of           of a number list and events; of a whole input
+--     state_line, answer_line       of a record; of an answer of Open or Feed
+--     fresh_on, fresh               Open of an empty list; of 256 slots
+--     started_line, line_of          of a number list and events; of a whole input
 -- The laws are in `Line/`: `Laws`; `Heads`, of an input that goes on; `Opened`, of one Open with all events. Assumes
 -- nothing.
 use Rattle.std.specs.Prelude.{ℕ, ◌≤◌, ◌<◌, ◌≡◌, true, false, List, [], ◌++◌, length, take, drop, ltb}

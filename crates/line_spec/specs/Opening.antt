@@ -1,10 +1,10 @@
 -- What `open` gives, with every lent word (ours): the front of an input read into lent buffers, and started.
---     lentFit, lent               whether lent lengths are the program's
+--     lent_fit, lent              whether lent lengths are the program's
 --     OpenAnswer, OpenOutcome     a record with two numbers, or a refusal; with what stands in the lent buffers
---     startedOn, openTable        of a list that was opened; of a table's bytes
---     openInputOf                 of an input
+--     started_on, open_table      of a list that was opened; of a table's bytes
+--     open_input_of               of an input
 --     OpenWay                     its ways, with every lent word of each
---     openCourse, Began           what it leaves, as a course; what holds where there is a record
+--     open_course, Began          what it leaves, as a course; what holds where there is a record
 -- The laws are in `Opening/`: `Laws`, `Front`. Assumes nothing.
 use Rattle.std.specs.Prelude.{ℕ, ◌-◌, ◌≤◌, ◌≡◌, Bool, true, false, ◌&&◌, List, ◌++◌, length, take, drop, eqb}
 use Rattle.table.specs.Table.{Table}

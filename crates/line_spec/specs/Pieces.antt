@@ -1,8 +1,8 @@
 -- The same, of an input in pieces (ours): its front, which has the whole table, and any number of pieces after it.
 --     Course                         a running monitor on a number list, or a line that stands
---     piece_of, concludeOf            after one piece more; the line at the input's end
---     afterPiece                     a course where the input ended, or did not
---     Front, frontOf, feedFront      what Open leaves, with the events of the front; these fed
+--     piece_of, conclude_of           after one piece more; the line at the input's end
+--     after_piece                    a course where the input ended, or did not
+--     Front, front_of, feed_front    what Open leaves, with the events of the front; these fed
 --     pieces_of                       all of it
 -- The laws are in `Pieces/`: `Laws`, `Joined`. Assumes nothing.
 use Rattle.std.specs.Prelude.{ℕ, Bool, cond, List, [], ◌∷◌}

@@ -1,7 +1,7 @@
 -- What `resume` and `line` give, with every lent word (ours): one piece more of a started monitor; a whole input.
---     ResumeOutcome, resumeOf     a course with what stands in the lent buffers; of a piece
+--     ResumeOutcome, resume_of    a course with what stands in the lent buffers; of a piece
 --     LineOutcome                 a line with what stands in them
---     finishOf, whole_of           of a started monitor with all its events; of a whole input
+--     finish_of, whole_of          of a started monitor with all its events; of a whole input
 -- The laws are in `Lent/Laws.antt`. Assumes nothing.
 use Rattle.std.specs.Prelude.{ℕ, List, take, drop}
 use Rattle.monitor_spec.specs.State.{Monitor, Outcome}

@@ -1,7 +1,7 @@
 -- All records of a lot book (02, W2: "Records are checked first to last, then the sum").
 --     sound           whether a record is a good one, after those before it
---     readBook, Book  the records of some bytes, or the index of the first bad one;  bookFrom, bookOf
---     takenSum        "the sum of taken"
+--     read_book, Book  the records of some bytes, or the index of the first bad one;  book_from, book_of
+--     taken_sum       "the sum of taken"
 --     total_of         a sum, where it is at most 2^64-1;  Added: the promise of `add`
 --     judgement       what `judge` answers
 -- The laws are in `Book/Sound.antt`, `Book/Laws.antt` and, of the loop of `judge`, `Book/Judging.antt`.

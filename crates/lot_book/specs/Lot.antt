@@ -1,8 +1,8 @@
 -- One record of a lot book (02, W2: "one record per lot, in numbers of seven-bit groups (here up to ten bytes): lot,
 -- taken, 0 for running or 1 for failed, place (0 if running)").
---     readLot, LotScan   the record at the head of some bytes
---     lotBytes           a record as bytes
---     entry_at            what stands at a position;  foundLot: the answer of `lot_at`, from a scan of the bytes there
+--     read_lot, LotScan  the record at the head of some bytes
+--     lot_bytes          a record as bytes
+--     entry_at            what stands at a position;  found_lot: the answer of `lot_at`, from a scan of the bytes there
 -- The laws are in `Lot/Scans.antt` and, at a position, `Lot/Laws.antt`. Assumes nothing.
 use Rattle.std.specs.Prelude.{ℕ, ◌+◌, List, ◌++◌, drop}
 use Rattle.numbers.specs.Number.{groups, Scan, value, truncated, malformed}

@@ -1,8 +1,8 @@
 -- The numbers of a lot book (02, W2: "in numbers of seven-bit groups (here up to ten bytes)"): those of crate
 -- `numbers`, of nine bytes after the first at most, the last of ten at most 1.
---     scanNumber     the number at the head of some bytes
---     number_at       what stands at a position;  groupsAt: the groups that follow another
---     numberFound          the answer of `read`, from a scan of the bytes at a position
+--     scan_number    the number at the head of some bytes
+--     number_at       what stands at a position;  groups_at: the groups that follow another
+--     number_found         the answer of `read`, from a scan of the bytes at a position
 --     Grouped        the promise of `later`
 -- The laws are in `Number/Laws.antt`. Assumes nothing.
 use Rattle.std.specs.Prelude.{ℕ, ◌+◌, ◌<◌, ◌≡◌, List, drop}

@@ -1,6 +1,6 @@
 -- A lot book by its bytes alone (02, W2): which bytes are those of some records, and which are not. Nothing here says
 -- how a book is read.
---     bookBytes            the records of a book, written one after the other
+--     book_bytes           the records of a book, written one after the other
 --     GoodLot, Ascending   what is asked of a record, and of the lots;  GoodBook: of all records
 --     BadAt                the first bad record of some bytes, and what is wrong with it
 --     NoLot, Wrong         bytes that are no record;  a record that is a bad one, after some others

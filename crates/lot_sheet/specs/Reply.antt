@@ -1,6 +1,6 @@
 -- What the office's program tells of a lot book, and the text that it then prints (ours; 02, W2 has the sheet).
---     TellOutcome, tellSaid    what is told, with the text's bytes
---     tellOf                   of the bytes that were read, and whether they are all of the book
+--     TellOutcome, tell_said   what is told, with the text's bytes
+--     tell_of                  of the bytes that were read, and whether they are all of the book
 --     Fits                     a sheet's bytes stand in the text
 --     ReadInto                 a book and the buffer that it was read into
 --     ToldWay                  what is told of a book, by what it is

@@ -1,5 +1,5 @@
 -- How many records a book has: each is four numbers, of a byte or more.
---     few-records    no more than a quarter of its bytes
+--     few_records    no more than a quarter of its bytes
 -- Assumes nothing.
 use Rattle.std.specs.Prelude.{ℕ, zero, suc, ◌+◌, ◌*◌, ◌≤◌, ◌≡◌, refl, Bool, true, false, cond, List, [], ◌∷◌, length}
 use Rattle.std.proofs.Common.{arith, ap, subst, ◌∙◌, length-drop}

@@ -1,5 +1,5 @@
 -- What is proved of the meaning of a table (000, Figures 1 to 3): statements only. The proofs are in
--- `proofs/Theorems.antt`, under the same names in kebab-case. A term is well formed where each call in it names a
+-- `proofs/Theorems.antt`, under the same names in snake case. A term is well formed where each call in it names a
 -- definition. "Every model" is every way to give terms trace sets that meets Figure 2's equations.
 --     RulesGuarded, RulesScoped            what the figures ask of a table, the rules give
 --     BodyClosed, SubstitutedIsRemembered, MemberIsMember    closed terms and the memory of residuals

@@ -1,7 +1,7 @@
 -- Residuals of closed terms (01, "Residuals", with the events put in for the memory; ours).
 --     pairs                        a parallel over every pair
---     resolveWith, resolveCall     a term resolved, where a call resolves as given; a body, through so many calls
---     resolveClosed, afterEvent    a term of a table resolved; what is left of a resolved term after an event
+--     resolve_with, resolve_call   a term resolved, where a call resolves as given; a body, through so many calls
+--     resolve_closed, after_event  a term of a table resolved; what is left of a resolved term after an event
 --     run, residuals               after a list of events, from a list of residuals and from a term
 -- A residual may be listed twice. The laws are in `ClosedResiduals/Resolved.antt` and `ClosedResidualsHold.antt`.
 -- Assumes nothing.

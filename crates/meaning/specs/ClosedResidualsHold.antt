@@ -1,7 +1,7 @@
 -- A trace is held exactly where its residuals are not none.
 --     Ready                      resolved and well formed
---     after-into, after-out, after-ready    what is left after an event holds just what comes after it
---     run_holds, residuals-hold  of a list of events, from residuals and from a term
+--     after_into, after_out, after_ready    what is left after an event holds just what comes after it
+--     run_holds, residuals_hold  of a list of events, from residuals and from a term
 -- Assumes nothing.
 use Rattle.std.specs.Prelude.{ℕ, Bool, true, false, cond, not, ◌↔◌, T}
 use mathlib.Core.List.{List, [], ◌∷◌, ◌++◌, flat_map}

@@ -1,6 +1,6 @@
 -- A term of the table under a memory is a term of Figure 1 (ours; 01, "Numbers and table": "the event taken by the
 -- k-th enclosing prefix of this definition, the nearest being 0").
---     closeRef, close      the set reference or term, whose own c prefixes are still variables, with the events put in
+--     close_ref, close     the set reference or term, whose own c prefixes are still variables, with the events put in
 --     ScopedRef, Scoped    each parameter is one of the c prefixes around, and at most 3
 -- The laws are in `Closing/Laws.antt`. Assumes nothing.
 use Rattle.std.specs.Prelude.{ℕ, suc, ◌-◌, ◌≤◌, ◌<◌, true, false, ltb}

@@ -2,7 +2,7 @@
 --     Row, rows        a table, a list of events, and whether the last definition holds it
 --     Meant            the table is accepted; every model of Figure 2 and the chains of Figure 3 say what the row says
 --     EachMeant        it holds of each row
---     table_of, abstractB  a table over five sets; 01's table B
+--     table_of, abstract_b  a table over five sets; 01's table B
 -- "failed at n" is two rows: the events without the last are held, with it they are not. How many residuals there are
 -- is a matter of crate monitor_spec. That each row is meant is in `Examples/Laws.antt`. Assumes nothing.
 use Rattle.std.specs.Prelude.{ℕ, Bool, true, false, List, [], ◌∷◌, ◌↔◌, T}

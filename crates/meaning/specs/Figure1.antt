@@ -2,7 +2,7 @@
 -- recursion; the named definitions here are ours").
 --     Arg, SetRef, Term    an event set's parameter: a variable or an event; an event set; a term
 --     plain                a term of the table, its parameters as variables
---     body, bodyCount      the definitions of a table, and how many
+--     body, body_count     the definitions of a table, and how many
 --     last                 the number of the last definition, which is the start
 --     member               e ∈ E
 --     sub                  [e/x]P

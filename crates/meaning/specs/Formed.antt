@@ -1,9 +1,9 @@
 -- The rules give what the figures ask of a table (01, "References"): its bodies are guarded and scoped.
---     guarded-table    a call with no prefix around it names a lower definition number, any other an existing one:
---                      where 7 is not met;  rules-guarded: of a table that meets the rules
---     number-formed    so the term of a number is well formed
---     rules-scoped     each parameter is one of the prefixes around, and at most 3
---     last-exists, body-formed    there is a last definition; bodies are well formed
+--     guarded_table    a call with no prefix around it names a lower definition number, any other an existing one:
+--                      where 7 is not met;  rules_guarded: of a table that meets the rules
+--     number_formed    so the term of a number is well formed
+--     rules_scoped     each parameter is one of the prefixes around, and at most 3
+--     last_exists, body_formed    there is a last definition; bodies are well formed
 -- Assumes nothing.
 use Rattle.std.specs.Prelude.{ℕ, ◌≤◌, ◌<◌, List, ◌≡◌, length, get_or}
 use native.Mathlib.Omega.{arith}

@@ -1,8 +1,8 @@
 -- Figure 2 has a solution, `Holds`, and on well formed terms no other.
 --     parallel→merge, merge→parallel    of prefix-closed sets the parallel is the merges
---     holds-model                       `Holds` solves the equations
---     holds-least, holds-only           every solution holds as much, and on well formed terms no more
---     theorem3-model, lemma5-model      Theorem 3 and Lemma 5 of every solution
+--     holds_model                       `Holds` solves the equations
+--     holds_least, holds_only           every solution holds as much, and on well formed terms no more
+--     theorem3_model, lemma5_model      Theorem 3 and Lemma 5 of every solution
 -- Assumes nothing.
 use Rattle.std.specs.Prelude.{ℕ, zero, suc, ◌<◌, ◌≤◌, Bool, List, [], ◌∷◌, ◌++◌, ◌↔◌, length}
 use Rattle.std.proofs.Common.{arith, inl, inr, ⊎_elim}

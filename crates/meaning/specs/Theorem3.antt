@@ -1,10 +1,10 @@
 -- Theorem 3, Proposition 4 and Lemma 5 (000, 4) of `Holds`, with named definitions.
---     guarded-more, guarded-sub     a larger bound; [e/x]P has the calls of P
---     doomed-empty                  a doomed term holds no trace
---     silent-sound, visible-sound, visible-complete    what a step does to the traces
---     term-decided                  a term is doomed or holds the empty trace, where the bodies that it calls are or do
---     doomed-or-holds               a well formed term is doomed or holds the empty trace
---     step-formed, chain-formed     steps keep a term well formed
+--     guarded_more, guarded_sub     a larger bound; [e/x]P has the calls of P
+--     doomed_empty                  a doomed term holds no trace
+--     silent_sound, visible_sound, visible_complete    what a step does to the traces
+--     term_decided                  a term is doomed or holds the empty trace, where the bodies that it calls are or do
+--     doomed_or_holds               a well formed term is doomed or holds the empty trace
+--     step_formed, chain_formed     steps keep a term well formed
 --     theorem3, lemma5              the theorem; the lemma
 -- Not here: every model (`Models.antt`), silent steps and doom (`Doom.antt`). Assumes nothing.
 use Rattle.std.specs.Prelude.{ℕ, zero, suc, ◌<◌, ◌≤◌, List, [], ◌∷◌, ◌++◌, ◌↔◌, ◌⊎◌}

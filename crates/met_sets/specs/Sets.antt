@@ -1,6 +1,6 @@
 -- Residual sets kept by number, and the transitions known between them (ours: a lazy automaton, as regular expression
 -- engines have, of the sets that one call meets).
---     countAt, slotsAt    how many slots a set has; its slots: "An area holds slots ascending by first differing word"
+--     count_at, slots_at  how many slots a set has; its slots: "An area holds slots ascending by first differing word"
 --     Shape               the starts ascend within the room; a transition known is to a set kept
 --     SetStands           the slots of a set are within the words
 --     Stored              a set is the slots of proper residuals, at most so many
@@ -9,8 +9,8 @@
 --     KeptBy              the promise of `keep`
 -- The set number i has the slots from the one at starts[i] up to the one at starts[i + 1] of the words `sets`, and
 -- next[i * A + e] is 1 + the number of the set that follows it after event e, or 0 where that is not known; A is the
--- alphabet's size. The laws are in `Sets/`: `Words`, of the words stored; `Laws`, of the sets; `Added`, of one set more.
--- Assumes nothing.
+-- alphabet's size. The laws are in `Sets/`: `Words`, of the words stored; `Laws`, of the sets; `Added`, of one set
+-- more. Assumes nothing.
 use Rattle.std.specs.Prelude.{ℕ, suc, ◌+◌, ◌-◌, ◌*◌, ◌≤◌, ◌<◌, ◌≡◌, List, length, get_or, set, drop, replicate}
 use Rattle.table.specs.Rows.{alphabet_most}
 use Rattle.slots.specs.Insertion.{stored}

@@ -2,7 +2,7 @@
 -- of calls, inconsistent states; refusals 1 and 10 to 13 with their places.
 --     Case, is         what was got beside what is expected
 --     fed              Feed on a record and two areas as they are
---     afterOpen        an Open and a list of calls;  afterFirst: with a list of its own
+--     after_open       an Open and a list of calls;  after_first: with a list of its own
 -- Assumes nothing.
 use Rattle.std.specs.Prelude.{ℕ, ◌+◌, ◌*◌, ◌≡◌, List, [], ◌∷◌, ◌++◌, map, replicate}
 use Rattle.std.proofs.Math.Option.{Option, none, some}

@@ -1,7 +1,7 @@
 -- What an ending answers, and when an event stops the call: 11, 12 or 13, exactly. Assumes nothing.
---     none-answer, some-answer, ending-given, ending-stopped   an ending's answer, from its reason and back;
---                                                              ending-refused: it always has a record
---     stops-out, stops-in                                      the event's refusal, on the monitor that a list calls
+--     none_answer, some_answer, ending_given, ending_stopped   an ending's answer, from its reason and back;
+--                                                              ending_refused: it always has a record
+--     stops_out, stops_in                                      the event's refusal, on the monitor that a list calls
 --                                                              for
 use Prim.Native.Nat.{ℕ, ◌≤◌}
 use native.Mathlib.Omega.{arith}

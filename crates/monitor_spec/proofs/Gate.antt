@@ -1,8 +1,8 @@
 -- What stands before a call's events or Offer's word: 1 for lent lengths, 2 to 9 for the table, 10 for the monitor, or
 -- none of them.
---     entrance-1, entrance-table, entrance-10, entrance-open  what an operation enters by
+--     entrance_1, entrance_table, entrance_10, entrance_open  what an operation enters by
 --     Gate, gate        one of the four
---     refused-exactly   an operation that refuses at the first three refuses exactly so
+--     refused_exactly   an operation that refuses at the first three refuses exactly so
 -- Assumes nothing.
 use Prim.Native.Nat.{ℕ}
 use mathlib.Core.Path.{◌≡◌, refl, sym, ◌∙◌}

@@ -1,8 +1,8 @@
 -- Open on every input: its refusals without a record, and what stands in the lent buffers, case by case. What its list
 -- comes to is in `Runs.antt`, the empty list in `Settled.antt`.
---     open-refused                          refusals without a record, exactly
+--     open_refused                          refusals without a record, exactly
 --     opens                                 an answer with a record
---     open-work, open-keeps, open-zeroes    what stands in the lent buffers
+--     open_work, open_keeps, open_zeroes    what stands in the lent buffers
 -- Assumes nothing.
 use Prim.Native.Nat.{ℕ, ◌-◌, ◌*◌, ◌/◌, ◌≤◌}
 use native.Mathlib.Omega.{arith}

@@ -1,6 +1,6 @@
 -- What an Open's list comes to: 11, 12 or 13 at an event, or every event is taken; and which Opens gave a record.
---     open-stops, open_gives      by conditions, on every input
---     open-begins                 the Opens that gave a record
+--     open_stops, open_gives      by conditions, on every input
+--     open_begins                 the Opens that gave a record
 -- Assumes nothing.
 use Prim.Native.Nat.{ℕ, ◌≤◌}
 use mathlib.Core.Path.{◌≡◌, refl, ap, sym, subst, ◌∙◌}

@@ -1,6 +1,6 @@
 -- Open of an empty list gives the settled monitor, and Open of a list is Feed on that.
---     open-fresh      by conditions, on every input
---     open-feeds      Open of a list
+--     open_fresh      by conditions, on every input
+--     open_feeds      Open of a list
 -- Assumes nothing.
 use Prim.Native.Nat.{ℕ, max, ◌≤◌}
 use native.Mathlib.Omega.{arith}

@@ -1,9 +1,9 @@
 -- Try on every input, from Feed; and along a history, where none of 2 to 10 is met.
---     alike-in, alike-out, unlike-in           the test of the further areas' lengths
---     as_copy, is-unlike                       the whole outcome
---     try-refused, try-stops, try-gives        by conditions
---     try-work, try-keeps                      what stands in the lent buffers
---     foretells, tried-call                    along a history
+--     alike_in, alike_out, unlike_in           the test of the further areas' lengths
+--     as_copy, is_unlike                       the whole outcome
+--     try_refused, try_stops, try_gives        by conditions
+--     try_work, try_keeps                      what stands in the lent buffers
+--     foretells, tried_call                    along a history
 -- Assumes nothing.
 use Prim.Native.Nat.{ℕ, ◌≤◌}
 use mathlib.Core.Path.{◌≡◌, refl, ap, sym, subst, ◌∙◌}

@@ -1,5 +1,5 @@
 -- When state and area agree (01, "Disturbed"; inconsistent is 01's disturbed).
---     recordFits, areaFits    of the record alone; of the present area
+--     record_fits, area_fits  of the record alone; of the present area
 --     consistent              refusal 10 is not met
 -- What it says of the residuals held is in `Consistent/Reading.antt`, that Feed keeps it in `Consistent/Laws.antt`.
 -- Assumes nothing.

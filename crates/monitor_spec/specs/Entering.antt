@@ -3,7 +3,7 @@
 --     Entrance                refused, by number, place and the work words then; or the table
 --     measuring, judging      1, for lent lengths; 2 to 9, for the table
 --     entrance                both, in this order
---     agreeing, entranceOn    10, for a monitor; all, in this order
+--     agreeing, entrance_on   10, for a monitor; all, in this order
 --     entering                what an operation makes of a refusal, and of a table
 --     refusing                a refusal that keeps the areas
 -- The laws are in `Entering/Laws.antt`. Assumes nothing.

@@ -1,5 +1,5 @@
 -- 01, "Drawings on the wall": K1 to K12 as rows of one statement, each through one Open on a number list.
---     Row, rows, saysAll    a list, its events and what is answered; the rows; that each is answered so
+--     Row, rows, says_all   a list, its events and what is answered; the rows; that each is answered so
 --     opening               the answer of an Open with so many slots
 -- Assumes nothing.
 use Rattle.std.specs.Prelude.{ℕ, ◌*◌, ◌≡◌, List, [], ◌∷◌, map}

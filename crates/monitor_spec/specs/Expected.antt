@@ -1,7 +1,7 @@
 -- The monitor that a list of events calls for, from the residuals alone (ours; 01, "Operations", "Joined events").
---     verdictFrom      running, or failed at the length of the first beginning with no residual
---     recordOf         the record of a list;  monitorAfter: record and areas after a list, with n slots
---     verdictOnward, peakOnward, recordOnward, monitorOnward
+--     verdict_from     running, or failed at the length of the first beginning with no residual
+--     record_of        the record of a list;  monitor_after: record and areas after a list, with n slots
+--     verdict_onward, peak_onward, record_onward, monitor_onward
 --                      the same from any record and residuals held
 -- The laws are in `Expected/`: `Verdicts`, `Peaks`, `Records`, `Laid`, `Steps`; from any residuals, in
 -- `Progress/Laws.antt`. Assumes nothing.

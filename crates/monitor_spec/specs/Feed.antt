@@ -1,8 +1,8 @@
 -- Feed: its whole outcome (01, "Operations", "When the monitor declines").
---     presentSlots, nextSlots   the slots held; those of the residuals after an event
---     eventRefused              one event: refusal 11, 12 or 13, or none
---     takeEvent                 the monitor after it, or the refusal
---     feedOf                    answer, areas and work words of a call
+--     present_slots, next_slots  the slots held; those of the residuals after an event
+--     event_refused             one event: refusal 11, 12 or 13, or none
+--     take_event                the monitor after it, or the refusal
+--     feed_of                   answer, areas and work words of a call
 -- The laws are in `Feed/Laws.antt`. Assumes nothing.
 use Rattle.std.specs.Prelude.{ℕ, true, false, List, [], length, eqb, leb, ltb}
 use Rattle.std.proofs.Math.Option.{Option, none, some}

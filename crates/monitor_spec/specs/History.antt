@@ -1,8 +1,8 @@
 -- A monitor along an Open and a list of feeding calls, and what demand 3 says of it (00, demand 3; 01, "Lists of
 -- calls"; 02, W7).
 --     afterwards           a monitor after an outcome
---     callOn, history      a monitor after one call; after a list of calls
---     recordIn, Opened     the record in an answer, if any; what an Open gave
+--     call_on, history     a monitor after one call; after a list of calls
+--     record_in, Opened    the record in an answer, if any; what an Open gave
 --     ShortestOutside      the length of a list's shortest beginning outside a trace set
 --     GreatestOver         the greatest value over a list's beginnings
 --     HoldsJust, Leaves    count, present area and other area are those of residuals; record and areas are an

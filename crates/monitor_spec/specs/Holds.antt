@@ -1,7 +1,7 @@
 -- An area as the operations read it (01, "Residuals": "An area holds slots ascending by first differing word, then
 -- zeros").
 --     AreaHolds     an area that holds the slots of proper residuals, so many
---     heldIn        the residuals that so many slots of an area hold
+--     held_in       the residuals that so many slots of an area hold
 -- The laws are in crate step_laws, `HeldAreas.antt`. Assumes nothing.
 use Rattle.std.specs.Prelude.{ℕ, ◌≤◌, ◌≡◌, List, length}
 use Rattle.numbers.specs.Every.{All}

@@ -1,7 +1,7 @@
 -- Lists of calls and their joined events (01, "Lists of calls", "Joined events"; 02, W7). From those paragraphs alone:
 -- nothing here knows of an operation's answers.
 --     Call             a call's own events and work area: an Open's, a feeding call's
---     residualCount    how many residuals a list has
+--     residual_count   how many residuals a list has
 --     halts            the call stops before this event
 --     extend, joined   the list after one call's events; after an Open and a list of feeding calls
 -- Assumes nothing.

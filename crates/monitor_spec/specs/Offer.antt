@@ -1,9 +1,9 @@
 -- Offer: its whole outcome (01, "Operations"; 02, W6: "Offer gives two words, events 0 to 63 in the first").
 --     EventBits             the two words
---     wordBits              how many events a word has bits for
---     bitsFrom, wordFrom    the bits of k events from b on; of as many as a word has room for
---     allBits, offerBits    both words, of the residuals held and by the verdict
---     offerOf               answer, areas and work words of a call
+--     word_bits             how many events a word has bits for
+--     bits_from, word_from  the bits of k events from b on; of as many as a word has room for
+--     all_bits, offer_bits  both words, of the residuals held and by the verdict
+--     offer_of              answer, areas and work words of a call
 -- The laws are in `Offer/Laws.antt`. Assumes nothing.
 use Rattle.std.specs.Prelude.{ℕ, zero, suc, ◌+◌, ◌-◌, ◌^◌, min, List, [], ◌∷◌, length}
 use Rattle.table.specs.Table.{Table}

@@ -1,8 +1,8 @@
 -- Open: its whole outcome (02, W7: "Start and the first Feed become one operation, Open, with a list of events"; 01,
 -- "Operations").
---     freshMonitor      the settled monitor: before any event, with n slots
---     openAccepted      settling, and then Feed's run, of an accepted table
---     openOf            answer, areas and work words of a call
+--     fresh_monitor     the settled monitor: before any event, with n slots
+--     open_accepted     settling, and then Feed's run, of an accepted table
+--     open_of           answer, areas and work words of a call
 -- The laws are in `Open/Laws.antt`. Assumes nothing.
 use Rattle.std.specs.Prelude.{ℕ, true, false, ◌&&◌, List, [], length, ltb}
 use Rattle.table.specs.Table.{Table}

@@ -1,10 +1,10 @@
 -- The state record, the lent areas and what an operation answers (01, "Operations", "When the monitor declines").
 --     Verdict, State, Monitor          running or failed at a place; the record; the record with both areas
 --     counted, holding                 one event more is taken; so many residuals are held
---     freshState, stateAfter           the record before any event; the record after one event more
+--     fresh_state, state_after         the record before any event; the record after one event more
 --     Answer, Outcome                  a result, a refusal, a refusal with a record; the answer with all lent words
---     lengthsFit, areasMeasured        the lengths of both areas, as numbers; of the areas
---     workMeasured, slotCount          the length of the work area; how many slots an area has
+--     lengths_fit, areas_measured      the lengths of both areas, as numbers; of the areas
+--     work_measured, slot_count        the length of the work area; how many slots an area has
 --     even, choose                     which area is present
 --     chunks, fill, laid               an area's slots; slots and then zeros; a record with its slots laid out
 -- The laws are in `State/`: `Records`, `Areas`. Assumes nothing.

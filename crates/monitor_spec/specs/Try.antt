@@ -1,8 +1,8 @@
 -- Try: what Feed would do, on a copy (02, W4). The areas of its outcome are the two further ones: the first two are
 -- lent to be read, so "the first two are kept".
---     furtherMeasured    lent lengths of the further areas
---     leftIn, onCopy     a further area, and both, by what Feed does
---     tryOf              answer, further areas and work words of a call
+--     further_measured   lent lengths of the further areas
+--     left_in, on_copy   a further area, and both, by what Feed does
+--     try_of             answer, further areas and work words of a call
 -- The laws are in `Try/Laws.antt`. Assumes nothing.
 use Rattle.std.specs.Prelude.{ℕ, Bool, true, false, ◌&&◌, List, length, eqb}
 use Rattle.monitor_spec.specs.State.{Monitor, Answer, given, refused, stopped, Outcome}

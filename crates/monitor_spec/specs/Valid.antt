@@ -1,8 +1,8 @@
 -- Valid slots, and the residuals that slots hold (01, "Disturbed": "A valid slot is one whole residual tree ..").
---     forest, slotResidual    the trees that node words spell, read from the last word; the residual of a slot
+--     forest, slot_residual   the trees that node words spell, read from the last word; the residual of a slot
 --     held                    the residuals of slots
---     memoriesFit, reachSum   of a residual: its memories are as the terms allow; the leaves' reach
---     validSlot               all of it
+--     memories_fit, reach_sum  of a residual: its memories are as the terms allow; the leaves' reach
+--     valid_slot              all of it
 -- The laws are in `Valid/`: `Packing`, `Laws`, `Residuals`. Assumes nothing.
 use Rattle.std.specs.Prelude.{ℕ, ◌+◌, Bool, true, false, ◌&&◌, ◌||◌, List, [], ◌∷◌, take, eqb, ltb, leb}
 use Rattle.std.proofs.Math.Option.{Option, none, some}

@@ -1,8 +1,8 @@
 -- A node word: a term's number and four events in one number (01, "Residuals").
---     digitBits, digitBound    the bits of an event in a word; the events below which it has room for
---     memoryBound              below which the words of term 0 are
+--     digit_bits, digit_bound  the bits of an event in a word; the events below which it has room for
+--     memory_bound             below which the words of term 0 are
 --     pack                     the word of a term's number and a memory
---     termOfWord, memoryOf     the number and the memory of a word
+--     term_of_word, memory_of  the number and the memory of a word
 --     Digits                   the events of a memory have room in a word
 -- The laws are in `Word/Laws.antt`. This crate's laws and proofs alone, and rows, look into these definitions. Assumes
 -- nothing.

@@ -1,7 +1,7 @@
 -- Conditionals and computed tests, by cases. No function of 01 stands here.
 --     cond_cases                a property of a conditional's value, from its two branches
---     T_true, true-T            a test that holds is true, and back
---     both, both-in             a conjunction taken apart, and made
+--     T_true, true_T            a test that holds is true, and back
+--     both, both_in             a conjunction taken apart, and made
 --     either, either_left/right a disjunction taken apart, and made
 -- Assumes nothing.
 use Rattle.std.specs.Prelude.{◌≡◌, refl, ◌⊎◌, T}

@@ -1,7 +1,7 @@
 -- What holds of every element of a list, plain and with its index. No function of 01 stands here.
 --     All            a property of each element
 --     AllFrom        a property of each element and its index, counted from a start
---     all-imp, all-and, all_append, all_right, all-at    its laws;  from-imp, from-and, from_at: those with an index
+--     all_imp, all_and, all_append, all_right, all_at    its laws;  from_imp, from_and, from_at: those with an index
 -- Assumes nothing.
 use Rattle.std.specs.Prelude.{ℕ, zero, suc, ◌+◌, ◌<◌, ◌≡◌, List, [], ◌∷◌, ◌++◌, length, get_or}
 use Rattle.std.proofs.Common.{arith}

@@ -1,9 +1,9 @@
 -- A number's bytes (01, "Numbers and table": "A number is written in groups of seven bits").
 --     groups, bytes_of       the bytes of a number, with a given count of bytes that may follow the first, and with two
---     scanWith, readNumber  the number at the head of some bytes, likewise;  Scan: what stands there
+--     scan_with, read_number  the number at the head of some bytes, likewise;  Scan: what stands there
 --     value_of               the number that groups of seven bits give
---     byte_count, listBytes  how many bytes a number takes; the bytes of a list of numbers
---     limitOf               the first number that no longer fits
+--     byte_count, list_bytes  how many bytes a number takes; the bytes of a list of numbers
+--     limit_of              the first number that no longer fits
 --     Scanned               what was read is just what would be written
 --     InGroups              some bytes are those of a number, by 01's sentence alone
 --     Incomplete            bytes that end within a number;  IllWritten: bytes with no number at their head, nor the

@@ -1,6 +1,6 @@
 -- A number at a position of some bytes: what `read` and `write` answer (01, "Numbers and table").
---     readAt        what stands at a position;  found: the answer, from a scan of the bytes there
---     refusalNumber 01's number of each answer of `read`
+--     read_at       what stands at a position;  found: the answer, from a scan of the bytes there
+--     refusal_number 01's number of each answer of `read`
 --     end_at         what writing a number at a position answers
 --     stored_at      the bytes after that
 --     Stores        the promise of `write`

@@ -1,9 +1,9 @@
 -- What holds of some element of a list, and of every element of a list that is mapped or flattened. No function of 01
 -- stands here.
 --     Any                          a property of some element
---     any-imp, any-all, any_out    its laws
---     any-append-*, any-map, any-unmap, any-flat, flat-any    by how the list is made
---     all_map, all-flat            of every element;  `Every` has the other laws of `All`
+--     any_imp, any_all, any_out    its laws
+--     any_append_*, any_map, any_unmap, any_flat, flat_any    by how the list is made
+--     all_map, all_flat            of every element;  `Every` has the other laws of `All`
 -- Assumes nothing.
 use mathlib.Core.List.{List, [], ◌∷◌, ◌++◌, map, flat_map}
 use Rattle.std.specs.Prelude.{◌⊎◌}

@@ -1,8 +1,8 @@
 -- Residuals and what is left of them after events (01, "Residuals"; settling is resolving here).
 --     Residual                       a leaf or a pair, each a term number with its memory
---     resolveIn, resolveDef, resolve a term; a definition's body; the term of a number
---     after, afterAll, run           a residual, a list of residuals after an event; after a list of events
---     fromDefinition, residualsOf    the residuals of a list of events: from a definition, from the last one
+--     resolve_in, resolve_def, resolve a term; a definition's body; the term of a number
+--     after, after_all, run          a residual, a list of residuals after an event; after a list of events
+--     from_definition, residuals_of  the residuals of a list of events: from a definition, from the last one
 -- A list may have a residual twice: `Slots.antt` holds each once. The laws are in `Residual/`: `Calls` ("call the
 -- settled body"), `Counts` (how many there are). What residuals stand for is in crate monitor_spec. Assumes nothing.
 use Rattle.std.specs.Prelude.{ℕ, zero, suc, ◌+◌, true, false}

@@ -1,5 +1,5 @@
 -- Residuals as words (01, "Residuals").
---     nodes, nodesAll, slot_of    a residual's node words; those of residuals one after the other; its slot
+--     nodes, nodes_all, slot_of   a residual's node words; those of residuals one after the other; its slot
 --     slots_of                    the slots of a list of residuals, ascending, each once
 -- The order of slots stands in slots/specs/Canon; the laws are in `Slots/Laws.antt`. Assumes nothing.
 use Rattle.std.specs.Prelude.{ℕ, ◌-◌, List, [], ◌∷◌, ◌++◌, map, length, replicate}

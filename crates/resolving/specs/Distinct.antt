@@ -2,10 +2,10 @@
 -- taken once, before pairs are formed with it.
 --     same_words             whether two lists of words are equal
 --     window                some words of a list
---     isKept, kept          whether one of the indices has this slot; the indices whose slots did not occur before
---     keyFrom               a number that equal lists of words share
+--     is_kept, kept         whether one of the indices has this slot; the indices whose slots did not occur before
+--     key_from              a number that equal lists of words share
 --     slot_at, Resolvable    the slot of the i-th residual of a term; what resolving all of a term's residuals asks
---     Known, heldSlots      the keys of slots kept, and the first eight slots; one slot more
+--     Known, held_slots     the keys of slots kept, and the first eight slots; one slot more
 --     Stored                indices stored in a list
 -- The laws are in `Distinct/Laws.antt`; those of the code are in `Distinct/Words.antt` and
 -- `Distinct/Keeping.antt`. Assumes nothing.

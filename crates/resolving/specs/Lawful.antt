@@ -1,8 +1,8 @@
 -- What the step leans on, of the table of an index (01, "References", "Openings").
 --     Below             the calls of a term with no prefix around them name definitions below a number
 --     Lawful, lawful    calls, nesting and branches of an accepted table, by number; `lawful_rules`: of its rules
---     event-small       an event of such a table has room in a node word
---     follower-in       the number after a prefix's is a term's
+--     event_small       an event of such a table has room in a node word
+--     follower_in       the number after a prefix's is a term's
 -- Assumes nothing.
 use Rattle.std.specs.Prelude.{ℕ, zero, suc, ◌+◌, ◌<◌, ◌≤◌, ◌≡◌, refl, List, [], ◌∷◌, length}
 use Rattle.std.proofs.Common.{arith}

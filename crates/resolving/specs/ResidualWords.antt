@@ -1,12 +1,12 @@
 -- The residuals that a term is resolved to, one by one, as words in a slot (01, "Residuals"). The residuals themselves
 -- are in crate residuals.
 --     nth                                    the i-th of a list of residuals
---     pushed, pushAll                        a slot with one word more, with several more
---     popped, popAll                         with one word less, with several less
+--     pushed, push_all                       a slot with one word more, with several more
+--     popped, pop_all                        with one word less, with several less
 --     Clean                                  nothing stands behind a slot's words
---     Resolves, resolvedInto                 what resolving the i-th residual of a term asks; the slot it gives
+--     Resolves, resolved_into                what resolving the i-th residual of a term asks; the slot it gives
 --     Lands                                  where the way to it comes to
---     ResolvesDefinition, definitionInto     the same of a definition
+--     ResolvesDefinition, definition_into    the same of a definition
 -- The laws are in `ResidualWords/Resolved.antt`, `Kinds.antt`, `After.antt` and `Nth.antt` (lists), `Pushed.antt`,
 -- `Popped.antt`, `Into.antt` and `Ways.antt` (slots), and `Descent.antt`. Assumes nothing.
 use Rattle.std.specs.Prelude.{ℕ, zero, suc, ◌+◌, ◌-◌, ◌<◌, ◌≤◌, ◌≡◌, List, [], ◌∷◌, length, get_or, set}

@@ -1,5 +1,5 @@
 -- What a node word says of its term, by number (02, W6: "a node word is term × 2^28 and so on down").
---     kind_at, holdsAt     the kind of a word's term; whether its set, at the word's memory, has an event
+--     kind_at, holds_at    the kind of a word's term; whether its set, at the word's memory, has an event
 --     KnownWord           a word of a term of the table, whose memory has events of the table
 -- Node words are in crate node_word. The laws are in `Words/Laws.antt`. Assumes nothing.
 use Rattle.std.specs.Prelude.{ℕ, ◌<◌, Bool}

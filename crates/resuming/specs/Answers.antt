@@ -1,7 +1,7 @@
 -- The code's answers as 01 has them (01, "Which form goes where": "Where an answer is an enum, the promises use a
 -- definition"), with what stands in the lent buffers.
---     courseSaid               a monitor that goes on, on a number list with both areas, or a line that stands
---     resumeSaid               an answer of `resume` with every lent word
+--     course_said              a monitor that goes on, on a number list with both areas, or a line that stands
+--     resume_said              an answer of `resume` with every lent word
 --     AfterPiece               the promise of `after_piece`
 -- A line is said in crate `format`. The laws are in `Answers/`: `Laws`; of `resume`, by the ways out of its code,
 -- `Pieces`. Assumes nothing.

@@ -1,10 +1,10 @@
 -- What a line that was said is (ours; docs/DECISIONS.md, "A line for each event, as it arrives").
---     saidLine     the line
+--     said_line    the line
 --     Counted      a number of lines with so many more
---     Utterance    a line with how many were said with it;  said_of: by the token, firstSaid: the first
+--     Utterance    a line with how many were said with it;  said_of: by the token, first_said: the first
 --     Spoken       the promise of `say`: of its answer
 --     TextStands   and of its buffer: the text of a line stands there, from its first byte on
---     text-put     a buffer that has room has the text of a line
+--     text_put     a buffer that has room has the text of a line
 -- Assumes nothing.
 use Rattle.std.specs.Prelude.{ℕ, ◌+◌, ◌≤◌, ◌<◌, ◌≡◌, List, length, take}
 use Rattle.io.specs.Counts.{IsPrefixLen}

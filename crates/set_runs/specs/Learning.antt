@@ -1,7 +1,7 @@
 -- When a call may learn a transition between sets (ours: docs/DECISIONS.md, "When a call keeps the sets that it meets,
 -- and when it gives that up").
---     mayLearn    whether one transition more may be learnt
---     hasPaid     whether what was learnt was used often enough
+--     may_learn   whether one transition more may be learnt
+--     has_paid    whether what was learnt was used often enough
 -- So many events of the call were taken before the first set was kept, so many since, and so many transitions were
 -- learnt since. Assumes nothing.
 use Rattle.std.specs.Prelude.{ℕ, ◌+◌, ◌/◌, Bool, leb, ltb}

@@ -1,8 +1,8 @@
 -- A set of residuals and one event.
---     slotNodes              the node words of the i-th slot of an area
+--     slot_nodes             the node words of the i-th slot of an area
 --     gathered               the slots of all results of n residuals, from the i-th on
 --     SoundSlot, Source      what a step asks of the area it starts from
---     StepsOne, steppedOne   one residual: what its step asks, and its results held
+--     StepsOne, stepped_one  one residual: what its step asks, and its results held
 --     SteppedOne, SteppedSet what is given: slots with the members of these are held
 -- The laws are in `Stepped/One.antt` (one residual) and `Stepped/Laws.antt` (a set). Assumes nothing.
 use Rattle.std.specs.Prelude.{ℕ, zero, suc, ◌+◌, ◌*◌, ◌<◌, ◌≤◌, ◌≡◌, List, [], ◌++◌, length, get_or}

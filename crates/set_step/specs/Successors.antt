@@ -1,7 +1,7 @@
 -- The residuals after an event, of all residuals of a set (01, "Residuals": "The set after a list is the union, event
 -- by event": `after_all` of crate residuals).
 --     SlotsHold    the slots of an area, from the i-th on, are those of residuals
---     allKept      the residuals after an event, of all, with each leaf's repeats dropped
+--     all_kept     the residuals after an event, of all, with each leaf's repeats dropped
 -- The laws are in `Successors/`: `Room` (they fit a slot) and `Laws` (what a step comes to). Assumes nothing.
 use Rattle.std.specs.Prelude.{ℕ, ◌+◌, ◌≡◌, List, [], ◌∷◌, ◌++◌}
 use Rattle.table.specs.Table.{Table}

@@ -2,7 +2,7 @@
 -- columns 1 to 10, taken 12 to 31, verdict word 33 to 39, place 41 to 48, numbers right aligned, words left, spaces
 -- elsewhere. A last line, as long, has `TOTAL` in 1 to 5 and the sum of taken in 12 to 31").
 --     spaces, right, left   spaces, a number and a word in so many columns
---     lotLine, totalLine    the line of a record, and the last line
+--     lot_line, total_line  the line of a record, and the last line
 -- The laws are in `Line/Laws.antt` and, of the code that fills a part, `Line/Filling.antt`. Assumes nothing.
 use Rattle.std.specs.Prelude.{ℕ, ◌-◌, ◌^◌, ◌≤◌, ◌<◌, ◌≡◌, cond, List, [], ◌∷◌, ◌++◌, length, replicate, eqb}
 use Rattle.decimal.specs.Decimal.{decimal}

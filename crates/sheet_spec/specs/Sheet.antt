@@ -1,7 +1,7 @@
 -- The lot sheet (02, W2): what making a sheet answers and leaves in the output, on every input.
---     lines_of, sheetText, sheetSize    the lines of some records, with the last line;  how many bytes they are
---     Outcome, sheetOf                 the answer and the output after it
---     sheetOutcome                     the answer of `sheet` and the output, as an outcome
+--     lines_of, sheet_text, sheet_size  the lines of some records, with the last line;  how many bytes they are
+--     Outcome, sheet_of                the answer and the output after it
+--     sheet_outcome                    the answer of `sheet` and the output, as an outcome
 -- The laws are in `Sheet/Laws.antt` and, of the loop that writes, `Sheet/Writing.antt`. Assumes nothing.
 use Rattle.std.specs.Prelude.{ℕ, ◌+◌, ◌*◌, ◌≤◌, ◌≡◌, cond, List, [], ◌∷◌, ◌++◌, length, drop, ltb}
 use Rattle.lot_book.specs.declared.entry.Lot.{Lot}

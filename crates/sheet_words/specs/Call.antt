@@ -1,7 +1,7 @@
 -- `cspe_sheet`: what it returns and what stands in the output afterwards (02, W2).
---     SheetCall, sheetSaid    the number returned, the value and the output
+--     SheetCall, sheet_said   the number returned, the value and the output
 --     SheetTold               a number and a value are those of an answer
---     sheetCall               of the bytes lent
+--     sheet_call              of the bytes lent
 --     SheetWay                the same by the operation's outcome
 -- The laws are in `Call/Laws.antt`. Assumes nothing.
 use Rattle.std.specs.Prelude.{ℕ, ◌≡◌, Bool, true, false, List}

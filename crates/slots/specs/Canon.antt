@@ -1,6 +1,6 @@
 -- Slots in their order (01, "Residuals": "An area holds slots ascending by first differing word, then zeros").
---     Order, compareWords    the order "by first differing word"
---     insertSorted, canon    one slot put in its place; a list of slots ascending, each once
+--     Order, compare_words   the order "by first differing word"
+--     insert_sorted, canon   one slot put in its place; a list of slots ascending, each once
 --     Precedes, Sorted       that order as a relation; strictly ascending
 --     fill                   an area of n slots that holds some, and then zeros
 --     Sixteen, AllSixteen    a list of sixteen words; a list of such

@@ -1,7 +1,7 @@
 -- Slots held one after the other in an area (01, "Residuals": "A residual already held is not held twice";
 -- "crowded").
---     Outcome, heldAs    the area afterwards, and how many slots it holds or that there was no room
---     putOne, put_all     one slot more; several, one after the other
+--     Outcome, held_as   the area afterwards, and how many slots it holds or that there was no room
+--     put_one, put_all    one slot more; several, one after the other
 --     Gave               an outcome that was given
 -- The laws are in `Holding/Laws.antt`. Assumes nothing.
 use Rattle.std.specs.Prelude.{ℕ, ◌+◌, ◌*◌, ◌≤◌, ◌≡◌, List, [], ◌∷◌, length}

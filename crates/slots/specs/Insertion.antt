@@ -4,7 +4,7 @@
 --     middle_of, halved, narrowed    from which one: by halving, the last looked at first
 --     place_in                       the place by both
 --     gapped, stored                words moved on by sixteen; a slot over the words from a place on
---     insertAnswer, insertWords     holding one slot more: what is said, and the words afterwards
+--     insert_answer, insert_words   holding one slot more: what is said, and the words afterwards
 -- The laws are in `Insertion/Laws.antt`, `Insertion/Narrow.antt` and `Insertion/Gap.antt`. Assumes nothing.
 pub mod Laws
 pub mod Narrow

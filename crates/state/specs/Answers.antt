@@ -2,7 +2,7 @@
 -- definition"; "When the monitor declines").
 --     answer_of, outcome          an answer of Open or Feed; with what stands in the lent areas
 --     bits_of                     two words of bits
---     offeredOf, offerOutcome    the same of Offer
+--     offered_of, offer_outcome  the same of Offer
 -- Assumes nothing.
 use Rattle.std.specs.Prelude.{ℕ, List}
 use Rattle.state.specs.declared.answer.Answer as code

@@ -1,6 +1,6 @@
 -- The code's values as 01 has them (01, "Which form goes where": "Where an answer is an enum, the promises use a
 -- definition"), and what the functions on the record promise.
---     verdictOf, state_of, monitorOf    a verdict, a record, a record with both areas
+--     verdict_of, state_of, monitor_of  a verdict, a record, a record with both areas
 --     succeeding                       the record after an event, while events can be counted
 -- The laws are in `Record/Laws.antt`. Assumes nothing.
 use Rattle.std.specs.Prelude.{ℕ, true, false, List, eqb}

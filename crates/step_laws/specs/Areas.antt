@@ -1,8 +1,8 @@
 -- The slots of proper residuals in an area: each slot's node words are those of its residual.
---     held_all, held-length    the residuals of slots are proper, as many as the slots
+--     held_all, held_length    the residuals of slots are proper, as many as the slots
 --     SlotAt, slot_at          a residual's slot stands in an area; it does in the area of its set
---     slot-count, slot-nodes, slot-tree    what the area has there
---     holds-slots              the area, as the step sees it
+--     slot_count, slot_nodes_lem, slot_tree  what the area has there
+--     holds_slots              the area, as the step sees it
 -- Assumes nothing.
 use Prim.Native.Nat.{ℕ, zero, suc, ◌+◌, ◌-◌, ◌*◌, ◌<◌}
 use native.Mathlib.Omega.{arith}

@@ -1,8 +1,8 @@
 -- What the step asks of an area of proper residuals' slots, and of a definition.
---     step-source             an area before an event
---     tree-at                 the residual of a slot, as a tree in the area
---     takes-some              whether it may take an event
---     definition-resolves     a definition's residuals fit slots
+--     step_source             an area before an event
+--     tree_at                 the residual of a slot, as a tree in the area
+--     takes_some              whether it may take an event
+--     definition_resolves     a definition's residuals fit slots
 -- Assumes nothing.
 use Rattle.std.specs.Prelude.{ℕ, ◌+◌, ◌*◌, ◌≤◌, ◌<◌, ◌≡◌, List, length, get_or, ltb}
 use Rattle.std.proofs.Common.{arith}

@@ -1,8 +1,8 @@
 -- What an area that holds residuals gives.
---     holds-room                  its words are enough for so many slots
---     length-held, after-held     as many residuals are read from it as it holds; their slots after an event
---     holds-tree, holds-takes     the trees of its slots, and whether they take an event
---     present-holds               the present area of a consistent monitor is one
+--     holds_room                  its words are enough for so many slots
+--     length_held, after_held     as many residuals are read from it as it holds; their slots after an event
+--     holds_tree, holds_takes     the trees of its slots, and whether they take an event
+--     present_holds               the present area of a consistent monitor is one
 -- Assumes nothing.
 use Rattle.std.specs.Prelude.{ℕ, ◌+◌, ◌*◌, ◌<◌, ◌≤◌, ◌≡◌, refl, true, List, [], ◌∷◌, length, get_or, ltb}
 use Rattle.std.proofs.Common.{arith, ap₂, sym, subst, ◌∙◌}

@@ -1,6 +1,6 @@
 -- Holding the slots of residuals in a zeroed area: of the residuals after an event, of those of a definition.
---     step-holds, step-exceeds                  one event, from an area that holds residuals
---     definition-holds, definition-exceeds      the residuals of a definition
+--     step_holds, step_exceeds                  one event, from an area that holds residuals
+--     definition_holds, definition_exceeds      the residuals of a definition
 -- Assumes nothing.
 use Rattle.std.specs.Prelude.{ℕ, ◌≤◌, ◌<◌, ◌≡◌, List, [], length}
 use Rattle.std.proofs.Math.Path.{refl}

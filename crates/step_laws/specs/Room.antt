@@ -1,6 +1,6 @@
 -- The results of a proper residual's nodes fit a slot: what a step asks of a slot before an event.
---     room-proper     the words that a residual's nodes can become are fewer than twice its reach
---     sound-slot      of a slot that holds a proper residual
+--     room_proper     the words that a residual's nodes can become are fewer than twice its reach
+--     sound_slot      of a slot that holds a proper residual
 -- Assumes nothing.
 use Rattle.std.specs.Prelude.{ℕ, suc, ◌+◌, ◌*◌, ◌≤◌, ◌<◌, ◌≡◌, List, [], ◌∷◌, ◌++◌, map, length}
 use native.Mathlib.Omega.{arith}

@@ -1,5 +1,5 @@
 -- A proper residual is a tree of known nodes, as the step asks.
---     valid-proper    of a residual
+--     valid_proper    of a residual
 -- Assumes nothing.
 use Rattle.std.specs.Prelude.{ℕ, zero, suc, ◌<◌, ◌≡◌}
 use Rattle.std.proofs.Common.{arith, ap, sym, ◌∙◌}

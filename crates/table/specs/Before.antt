@@ -1,7 +1,7 @@
 -- The grammar of a table as 01 alone has it, without 02's W6, to say what W6 leaves as it was.
---     eventSetBefore, tableBefore     a set; a table
---     judgeBefore                     what the numbers of an input were judged to be
---     judgeListBefore, judgeBytesBefore    of a number list; of bytes
+--     event_set_before, table_before  a set; a table
+--     judge_before                    what the numbers of an input were judged to be
+--     judge_list_before, judge_bytes_before  of a number list; of bytes
 --     FirstMost, FirstOver            the input's first number is at most so much, or over it
 -- The laws are in `Before/Laws.antt`. Assumes nothing.
 use Rattle.std.specs.Prelude.{ℕ, ◌<◌, ◌≤◌, ◌&&◌, cond, List, length, leb, ltb}

@@ -1,10 +1,10 @@
 -- Both sides of each bound that 01's "Numbers and table" names, each rule kept and broken, and which of two refusals is
 -- given, as rows of computed tests beside those of `Examples`.
---     alphabetRows, setRows, definitionRows, parameterRows    the bounds that one number breaks
---     rowRows                                                 the bound of all rows together
---     callRows                                                the rules on calls
---     widthRows, branchRows                                   hands and openings
---     orderRows                                               two refusals met at once
+--     alphabet_rows, set_rows, definition_rows, parameter_rows  the bounds that one number breaks
+--     row_rows                                                the bound of all rows together
+--     call_rows                                               the rules on calls
+--     width_rows, branch_rows                                 hands and openings
+--     order_rows                                              two refusals met at once
 -- That every row holds is in `Bounds/Laws.antt`. Assumes nothing.
 use Rattle.std.specs.Prelude.{ℕ, Bool, List, [], ◌∷◌, ◌++◌, replicate}
 use Rattle.table.specs.Examples.{bytes_are, list_is, S0, beside, balanced, copies}

@@ -1,8 +1,8 @@
 -- Branches, in ℕ and without a cap (01, "Openings"): in how many ways a term can go on.
---     branchesWith       of a term, where a call counts as given
---     allBranches        of each definition;  branches: of a term of a table
---     branchesAt         of one definition, in a list of each one's
---     tooManyBranches    the lowest body or follower above 256 (refusal 9)
+--     branches_with      of a term, where a call counts as given
+--     all_branches       of each definition;  branches: of a term of a table
+--     branches_at        of one definition, in a list of each one's
+--     too_many_branches  the lowest body or follower above 256 (refusal 9)
 -- The laws are in `Branches/Laws.antt`. Assumes nothing.
 use Rattle.std.specs.Prelude.{ℕ, suc, ◌+◌, ◌*◌, List, [], ◌∷◌, length, get_or, leb}
 use Rattle.std.proofs.Math.Option.{Option, none}

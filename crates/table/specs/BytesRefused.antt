@@ -1,6 +1,6 @@
 -- Each refusal of bytes by its condition (01, "When the monitor declines"): that of the numbers written in them, at
 -- their byte places, and 4 and 6 by what stands after those numbers.
---     bytePlace      the place of the i-th number: its first byte
+--     byte_place     the place of the i-th number: its first byte
 --     Decoded        the numbers written in bytes from the start, and the bytes after them, at whose head no number is
 --                    well written
 --     RefusedBytes   the refusals

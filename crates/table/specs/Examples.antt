@@ -1,8 +1,8 @@
 -- Worked inputs and what they are judged to be: 01's own and the cases at its edges, as rows of computed tests.
---     tableB                       01's table B
---     inNumbers, bytesAre, listIs  a judgement as two numbers; what bytes, a number list are judged to be
---     numberRows, tableRows        numbers and whole tables
---     countRows                    width, branches and the number of terms
+--     table_b                      01's table B
+--     in_numbers, bytes_are, list_is  a judgement as two numbers; what bytes, a number list are judged to be
+--     number_rows, table_rows      numbers and whole tables
+--     count_rows                   width, branches and the number of terms
 -- That every row holds is in `Examples/Laws.antt`. Long tables, and what Read and Write leave, are rows of crate
 -- `table_examples`. Assumes nothing.
 use Rattle.std.specs.Prelude.{ℕ, zero, suc, Bool, true, ◌&&◌, List, [], ◌∷◌, ◌++◌, length, eqb}

@@ -1,5 +1,5 @@
 -- A table's writing with, beside each number, whether it keeps its own bound (01, "Numbers and table"; refusal 5).
---     eventMarks .. tableMarks   the marked writings, beside `Writing`'s
+--     event_marks .. table_marks  the marked writings, beside `Writing`'s
 --     Shape                      what no single number shows: how many rows a kind 1 set has, and that a set reference
 --                                has a parameter just when its set is of kind 1
 --     Open, Fits                 numbers that begin a writing, each within its bound. Open: and the writing goes on;

@@ -1,6 +1,6 @@
 -- Set membership (01, "Numbers and table": "row v is the set for parameter v"), by list membership.
 --     elem            whether a list has an event
---     setOf           the set of a reference
+--     set_of          the set of a reference
 --     row_of, in_row    the row of a set reference for a remembered event; whether that row has an event
 --     recalled        the remembered event that a reference reads
 --     member          whether the set of a reference, under a memory, has an event

@@ -1,5 +1,5 @@
 -- The events a term remembers (01, "Residuals": "Memory is four events, all 0 at a body's start").
---     Memory, noMemory    the last four events taken by enclosing prefixes, the nearest first; at a body's start
+--     Memory, no_memory   the last four events taken by enclosing prefixes, the nearest first; at a body's start
 --     digit               the k-th remembered event
 --     remember            a memory with one event more
 -- The laws are in `Memory/Laws.antt`. Assumes nothing.

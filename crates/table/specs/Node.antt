@@ -1,9 +1,9 @@
 -- The terms of a table in reading order, each with where it stands (01, "Numbers and table": "Terms are numbered from 0
 -- in reading order over the table"; ours: the list itself).
 --     Node              a term, where it stands in its definition, and the index of its kind among the table's numbers
---     nodes, nodesOf    those of a term, of a table
---     nodeAt, termOf    the node, the term of a number
---     kind_of, leftSize, refOf, calledOf    what a term's own numbers say
+--     nodes, nodes_of   those of a term, of a table
+--     node_at, term_of  the node, the term of a number
+--     kind_of, left_size, ref_of, called_of  what a term's own numbers say
 -- The laws are in `Node/Laws.antt` and `Node/Numbers.antt`; `Node/Parts.antt` and `Node/Homes.antt` prepare them.
 -- Assumes nothing.
 use Rattle.std.specs.Prelude.{ℕ, suc, ◌+◌, length, get_or}

@@ -1,6 +1,6 @@
 -- Read and Write, whole: answer, output and work words on every input (01, "Operations"; refusals 1 to 9).
 --     Answer, Outcome       a count, or a refusal with its place; and what stands in the lent areas afterwards
---     read_of, writeOf       what Read and Write give
+--     read_of, write_of      what Read and Write give
 --     ReadWay, WriteWay     their ways, with every lent word of each
 -- The laws are in `Operations/`: `Laws`, `Ways`. Assumes nothing.
 use Rattle.std.specs.Prelude.{ℕ, ◌-◌, ◌≤◌, ◌<◌, ◌≡◌, Bool, cond, ◌&&◌, List, ◌++◌, length, replicate, drop, eqb, leb}

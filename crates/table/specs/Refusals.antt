@@ -1,9 +1,9 @@
 -- Each refusal of a number list by its condition (01, "When the monitor declines"), in terms of tables and not of the
 -- parser.
 --     links           for each number of a table's writing: whether it keeps the rules on references
---     fewTerms        for each term, in reading order: whether it is no body or follower, or has at most 256 branches
+--     few_terms       for each term, in reading order: whether it is no body or follower, or has at most 256 branches
 --     ManyAt          a body or a follower, by its number, with over 256 branches
---     narrowLevels    for each level: whether its width is at most 8
+--     narrow_levels   for each level: whether its width is at most 8
 --     Truncated, OutOfRange, TrailingInput                conditions 3, 5 and 6
 --     BadReference, TooWide, TooManyBranches, TooLong     conditions 7, 8, 9 and 2
 --     Refused         all of them

@@ -1,9 +1,9 @@
 -- How many rows the sets of a table have, and how many they may have (01, "Numbers and table"; 02, W6).
---     alphabetMost                  the largest size of an alphabet
---     largeAbove, largeRowsMost     from which size on the rows are bounded, and their bound
---     rowCount, rows_of, rowsIn      how many rows a set has, by its kind; a set; all sets together
+--     alphabet_most                 the largest size of an alphabet
+--     large_above, large_rows_most  from which size on the rows are bounded, and their bound
+--     row_count, rows_of, rows_in    how many rows a set has, by its kind; a set; all sets together
 --     all_rows                       the rows of sets
---     RowsFit, rowsFit              so many rows may stand; whether they may
+--     RowsFit, rows_fit             so many rows may stand; whether they may
 -- The laws are in `Rows/Laws.antt`. Assumes nothing.
 use Rattle.std.specs.Prelude.{ℕ, zero, suc, ◌+◌, ◌<◌, ◌≤◌, Bool, ◌||◌, List, [], ◌∷◌, ◌++◌, leb}
 use Rattle.table.specs.Table.{SetDef, one, each}

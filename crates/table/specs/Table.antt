@@ -1,8 +1,8 @@
 -- The abstract table (01, "Numbers and table"): what an accepted list of numbers says.
 --     SetRef, Term        a set reference; a term, as the table has it
 --     SetDef, Table       a set; the alphabet, the sets and the definitions
---     size, bodyNumber    terms are numbered in reading order: the number of each body
---     termAt              the term of a number
+--     size, body_number   terms are numbered in reading order: the number of each body
+--     term_at             the term of a number
 --     enclosing           of a term number: how many prefixes are around it
 -- The laws are in `Table/Laws.antt`. Assumes nothing.
 use Rattle.std.specs.Prelude.{ℕ, suc, ◌+◌, ◌-◌, true, false, List, [], ◌∷◌, get_or, take, eqb, ltb}

@@ -1,7 +1,7 @@
 -- Both inputs as one stream of numbers with their places (01, "When the monitor declines": "Place").
 --     Tokens       numbers with places, and why there are no more
---     tokensAt     of a number list from a place on
---     byteTokens   of bytes, at byte places;  listTokens: of a number list, at list places
+--     tokens_at    of a number list from a place on
+--     byte_tokens  of bytes, at byte places;  list_tokens: of a number list, at list places
 --     trailing     the place of the first input after this point, if there is any
 --     place_of      the place of the i-th number of a stream
 -- The laws are in `Tokens/Laws.antt`. Assumes nothing.

@@ -1,7 +1,7 @@
 -- Width and reach, in ℕ and without a cap (01, "Hands of a term").
---     widthWith     of a term, where a call counts as given
---     levelWidth    of a level;  reach: of a term
---     tooWide       the lowest level above 8 (refusal 8)
+--     width_with    of a term, where a call counts as given
+--     level_width   of a level;  reach: of a term
+--     too_wide      the lowest level above 8 (refusal 8)
 -- The laws are in `Width/Laws.antt` and `Width/Reach.antt`. Assumes nothing.
 use Rattle.std.specs.Prelude.{ℕ, suc, ◌+◌, max, cond, List, [], ◌∷◌, length, get_or, leb, eqb}
 use Rattle.std.proofs.Math.Option.{Option, none}

@@ -1,5 +1,5 @@
 -- Every row holds, by computing.
---     longs-hold, reads-hold, writes-hold
+--     longs_hold, reads_hold, writes_hold
 -- Assumes nothing.
 use mathlib.Core.List.{flat_map}
 use lib.Dec.{T}

@@ -1,7 +1,7 @@
 -- What Read and Write answer and leave in their buffers, word by word, as rows of computed tests.
---     answers, outcomeIs           an answer; an answer, the output and the work words
---     readRefuses, writeRefuses    refusals 2 to 9
---     readRows, writeRows          Read and Write
+--     answers, outcome_is          an answer; an answer, the output and the work words
+--     read_refuses, write_refuses  refusals 2 to 9
+--     read_rows, write_rows        Read and Write
 -- That every row holds is in `proofs/Rows.antt`. Assumes nothing.
 use Rattle.std.specs.Prelude.{ℕ, Bool, ◌&&◌, List, [], ◌∷◌, ◌++◌, replicate, eqb}
 use Rattle.numbers.specs.Examples.{same}

@@ -1,7 +1,7 @@
 -- Tables at the limit of their bytes, and above it (01: "A table is at most 16,384 bytes"), as rows of computed tests.
---     nearlyFull, nearlyFullLarge    tables of 16,384 bytes, and of one more
+--     nearly_full, nearly_full_large  tables of 16,384 bytes, and of one more
 --     overlong                       the sets of a table that is too long
---     longRows                       "long table"
+--     long_rows                      "long table"
 -- That every row holds is in `proofs/Rows.antt`. Assumes nothing.
 use Rattle.std.specs.Prelude.{ℕ, zero, suc, Bool, List, [], ◌∷◌, ◌++◌, replicate}
 use Rattle.table.specs.Examples.{bytes_are, list_is, balanced, copies}

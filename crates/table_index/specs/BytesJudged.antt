@@ -1,9 +1,9 @@
 -- The judgement of bytes from that of the numbers written in them (01, "When the monitor declines": "Place").
---     onBytes          the judgement of bytes that begin with given numbers, from the judgement of these
+--     on_bytes         the judgement of bytes that begin with given numbers, from the judgement of these
 --     JudgedAs         the code's answer is a judgement;  BytesJudged, BytesDeclined: promises of the code
---     judged-bytes     onBytes gives the judgement of the bytes
---     on-..            onBytes by cases
---     PlaceInside, place-within    a refused number's place is one of the list, or its end
+--     judged_bytes     on_bytes gives the judgement of the bytes
+--     on-..            on_bytes by cases
+--     PlaceInside, place_within    a refused number's place is one of the list, or its end
 -- Assumes nothing.
 use Rattle.std.specs.Prelude.{ℕ, suc, ◌+◌, ◌≤◌, ◌<◌, ◌≡◌, refl, Bool, true, false, cond, ◌||◌, ◌⊎◌, List, [], ◌∷◌, length, drop, get_or, eqb, ltb}
 use native.Mathlib.Omega.{arith}
@@ -57,7 +57,7 @@ abbrev pub BytesDeclined : List ℕ → ℕ → ℕ → Bool → Refusal → Ref
 BytesDeclined ns next size bad r q =
     declined q.number q.place ≡ on_bytes ns next size bad (declined r.number r.place)
 
--- ---- onBytes by cases
+-- ---- on_bytes by cases
 module _ (ns : List ℕ) (next size : ℕ) (bad : Bool) (n at : ℕ) where
   pub on_short : n ≡ 3 → bad ≡ false → declined 3 size ≡ on_bytes ns next size bad (declined n at)
   unfolding on_bytes

@@ -1,6 +1,6 @@
 -- What the functions that store widths and branches in the work area ask and promise.
 --     KeptOutside, ReachKept                        the words outside a part, and the reach of terms, are as they were
---     storedCall                                    what a call counts in a level, by the stored widths of levels
+--     stored_call                                   what a call counts in a level, by the stored widths of levels
 --     WidthKnown, WidthAsked, WidthGiven            the width of one term
 --     WidthsAsked, WidthsFilled                     the widths of the terms from one number up to another
 --     LevelAsked, BodyDone, LevelDone               the width of a body in a level, and of the level

@@ -1,6 +1,6 @@
 -- The index of a table in the work area (ours; 01 leaves the work area's use open).
---     mask_of, first_word, secondWord          a row as a mask; the two words of a mask
---     setMasks, firstRow, setWord            a set's masks, first row and word
+--     mask_of, first_word, second_word         a row as a mask; the two words of a mask
+--     set_masks, first_row, set_word         a set's masks, first row and word
 --     word_of                                 the structure of a term's word
 --     SetsIndexed, Structured                the sets, and also the terms and definitions, stand in the work area
 --     Reaching, Branching                    so do reach and branches of the terms

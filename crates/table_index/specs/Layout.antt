@@ -1,11 +1,11 @@
 -- Where the parts of a table's index stand in the work area, and the digits of a term's word (ours; 01 leaves the work
 -- area's use open). `src/layout.rt` has the same numbers under the same names.
---     rowsMost, wordEvents, secondAt             how many rows there may be, from word 0 on; how many events a row's
+--     rows_most, word_events, second_at          how many rows there may be, from word 0 on; how many events a row's
 --                                                word has bits for; where the second words of rows begin
---     termsAt .. start_at                         where other parts begin
---     kindDigit .. targetDigit, structureOf      what a term's word says of the term and where it stands; all of that
---     widthDigit, withWidth                      above it, while widths are counted: the term's width in a level
---     reachDigit, branchesDigit, withBranches    and then its reach and its branches; five bits are left
+--     terms_at .. start_at                        where other parts begin
+--     kind_digit .. target_digit, structure_of   what a term's word says of the term and where it stands; all of that
+--     width_digit, with_width                    above it, while widths are counted: the term's width in a level
+--     reach_digit, branches_digit, with_branches  and then its reach and its branches; five bits are left
 -- The laws are in `Layout/Laws.antt`. Assumes nothing.
 use Rattle.std.specs.Prelude.{ℕ, ◌+◌, ◌*◌, ◌/◌, ◌%◌, ◌^◌}
 use Rattle.table.specs.Rows.{large_above, large_rows_most}

@@ -1,5 +1,5 @@
 -- What the functions on one event promise (01, "Operations", "When the monitor declines").
---     stepWords            the words of a step's store, for crates that do not list the step's
+--     step_words           the words of a step's store, for crates that do not list the step's
 --     Holding, Standing    two areas that hold residuals; a monitor that is laid out of residuals
 --     Empty, NextBy        an area of zeros; the residuals after an event there, or a refusal
 --     Stepped              both areas after an event, or as they were

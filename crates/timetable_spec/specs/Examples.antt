@@ -1,6 +1,6 @@
 -- Worked timetables, at the bounds of 02, W5.
---     Judged, judgedAll   a list, and whether it is good
---     Asked, askedAll     a timetable and two minutes, which table is in force at the second, whether it changed
+--     Judged, judged_all  a list, and whether it is good
+--     Asked, asked_all    a timetable and two minutes, which table is in force at the second, whether it changed
 --     Examples            all of them hold
 -- Assumes nothing.
 use Rattle.std.specs.Prelude.{ℕ, Bool, true, false, ◌&&◌, List, [], ◌∷◌, T}

@@ -1,8 +1,8 @@
 -- A timetable of wash hours (02, W5: "In wash hours another drawing applies"). It is a flat list of numbers: the first
 -- and the last minute of a window, those of the next one, and so on. "Drawing" is a table here (docs/TERMS.md).
---     week, minuteBound      the minutes of a week;  the bound of absolute minutes
---     goodTimetable          whether a list is a timetable;  `Windows.antt` says the same by conditions alone
---     washAt, inForce        whether the table for wash hours is in force, at a minute of the week, at an absolute one
+--     week, minute_bound     the minutes of a week;  the bound of absolute minutes
+--     good_timetable         whether a list is a timetable;  `Windows.antt` says the same by conditions alone
+--     wash_at, in_force      whether the table for wash hours is in force, at a minute of the week, at an absolute one
 --     Changes                whether the table in force changes between two minutes, over every minute between them
 --     changes                the same by one pass over the windows;  claim ChangesExactly says that they agree
 -- The laws are in `Timetable/`. Assumes nothing.

@@ -1,6 +1,6 @@
 -- A timetable by conditions alone (02, W5: "A timetable lists windows in minutes of the week as pairs"). Nothing here
 -- says how a list is judged.
---     Window, numbersOf     a window;  the list of some windows' numbers
+--     Window, numbers_of    a window;  the list of some windows' numbers
 --     Holds, Held           whether a window holds a minute of the week;  whether one of some windows does
 --     GoodWindow, Before    what is asked of a window, and of an earlier and a later one
 --     Windows               a list that is a timetable

@@ -1,6 +1,6 @@
 -- How many bytes more the front of an input needs (ours; docs/DECISIONS.md, "A line for each event, as it arrives"): so
 -- that the front has the length number and the whole table, and no event.
---     missingOf, wantedOf     of a table by its length; of a front
+--     missing_of, wanted_of   of a table by its length; of a front
 --     Fronts                  a front that got no more than it needed
 --     CutShort                an input that ends within its front
 -- The laws are in `Wanted/`: `Laws`, `Scans`. Assumes nothing.

@@ -1,7 +1,7 @@
 -- The lines of an input that comes in reads (ours): what has arrived is judged at once.
 --     Configuration             where a trace stands: a monitor on a table, or its end
---     readLines, reachedAfter   the lines of a read; where it stands after it
---     reachedBy                 where the trace of an input stands, with all the events that it has
+--     read_lines, reached_after  the lines of a read; where it stands after it
+--     reached_by                where the trace of an input stands, with all the events that it has
 --     reads_of                   the lines of an input, and then of each read after it
 --     Decided                   an input whose head is the same, whatever follows
 -- The relation that a loop over reads keeps is `reached_by s ≡ at t m`, where s is all that was read: the lines of s

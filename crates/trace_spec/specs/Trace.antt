@@ -1,11 +1,11 @@
 -- The lines of a whole input (ours; docs/DECISIONS.md, "A trace has a line for each event"): "a line at the start and
 -- after each event".
---     Beginning, beginningOf     what stands before the first event, with the events; or a refusal
+--     Beginning, beginning_of    what stands before the first event, with the events; or a refusal
 --     Begins                     an input with which a monitor is opened
---     permittedBy                what Offer says of a monitor
---     eventLines                 the lines of events, from a monitor on
---     traceOf                    the lines of an input
---     lineBy                     what `line_monitor` would print in a line's place
+--     permitted_by               what Offer says of a monitor
+--     event_lines                the lines of events, from a monitor on
+--     trace_of                   the lines of an input
+--     line_by                    what `line_monitor` would print in a line's place
 -- The laws are in `Trace/`: `Begun`, what a beginning is, by the input; `Lines`, of the lines of events; `Last`, of the
 -- last one. Assumes nothing.
 use Rattle.std.specs.Prelude.{ℕ, ◌≤◌, ◌≡◌, List, [], ◌∷◌}

@@ -3,7 +3,7 @@
 --     TraceLine                a line, as a value; its text is made of this and of nothing else
 --     Reports, TakesEvent      a line with this record and these words; a line after this event
 --     OneFor, LineAt           a line for each event of a list; the line at a place, with a record and words
---     eventsFrom, eventsIn     the events of a word; of Offer's two words, ascending
+--     events_from, events_in   the events of a word; of Offer's two words, ascending
 -- The laws are in `TraceLine/Laws.antt`. Assumes nothing.
 use Rattle.std.specs.Prelude.{ℕ, zero, suc, ◌/◌, ◌%◌, ◌≡◌, true, false, List, [], ◌∷◌, ◌++◌, length, eqb}
 use Rattle.monitor_spec.specs.State.{State}

@@ -1,9 +1,9 @@
 -- The text of a line of a trace (ours; docs/DECISIONS.md, "A line for each event, as it arrives"): `start - TAKEN
 -- VERDICT PLACE RESIDUALS PEAK PERMITTED..`, `event EVENT TAKEN VERDICT PLACE RESIDUALS PEAK PERMITTED..` or `refused
 -- NUMBER PLACE`, each with a line feed; bytes in ASCII.
---     numberText, numbersText     a number after a space; some, one after the other
---     verdictText, recordText     the verdict with its place; taken, verdict, residuals and peak
---     traceTextOf                 the text of a line
+--     number_text, numbers_text   a number after a space; some, one after the other
+--     verdict_text, record_text   the verdict with its place; taken, verdict, residuals and peak
+--     trace_text_of               the text of a line
 -- A number's digits are those of crate `decimal`, the text of a refusal is that of crate `format`. The laws are in
 -- `TraceText/Laws.antt`. Assumes nothing.
 use Rattle.std.specs.Prelude.{ℕ, List, [], ◌∷◌, ◌++◌}

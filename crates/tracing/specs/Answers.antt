@@ -1,6 +1,6 @@
 -- The code's answers as crate `trace_spec` has them (01, "Which form goes where": "Where an answer is an enum, the
 -- promises use a definition").
---     traceLineSaid     a line
+--     trace_line_said   a line
 -- Assumes nothing.
 use Rattle.trace_spec.specs.TraceLine.{TraceLine, starts, takes, refuses}
 use Rattle.state.specs.Record.{state_of}

@@ -1,7 +1,7 @@
 -- The results that moves say, held: one leaf that moves, in each residual that it comes to, and one leaf after the
 -- other.
---     StepsLeaf, steppedLeaf         one leaf: what its step asks, and what it gives
---     StepsMoves, steppedMoves       the leaves that moves say
+--     StepsLeaf, stepped_leaf        one leaf: what its step asks, and what it gives
+--     StepsMoves, stepped_moves      the leaves that moves say
 -- The laws are in `Moving/Leaves.antt` and `Moving/Moves.antt`. Assumes nothing.
 use Rattle.std.specs.Prelude.{ℕ, ◌+◌, ◌-◌, ◌*◌, ◌/◌, ◌<◌, ◌≤◌, ◌≡◌, List, length, get_or}
 use Rattle.table.specs.Table.{Table}

@@ -1,12 +1,12 @@
 -- The walk over the nodes of one residual: what it leans on, a place in it, and what it gives from there.
---     nodeCount, nodesFrom    the nodes in a store, from one on
+--     node_count, nodes_from  the nodes in a store, from one on
 --     LeafAt, Prepared        the results of one leaf stand in the store; those of a tree's leaves
 --     Ready, Served           what holds of the store; the trees that are to take the event are prepared
 --     Place, walked           a place in the walk, and what the walk gives from there
---     leafRest                what is left of a leaf's results
+--     leaf_rest               what is left of a leaf's results
 -- A store has the residual's slot from 0 on, and for a leaf at k the number of its results at k * 257 and their indices
--- after it; for a pair 1 there where it can take the event, 0 only where it cannot. What stands behind the nodes' parts the
--- walk does not read. The laws are in `Course/`: `Nodes` (node words), `Turns` (the first tree at a place), `Places`,
+-- after it; for a pair 1 there where it can take the event, 0 only where it cannot. What stands behind the nodes' parts
+-- the walk does not read. The laws are in `Course/`: `Nodes` (node words), `Turns` (the first tree at a place), `Places`,
 -- `Pairs` and `Leaves` (the walk). Assumes nothing.
 use Rattle.std.specs.Prelude.{ℕ, ◌+◌, ◌-◌, ◌*◌, ◌/◌, ◌%◌, ◌<◌, ◌≤◌, ◌^◌, ◌≡◌, true, ◌⊎◌, List, [], ◌∷◌, length, get_or, drop}
 use Rattle.table.specs.Table.{Table}

@@ -1,8 +1,8 @@
 -- Residual trees in reading order, and what the results of a walk are on them.
 --     Valid        a residual whose nodes are known terms, parallels at its pairs and not at its leaves
---     afterKept    the residuals after an event, each leaf's repeats dropped
+--     after_kept   the residuals after an event, each leaf's repeats dropped
 --     Forest       node words that are those of trees, one after the other
--- The laws are in `Forest/Words.antt` (node words) and `Forest/Results.antt` (results are afterKept). Assumes nothing.
+-- The laws are in `Forest/Words.antt` (node words) and `Forest/Results.antt` (results are after_kept). Assumes nothing.
 use Rattle.std.specs.Prelude.{ℕ, ◌+◌, ◌<◌, ◌≡◌, true, false, List, [], ◌∷◌, ◌++◌, map}
 use Rattle.table.specs.Table.{Table, term_count}
 use Rattle.table.specs.Node.{term_of, kind_of, ref_of}

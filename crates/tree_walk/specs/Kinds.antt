@@ -1,8 +1,8 @@
 -- Kind numbers as arms of a match (01, "Term kinds by number: 0 STOP, 1 FAIL, 2 prefix .., 3 choice .., 4 parallel ..,
 -- 5 call").
---     other-kind, other-node     kinds of one arm are no prefix and no parallel; no parallel
---     is-kind, no_kind           what a test for the kind j answers, of a kind x that was read of a node of kind k
---     kind-yes, kind-no          what its answer tells
+--     other_kind, other_node     kinds of one arm are no prefix and no parallel; no parallel
+--     is_kind, no_kind           what a test for the kind j answers, of a kind x that was read of a node of kind k
+--     kind_yes, kind_no          what its answer tells
 -- Assumes nothing.
 use Rattle.std.specs.Prelude.{ℕ, ◌≡◌, Bool, true, false, ◌⊎◌, eqb}
 use Rattle.std.proofs.Common.{arith, sym, ◌∙◌, inl, inr, eqb-true, eq-eqb, ne_eqb}

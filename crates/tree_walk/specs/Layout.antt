@@ -1,6 +1,6 @@
 -- Where the parts of a store stand. `src/layout.rt` has the same numbers under the same names.
---     memoAt                               where the nodes' parts end, and the results that are kept of leaves begin
---     entryCount, entryWords, entryMost    how many entries there are; the words of one, the results it has room for
+--     memo_at                              where the nodes' parts end, and the results that are kept of leaves begin
+--     entry_count, entry_words, entry_most  how many entries there are; the words of one, the results it has room for
 --     store_words                           the words of a store
 -- Assumes nothing.
 use Rattle.std.specs.Prelude.{ℕ, ◌+◌, ◌*◌}

@@ -1,8 +1,8 @@
 -- One residual and one event: all results, as lists of words, from the node words in reading order.
---     leafKept, options     the results of a leaf, repeats dropped: their indices, their words
+--     leaf_kept, options    the results of a leaf, repeats dropped: their indices, their words
 --     results               the ways to go on: the lowest bit of the modes says whether the next tree takes the event
 --                           (1) or is kept (0)
---     leafResults, room     the residuals after an event of a leaf; the words that nodes can become at most
+--     leaf_results, room    the residuals after an event of a leaf; the words that nodes can become at most
 --     onto                  a slot followed by each
 -- The laws are in `Walk/Results.antt` and, of a leaf, `Walk/Leaves.antt`. Assumes nothing.
 use Rattle.std.specs.Prelude.{ℕ, ◌+◌, ◌*◌, ◌/◌, ◌%◌, max, true, false, List, [], ◌∷◌, ◌++◌, map, length, eqb}

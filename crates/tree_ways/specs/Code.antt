@@ -1,7 +1,7 @@
 -- The way of a tree as one word, the bits at the nodes' places in the whole residual: so the words of a pair's sides
 -- are put together as they are.
---     wayCode                           the word of a way, by the place of the tree's first node
---     eitherCode, bothCode, pairCode    the word of a pair, from those of its sides
+--     way_code                          the word of a way, by the place of the tree's first node
+--     either_code, both_code, pair_code  the word of a pair, from those of its sides
 --     DecodedWay                        what `decode` says
 --     Stacked, Codes                    the words of trees on a stack; of the trees from a node on
 --     CodeIn                            what `root_code` says

@@ -1,8 +1,8 @@
 -- The results of a leaf that are kept, each once, have the members of all of them.
---     slot-form, slot-words               a slot's words are known from the slot
+--     slot_form, slot_words               a slot's words are known from the slot
 --     Covered, covers                     every index is covered by a kept one
---     results-not-kind, results-not-held  a leaf with no result
---     follower, leaf-both                 what a leaf's follower resolves to; both lists have the same members
+--     results_not_kind, results_not_held  a leaf with no result
+--     follower, leaf_both                 what a leaf's follower resolves to; both lists have the same members
 -- Assumes nothing.
 use Prim.Native.Nat.{ℕ, zero, suc, ◌+◌, ◌-◌, ◌<◌, ◌≤◌}
 use Rattle.std.proofs.Common.{arith, add-one, ap, ◌∙◌, inl, inr, length-append, take_at, eqb-true}

@@ -1,6 +1,6 @@
 -- The residuals after an event, with and without a leaf's repeats, have the same words.
 --     same_after                 the members of `after_kept` are those of `after`
---     Short, short-of            a residual whose leaves have short results; it is where they have room
+--     Short, short_of            a residual whose leaves have short results; it is where they have room
 -- A leaf is in `Covering.antt`. Assumes nothing.
 use Rattle.std.specs.Prelude.{ℕ, ◌+◌, ◌≤◌, ◌≡◌, refl, Bool, true, false, List, [], ◌∷◌, ◌++◌, map, length}
 use Rattle.std.proofs.Common.{arith, inl, inr, ⊎_elim}

@@ -1,6 +1,6 @@
 -- Residuals whose results after an event are known without a store: none, or those that moves say.
---     countWay, leafWay             the way of a leaf, by its follower's branches
---     pairMoves, pairWay            of a pair, by its sides' ways
+--     count_way, leaf_way           the way of a leaf, by its follower's branches
+--     pair_moves, pair_way          of a pair, by its sides' ways
 --     way_of                         the way of a residual: no result, those that moves say, perhaps more
 --     rebuilt                       node words, the marked leaves replaced by what follows
 --     moved                         the words of the results that moves say

@@ -1,7 +1,7 @@
 -- Whether a residual may take an event (01, "Operations": "exactly when the residuals after e, crowded or not, are
 -- not empty"), of the tree whose words stand at a place of an area.
---     leafTakes   whether a prefix may
---     pairTakes   whether a pair may, by its sides
+--     leaf_takes  whether a prefix may
+--     pair_takes  whether a pair may, by its sides
 --     TreeAt      a tree's words stand there
 --     Takes       what is said of it
 -- The laws are in `Takes/Counts.antt` (how many residuals there are) and `Takes/Laws.antt`. Assumes nothing.

@@ -1,8 +1,8 @@
 -- A slot's node words read from the last with a count of trees (ours): what the code keeps of the trees that
 -- `forest` spells (`specs/Valid.antt` of crate monitor_spec).
---     withLeaf, paired       a leaf in front; the first two trees under a parallel
---     wordFits               a known term, with a memory that it allows
---     planted, plantedAll    a node word in front; all of a list of node words
+--     with_leaf, paired      a leaf in front; the first two trees under a parallel
+--     word_fits              a known term, with a memory that it allows
+--     planted, planted_all   a node word in front; all of a list of node words
 --     is_whole                one tree, of a reach that is not too large
 --     Few                    so few trees that no sum is too large
 -- The laws are in `Walk/`: `Laws`, by cases; `Words`, of what words spell; `Spelling`, that the walk agrees with

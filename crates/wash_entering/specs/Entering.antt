@@ -1,6 +1,6 @@
 -- What the functions before the first event promise (02, W5).
 --     AgreedAt, Agreed    whether state and areas agree
---     TimedEntered        what stands before the first event;  afterEveryday: after the everyday table
+--     TimedEntered        what stands before the first event;  after_everyday: after the everyday table
 -- The laws are with the proofs. Assumes nothing.
 use Rattle.std.specs.Prelude.{ℕ, ◌≡◌, Bool, List}
 use Rattle.table.specs.Judge.{judge_list}

@@ -1,7 +1,7 @@
 -- A call on the monitor that a joined list calls for leaves the one that the longer list calls for; it is not refused
 -- with 2 to 10 or 16. So over a list of calls.
 --     goes                                      with right lengths the call goes through its events
---     along-joined, history-joined, call-joins  over the calls; what one call joins
+--     along_joined, history_joined, call_joins  over the calls; what one call joins
 -- Assumes nothing.
 use Prim.Native.Nat.{ℕ, ◌≤◌}
 use native.Mathlib.Omega.{arith}

@@ -1,7 +1,7 @@
 -- What stands before a call's events: 1; 2 to 9 of the everyday table, and of the wash table; 16; 10; or none of them.
---     on-1, on-everyday, on-wash, on-16, on-10, on-open    the whole outcome
+--     on_1, on_everyday, on_wash, on_16, on_10, on_open    the whole outcome
 --     Gate, gate                                           one of the six
---     timed-refused, timed-work, timed-keeps               the refusals exactly; what stands in the lent buffers
+--     timed_refused, timed_work, timed_keeps               the refusals exactly; what stands in the lent buffers
 -- Assumes nothing.
 use Prim.Native.Nat.{ℕ}
 use mathlib.Core.Path.{◌≡◌, refl, ap, sym, ◌∙◌}

@@ -1,6 +1,6 @@
 -- The monitor that a joined list calls for has areas of the right lengths, and is consistent on the table in force.
 --     says_at                      the number list of the table in force
---     areas-right, agrees_after    1 for the areas, and 10, are not met
+--     areas_right, agrees_after    1 for the areas, and 10, are not met
 -- Assumes nothing.
 use Prim.Native.Nat.{ℕ, ◌*◌, ◌%◌, ◌≤◌}
 use native.Mathlib.Omega.{arith}

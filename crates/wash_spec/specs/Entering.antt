@@ -1,8 +1,8 @@
 -- What stands before the first event of a call (02, W5): "16 bad timetable, after both tables, the everyday one first,
 -- and before 10". It stands on what the monitor's operations enter by.
---     timedMeasured                    lent lengths
---     timedConsistent                  10 is not met
---     TimedEntrance, timedEntrance     refused, by number, place and the work words then; or both tables
+--     timed_measured                   lent lengths
+--     timed_consistent                 10 is not met
+--     TimedEntrance, timed_entrance    refused, by number, place and the work words then; or both tables
 -- The laws are in `Entering/Laws.antt`. Assumes nothing.
 use Rattle.std.specs.Prelude.{ℕ, Bool, true, false, ◌&&◌, List, length, eqb}
 use Rattle.table.specs.Table.{Table}

@@ -1,7 +1,7 @@
 -- A feeding call with wash hours: its whole outcome (02, W5).
---     timedPairs     the events, each with its minute;  eventsOf, minutesOf: back
---     timedEnding    where the events end;  timedRefusing: a refusal that keeps the areas
---     timedOf        answer, areas and work words of a call
+--     timed_pairs    the events, each with its minute;  events_of, minutes_of: back
+--     timed_ending   where the events end;  timed_refusing: a refusal that keeps the areas
+--     timed_of       answer, areas and work words of a call
 -- The laws are in `Feed/Laws.antt`. Assumes nothing.
 use Rattle.std.specs.Prelude.{ℕ, List, [], ◌∷◌, map, length}
 use Rattle.std.proofs.Math.Option.{none, some}

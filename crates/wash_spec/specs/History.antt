@@ -1,10 +1,10 @@
 -- A monitor along a list of calls with the same tables and timetable, and what 02, W5, says of it.
 --     unstarted                       the monitor that lists begin with
---     timedCallOn, timedHistory       a monitor after one call; after a list of calls
+--     timed_call_on, timed_history    a monitor after one call; after a list of calls
 --     TimedLeaves                     record and areas are an outcome's
 --     TimedEventful, TimedAlong       no call of a list is refused with 2 to 10 or 16
 --     TimedJoins                      what a call joins, by its answer
---     sinceStart                      the events since a list's last start
+--     since_start                     the events since a list's last start
 --     AfterStart, TimedAfter          the judgement on them; all that is said of the monitor by the joined list
 -- Assumes nothing.
 use Rattle.std.specs.Prelude.{ℕ, ◌*◌, ◌≤◌, ◌≡◌, cond, List, [], ◌∷◌, ◌++◌, ◌⊎◌, length, take, T}

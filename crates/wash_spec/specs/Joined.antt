@@ -1,9 +1,9 @@
 -- Lists of calls and their joined events, each with its minute (02, W5; 01, "Joined events"). From those sentences
 -- alone: nothing here knows of the answers.
---     TimedCall, lookedAt     a call's own events, minutes and work area; those that are looked at
+--     TimedCall, looked_at    a call's own events, minutes and work area; those that are looked at
 --     Stretch, stretch        of a joined list: its last minute, and the events since its last start
---     timedHalts              the call stops before this event
---     timedJoined             the list after a list of calls
+--     timed_halts             the call stops before this event
+--     timed_joined            the list after a list of calls
 -- The laws are in `Joined/Laws.antt`. Assumes nothing.
 use Rattle.std.specs.Prelude.{ℕ, Bool, true, false, ◌&&◌, ◌||◌, List, [], ◌∷◌, ◌++◌, map, length, eqb, leb, ltb}
 use Rattle.std.proofs.Math.Option.{Option, none, some}

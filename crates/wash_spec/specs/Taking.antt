@@ -1,8 +1,8 @@
 -- One event with its minute (02, W5), on two tables: the everyday one and that of the wash hours.
---     drawingAt              the table in force at a minute
---     clockBack, startDue    17 is met; the monitor starts afresh
---     takeFresh, takeOn      the event on a fresh start; on what stands
---     takeTimed              the monitor after it, or the refusal
+--     drawing_at             the table in force at a minute
+--     clock_back, start_due  17 is met; the monitor starts afresh
+--     take_fresh, take_on    the event on a fresh start; on what stands
+--     take_timed             the monitor after it, or the refusal
 -- The laws are in `Taking/Laws.antt`. Assumes nothing.
 use Rattle.std.specs.Prelude.{ℕ, Bool, true, false, ◌||◌, List, [], length, ltb, leb}
 use Rattle.table.specs.Table.{Table}

@@ -1,5 +1,5 @@
 -- What stands between two events with their minutes (02, W5).
---     listAt           the number list of the table in force
+--     list_at          the number list of the table in force
 --     TimedStanding    what stands before an event;  Ready: with all that an event asks for
 -- The laws are in `Standing/Laws.antt`. Assumes nothing.
 use Rattle.std.specs.Prelude.{ℕ, ◌≡◌, true, List, length, T}

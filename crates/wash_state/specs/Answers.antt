@@ -1,7 +1,7 @@
 -- The code's values of wash hours as 02, W5, has them (01, "Which form goes where": "Where an answer is an enum, the
 -- promises use a definition").
---     timedStateOf, timedMonitorOf    a record with its minute, or none yet; the same with both areas
---     timedAnswerOf, timedOutcome     an answer; with what stands in the lent areas
+--     timed_state_of, timed_monitor_of  a record with its minute, or none yet; the same with both areas
+--     timed_answer_of, timed_outcome  an answer; with what stands in the lent areas
 -- Assumes nothing.
 use Rattle.std.specs.Prelude.{ℕ, List}
 use Rattle.wash_state.specs.declared.answer.TimedState as code

@@ -1,8 +1,8 @@
 -- `cspe_timed_feed`: what it returns and what stands in the lent words afterwards (02, W5). The record is seven lent
 -- words (`Words`).
---     timedNumber, timedPlace, timedRecordAfter    an answer in words
+--     timed_number, timed_place, timed_record_after  an answer in words
 --     TimedTold                                    the promise of `tell_timed`
---     timedCall                                    of all that is lent
+--     timed_call                                   of all that is lent
 --     TimedWay                                     the same by the operation's answer: every word of each way
 -- The laws are in `Call/Laws.antt`. Assumes nothing.
 use Rattle.std.specs.Prelude.{ℕ, ◌≡◌, Bool, true, false, List, length}

@@ -1,8 +1,8 @@
 -- The record of wash hours in seven lent words (02, W5; the words are ours): the five of the record (crate words_spec),
 -- then whether there is one, then the last event's minute.
---     timedRecordMeasured    a lent record is of seven words
---     timedIn                what seven words hold
---     timedWords             the words of a record, or of none yet
+--     timed_record_measured  a lent record is of seven words
+--     timed_in               what seven words hold
+--     timed_words            the words of a record, or of none yet
 -- The laws are in `Words/Laws.antt`. Assumes nothing.
 use Rattle.std.specs.Prelude.{ℕ, Bool, true, false, List, [], ◌∷◌, ◌++◌, length, get_or, replicate, eqb}
 use Rattle.words_spec.specs.Words.{state_in, words_of}

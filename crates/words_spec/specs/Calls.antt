@@ -1,10 +1,10 @@
 -- `cspe_open`, `cspe_feed`, `cspe_try`, `cspe_offer` and `cspe_view`: what they return and what stands in the lent
 -- words afterwards (01, "Operations"; 02, W4, W7). The record is five lent words (`Words`).
---     MonitorCall, MonitorTold, feedCall    of Feed
---     OpenCall, openCall                    of Open: also, whether there is a record
---     tryCall                               of Try, in the further record and areas
---     OfferCall, OfferTold, offerCall       of Offer
---     ViewCall, viewCall                    of View
+--     MonitorCall, MonitorTold, feed_call   of Feed
+--     OpenCall, open_call                   of Open: also, whether there is a record
+--     try_call                              of Try, in the further record and areas
+--     OfferCall, OfferTold, offer_call      of Offer
+--     ViewCall, view_call                   of View
 -- The laws are in `Calls/Laws.antt`. Assumes nothing.
 use Rattle.std.specs.Prelude.{ℕ, ◌≡◌, Bool, true, false, ◌&&◌, List, length, eqb}
 use Rattle.monitor_spec.specs.State.{Monitor, Answer, given, refused, stopped, Outcome}

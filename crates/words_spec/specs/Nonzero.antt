@@ -1,8 +1,8 @@
 -- No refusal has the number 0 (ours: 0 is returned where there is none).
---     list-some, bytes-some      2 to 9, of the table layer
+--     list_some, bytes_some      2 to 9, of the table layer
 --     Stop, Why                  a step that stops has another number than 0; so has a fold that does
---     event-stop                 11 to 13, of an event
---     through-why                a fold over such steps
+--     event_stop                 11 to 13, of an event
+--     through_why                a fold over such steps
 -- Assumes nothing.
 use Rattle.std.specs.Prelude.{ℕ, suc, ◌≡◌, refl, true, List, [], ◌∷◌, T}
 use Rattle.std.proofs.Common.{arith, subst}

@@ -1,8 +1,8 @@
 -- `cspe_read` and `cspe_write`: what they return and what stands in the lent words afterwards (01, "Operations").
---     TableCall, tableSaid    the number returned, the value, the output and the work words
+--     TableCall, table_said   the number returned, the value, the output and the work words
 --     TableTold               a number and a value are those of an answer
---     tableCall               the call of an outcome of Read or Write
---     readCall, writeCall     of the words lent
+--     table_call              the call of an outcome of Read or Write
+--     read_call, write_call   of the words lent
 -- The laws are in `Tables/Laws.antt`. Assumes nothing.
 use Rattle.std.specs.Prelude.{ℕ, ◌≡◌, Bool, true, false, List}
 use Rattle.table.specs.Operations.{Answer, done, refusal, Outcome, read_of, write_of}

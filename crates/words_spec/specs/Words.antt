@@ -1,7 +1,7 @@
 -- The state record in five lent words (01, "Operations": "The record holds taken, residual count, and running or
 -- failed at a place"; 02, W1, the peak; the words are ours).
---     recordMeasured    a lent record is of five words
---     stateIn           the record that five words hold
+--     record_measured   a lent record is of five words
+--     state_in          the record that five words hold
 --     words_of           the words of a record
 -- The laws are in `Words/Laws.antt`. Assumes nothing.
 use Rattle.std.specs.Prelude.{ℕ, Bool, true, false, List, [], ◌∷◌, ◌++◌, length, get_or, eqb}

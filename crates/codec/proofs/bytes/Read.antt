@@ -1,7 +1,7 @@
 -- The numbers of some bytes, read one by one into an output: what holds at each turn of `decode`.
 --     Front                     after count numbers, with the place after them
---     front-none, front-more    with none read; with one more
---     front-short, front-loose  what is known at an end
+--     front_none, front_more    with none read; with one more
+--     front_short, front_loose  what is known at an end
 -- Assumes nothing.
 use Prim.Native.Nat.{ℕ, suc, ◌+◌, ◌-◌, ◌≤◌, ◌<◌}
 use native.Mathlib.Omega.{arith}

@@ -1,7 +1,7 @@
 -- The bytes of a list, written number by number: what holds at each turn of `encode`.
 --     OutputFilled                 the bytes of the numbers before i stand in the output, the rest of which is kept
 --     filled_none, filled_more     with none written; with one more
---     filled-room, filled-done     there is room for the next; all are written
+--     filled_room, filled_done     there is room for the next; all are written
 -- Assumes nothing.
 use Prim.Native.Nat.{ℕ, zero, suc, ◌+◌, ◌≤◌, ◌<◌}
 use native.Mathlib.Omega.{arith}

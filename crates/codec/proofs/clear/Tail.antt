@@ -1,5 +1,5 @@
 -- A list whose tail is zeroed, number by number.
---     tail-first, tail_more, tail-done    with no number zeroed, with one more, and with all of them
+--     tail_first, tail_more, tail_done    with no number zeroed, with one more, and with all of them
 -- Assumes nothing.
 use Prim.Native.Nat.{ℕ, zero, suc, ◌+◌, ◌-◌, ◌≤◌, ◌<◌}
 use native.Mathlib.Omega.{arith}

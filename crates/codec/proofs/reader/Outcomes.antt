@@ -1,8 +1,8 @@
 -- What Read gives by the ways out of its code.
---     done-accepted, done-declined     what `judge` says of the numbers
---     as-after, as-accepted, as-declined    the judgement of the bytes, from that of their numbers
---     said-long, said-accepted, said-declined    answer and output
---     read-wrong-output, read-wrong-work, read-said    the whole outcome
+--     done_accepted, done_declined     what `judge` says of the numbers
+--     as_after, as_accepted, as_declined    the judgement of the bytes, from that of their numbers
+--     said_long, said_accepted, said_declined    answer and output
+--     read_wrong_output, read_wrong_work, read_said    the whole outcome
 -- Assumes nothing.
 use Prim.Native.Nat.{ℕ, ◌-◌, ◌≤◌, ◌<◌}
 use native.Mathlib.Omega.{arith}

@@ -1,6 +1,6 @@
 -- What Write gives by the ways out of its code.
---     said-short, said-written, said-declined    answer and output
---     write-wrong-work, write-said               the whole outcome
+--     said_short, said_written, said_declined    answer and output
+--     write_wrong_work, write_said               the whole outcome
 -- Assumes nothing.
 use Prim.Native.Nat.{ℕ, ◌≤◌, ◌<◌}
 use native.Mathlib.Omega.{arith}

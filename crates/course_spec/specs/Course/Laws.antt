@@ -1,11 +1,11 @@
 -- What the functions promise, by the ways out of their code.
 --     written                                      `say`
---     turn-went, turn-unsaid, turn_stopped         `turn`, by what `trace_event` and `say` answered
---     turned-after                                 after as many lines
---     read-tracing, read_next, read_whole, read-over     `take_read`, after i events
---     arrived-bytes, arrived-ended, arrived-broken     `after_arrived`
---     Brought, brought, follow-over                `follow`, by what `after_arrived` answered
---     begin-said                                   `begin`
+--     turn_went, turn_unsaid, turn_stopped         `turn`, by what `trace_event` and `say` answered
+--     turned_after                                 after as many lines
+--     read_tracing, read_next, read_whole, read_over     `take_read`, after i events
+--     arrived_bytes, arrived_ended, arrived_broken     `after_arrived`
+--     Brought, brought, follow_over                `follow`, by what `after_arrived` answered
+--     begin_said                                   `begin`
 -- Assumes nothing.
 use Rattle.std.specs.Prelude.{ℕ, suc, ◌+◌, ◌≤◌, ◌<◌, length, drop, get_or}
 use Rattle.std.proofs.Common.{arith, ap, sym, ◌∙◌, take-append-drop, take-suc, take_all, length-take-le}

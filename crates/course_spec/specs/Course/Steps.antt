@@ -1,9 +1,9 @@
 -- Some events, and some more.
---     onward-none, onward_then         no event; some and then some more
---     refused-then, refused-more       refused after some events; more events than that
---     event-onward, event-refused      one event, by the promise of `turn`
---     gone-none, gone-then             no read; one read more
---     gone-refused                     refused in one read more
+--     onward_none, onward_then         no event; some and then some more
+--     refused_then, refused_more       refused after some events; more events than that
+--     event_onward, event_refused      one event, by the promise of `turn`
+--     gone_none, gone_then             no read; one read more
+--     gone_refused                     refused in one read more
 -- Assumes nothing.
 use Rattle.std.specs.Prelude.{ℕ, ◌+◌, ◌<◌, ◌≡◌, refl, length}
 use Rattle.std.proofs.Common.{arith, ap, sym, subst, ◌∙◌, length-append}

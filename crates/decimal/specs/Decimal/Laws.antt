@@ -1,7 +1,7 @@
 -- The digits of a number.
---     within-one, within_more        decimalWithin by cases;  within-short: its length
---     denoted-last                   one digit more
---     within-digits, is-decimal      a number's digits denote it
+--     within_one, within_more        decimal_within by cases;  within_short: its length
+--     denoted_last                   one digit more
+--     within_digits, is_decimal      a number's digits denote it
 -- Not here: that no others do, `Decimal/Unique.antt`. Assumes nothing.
 use Rattle.std.specs.Prelude.{ℕ, zero, suc, ◌+◌, ◌-◌, ◌*◌, ◌/◌, ◌%◌, ◌^◌, ◌≤◌, ◌<◌, ◌≡◌, refl, List, [], ◌∷◌, ◌++◌, length, get_or}
 use native.Mathlib.Omega.{arith}
@@ -11,7 +11,7 @@ use Rattle.std.proofs.Math.ListN.{get_or-append}
 use Rattle.numbers.specs.Every.{All, all_append}
 use Rattle.decimal.specs.Decimal.{decimal_within, decimal, denoted_after, denoted, IsDecimal}
 
--- ---- decimalWithin, by cases
+-- ---- decimal_within, by cases
 module _ (m n : ℕ) where
   pub within_one : n < 10 → decimal_within (suc m) n ≡ (48 + n) ∷ []
   unfolding decimal_within

@@ -1,6 +1,6 @@
 -- No other bytes than a number's digits denote it with no zero in front; and the digits of a number, one by one.
---     decimal-is                      bytes that denote a number are its digits
---     decimal-one, decimal-more       decimal by cases;  decimal-short: its length
+--     decimal_is                      bytes that denote a number are its digits
+--     decimal_one, decimal_more       decimal by cases;  decimal_short: its length
 -- Not here: that a number's digits denote it, `Decimal/Laws.antt`. Assumes nothing.
 use Rattle.std.specs.Prelude.{ℕ, zero, suc, ◌+◌, ◌-◌, ◌*◌, ◌/◌, ◌%◌, ◌^◌, ◌≤◌, ◌<◌, ◌≡◌, refl, List, [], ◌∷◌, ◌++◌, length, get_or, take}
 use Rattle.std.proofs.Common.{arith, pow-suc, ap, sym, ◌∙◌, subst, take-suc, take_all, length-take-le}

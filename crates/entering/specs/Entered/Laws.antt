@@ -1,7 +1,7 @@
 -- Entering: one law per way out, and what its answer says.
---     enter-unlent, enter-checked                      lent lengths; the judging of the list
---     on-declined, on-disagreeing, on-agreeing         the same of a monitor; whether state and areas agree
---     entered-shut, entered-open, open_lent, open-on   from the answer
+--     enter_unlent, enter_checked                      lent lengths; the judging of the list
+--     on_declined, on_disagreeing, on_agreeing         the same of a monitor; whether state and areas agree
+--     entered_shut, entered_open, open_lent, open_on   from the answer
 -- Assumes nothing.
 use Rattle.std.specs.Prelude.{ℕ, ◌≡◌, Bool, true, false, ◌&&◌, List, length, eqb}
 use Rattle.std.proofs.Math.Decide.{ℕ_discrete}

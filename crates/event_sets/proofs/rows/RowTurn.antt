@@ -1,8 +1,8 @@
 -- A row, event by event.
 --     Head                             j events are read, none below `least` can follow, and the words of their mask
---     row-short, row-off               no count; a count above the alphabet's size
---     head_first, head-next, head_done before the first event; one event more; all are read
---     head-short, head-low, head-high  no event; one below `least`; one outside the alphabet
+--     row_short, row_off               no count; a count above the alphabet's size
+--     head_first, head_next, head_done before the first event; one event more; all are read
+--     head_short, head_low, head_high  no event; one below `least`; one outside the alphabet
 --     first_fits, second_fits          the words of a mask with one event more are words
 -- Assumes nothing.
 use Prim.Native.Nat.{ℕ, suc, ◌+◌, ◌^◌, ◌<◌, ◌≤◌}

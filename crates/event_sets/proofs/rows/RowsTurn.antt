@@ -1,7 +1,7 @@
 -- Rows, one after another.
 --     Head                             j rows are read, and their words stored
---     head_first, head-next, head_done before the first row; one row more; all are read
---     head-stop                        a row that is refused
+--     head_first, head_next, head_done before the first row; one row more; all are read
+--     head_stop                        a row that is refused
 -- Assumes nothing.
 use Prim.Native.Nat.{ℕ, ◌+◌, ◌<◌, ◌≤◌}
 use native.Mathlib.Omega.{arith}

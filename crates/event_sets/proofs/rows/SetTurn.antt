@@ -1,10 +1,10 @@
 -- A set, from its kind and its rows.
---     count-one, count-each, count-few   how many rows a set of a kind has; at most as many as there are events
---     over-small, over-large             whether there are too many rows
---     not-over, is-over, rows_fit        what that says of them
---     rows-room                          and then they have room
---     set-short, set-off, set-over       no kind; a kind that is none; one with too many rows
---     set-stop, set_found                a set whose rows are refused; whose rows were read
+--     count_one, count_each, count_few   how many rows a set of a kind has; at most as many as there are events
+--     over_small, over_large             whether there are too many rows
+--     not_over, is_over, rows_fit        what that says of them
+--     rows_room                          and then they have room
+--     set_short, set_off, set_over       no kind; a kind that is none; one with too many rows
+--     set_stop, set_found                a set whose rows are refused; whose rows were read
 -- Assumes nothing.
 use Prim.Native.Nat.{ℕ, zero, suc, ◌+◌, ◌<◌, ◌≤◌}
 use native.Mathlib.Omega.{arith}

@@ -1,8 +1,8 @@
 -- Sets, one after another.
 --     Head                             s sets are read, and indexed
---     head_first, head-next, head_done before the first set; one set more; all are read
---     head-room, head-fits             what there is room for before a set, and after it
---     head-stop                        a set that is refused
+--     head_first, head_next, head_done before the first set; one set more; all are read
+--     head_room, head_fits             what there is room for before a set, and after it
+--     head_stop                        a set that is refused
 -- Assumes nothing.
 use Prim.Native.Nat.{ℕ, ◌+◌, ◌*◌, ◌<◌, ◌≤◌}
 use native.Mathlib.Omega.{arith}

@@ -1,7 +1,7 @@
 -- The outcomes of Feed, by what stands before its events.
---     feed-enters                      what `take_all` asks for, of an operation that is entered
---     feed-declined, feed-fed          refusals 1 to 10; the events
---     ended-all                        a run from the first event is a whole call's
+--     feed_enters                      what `take_all` asks for, of an operation that is entered
+--     feed_declined, feed_fed          refusals 1 to 10; the events
+--     ended_all                        a run from the first event is a whole call's
 -- Assumes nothing.
 use Rattle.std.specs.Prelude.{ℕ, ◌≡◌, List, length}
 use Rattle.std.proofs.Math.Path.{ap, sym}

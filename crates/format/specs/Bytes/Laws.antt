@@ -1,7 +1,7 @@
 -- Bytes added to a text.
---     add-first, add-next, add_done     the loop of `add`
---     number-added                      a space and a number
---     spelled-shown                     `spell`
+--     add_first, add_next, add_done     the loop of `add`
+--     number_added                      a space and a number
+--     spelled_shown                     `spell`
 -- Assumes nothing.
 use Rattle.std.specs.Prelude.{ℕ, suc, ◌+◌, ◌≤◌, ◌<◌, ◌≡◌, List, [], ◌∷◌, ◌++◌, get_or, set, take}
 use Rattle.std.proofs.Common.{arith, sym, ◌∙◌, append_assoc, append-nil, length-append, take-suc, take-suc-set, take_all}

@@ -1,7 +1,7 @@
 -- What the functions on heads promise, by the ways out of their code.
---     cut-over, cut-missing, cut-there               by the length number and the bytes after it
---     head-value, head-truncated, head-malformed     by what is read at the input's start
---     head-within                                    the parts lie within the input
+--     cut_over, cut_missing, cut_there               by the length number and the bytes after it
+--     head_value, head_truncated, head_malformed     by what is read at the input's start
+--     head_within                                    the parts lie within the input
 -- Assumes nothing.
 use Rattle.std.specs.Prelude.{ℕ, ◌+◌, ◌-◌, ◌≤◌, ◌<◌, ◌≡◌, refl, List, length, take, drop}
 use Rattle.std.proofs.Common.{arith, ap₂, sym, ◌∙◌, length-drop, drop-drop}

@@ -1,4 +1,4 @@
--- The line of a record, by its verdict: state-running, state-failed. Assumes nothing.
+-- The line of a record, by its verdict: state_running, state_failed. Assumes nothing.
 use Rattle.std.specs.Prelude.{ℕ, ◌-◌, ◌≡◌}
 use Rattle.std.proofs.Common.{ap}
 use Rattle.std.proofs.Math.Path.{sym}

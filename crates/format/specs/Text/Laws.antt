@@ -1,6 +1,6 @@
 -- Decimal numbers as crate `io` makes them.
---     decimal-digits     the fewest digits that hold a number are its decimal
---     few-digits         of a u64 they are 20 at most
+--     decimal_digits     the fewest digits that hold a number are its decimal
+--     few_digits         of a u64 they are 20 at most
 -- Assumes nothing.
 use Rattle.std.specs.Prelude.{ℕ, zero, suc, ◌+◌, ◌-◌, ◌*◌, ◌/◌, ◌%◌, ◌<◌, ◌≤◌, ◌^◌, ◌≡◌}
 use Rattle.std.proofs.Common.{arith, pow-suc, sym, lt-ltb}

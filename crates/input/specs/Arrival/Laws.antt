@@ -1,7 +1,7 @@
 -- What one read brings.
---     arrival-broken, arrival-full, arrival-ended, arrival-some    by the tests on what it answered
+--     arrival_broken, arrival_full, arrival_ended, arrival_some    by the tests on what it answered
 --     arrives                                                      it is what `arrive` promises
---     arrives-bytes                                                the bytes that came
+--     arrives_bytes                                                the bytes that came
 -- Assumes nothing.
 use Rattle.std.specs.Prelude.{ℕ, ◌≤◌, ◌<◌, ◌≡◌, Bool, cond, ℤ, pos, negsuc, nat_abs, ltb, eqb}
 use native.Mathlib.Omega.{arith}

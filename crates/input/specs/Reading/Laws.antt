@@ -1,8 +1,8 @@
 -- What a read leaves.
---     read-broken, read-full, read-ended, read_more    by the tests on what it answered
+--     read_broken, read_full, read_ended, read_more    by the tests on what it answered
 --     counts                                           what a cast of the answer asks
---     more-grows, done-fills                           reading on goes further; what the buffer holds at the end
---     fills-part                                       the part of it that is the input's
+--     more_grows, done_fills                           reading on goes further; what the buffer holds at the end
+--     fills_part                                       the part of it that is the input's
 -- Assumes nothing.
 use Rattle.std.specs.Prelude.{ℕ, ◌+◌, ◌-◌, ◌≤◌, ◌<◌, Bool, cond, ℤ, pos, negsuc, nat_abs, T, ltb, eqb}
 use Rattle.std.proofs.Common.{lt_trans, lit<, SFits, Fits}

@@ -1,7 +1,7 @@
 -- Copying a part.
---     getD-behind, window-behind           what is the same behind a place
+--     get_d_behind, window_behind          what is the same behind a place
 --     Over, over_first, -next, -done       the loop of `copy_part`
---     leaf-copied                          a leaf's results are copied with their part
+--     leaf_copied                          a leaf's results are copied with their part
 -- Assumes nothing.
 use Rattle.std.specs.Prelude.{ℕ, suc, ◌+◌, ◌-◌, ◌<◌, ◌≤◌, ◌≡◌, refl, List, [], ◌∷◌, ◌++◌, length, get_or, set, take, drop}
 use Rattle.std.proofs.Common.{arith, add-one, ap, sym, subst, ◌∙◌, inl, inr, length-drop, drop-set-lt, take-suc, get_or-drop}

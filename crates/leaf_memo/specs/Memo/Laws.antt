@@ -1,10 +1,10 @@
 -- The laws of what a store keeps of leaves.
 --     entry_place                                      where an entry stands
---     entry-below, entry-behind                        an entry that is not touched
---     memo-behind, store-behind, -marks, -copies       no entry is touched
---     entry-writes, kept-before, store_kept            an entry is written
---     KeepsNone, none_first, -next, -done, keeps-one   nothing is kept in the first entries, in all; in one there is
---     forget-next, forget-done, store-zeros            a store that keeps nothing, such as zeros, is one of every table
+--     entry_below, entry_behind                        an entry that is not touched
+--     memo_behind, store_behind, -marks, -copies       no entry is touched
+--     entry_writes, kept_before, store_kept            an entry is written
+--     KeepsNone, none_first, -next, -done, keeps_one   nothing is kept in the first entries, in all; in one there is
+--     forget_next, forget_done, store_zeros            a store that keeps nothing, such as zeros, is one of every table
 -- Assumes nothing.
 use Rattle.std.specs.Prelude.{ℕ, ◌+◌, ◌*◌, ◌<◌, ◌≤◌, ◌≡◌, refl, List, length, get_or, set, take, drop, replicate}
 use Rattle.std.proofs.Common.{arith, sym, ◌∙◌, length-set, get_or-set_same, get_or-set_other, drop-set-lt}

@@ -1,7 +1,7 @@
 -- The laws of a look at a residual's results.
---     follower-known, follower-resolves     a leaf's follower is a term, which can be resolved
---     looks-from, looks-head                the first nodes; there are some where one is marked
---     looks-leaf, looks-next                a marked leaf; the nodes after the first
+--     follower_known, follower_resolves     a leaf's follower is a term, which can be resolved
+--     looks_from, looks_head                the first nodes; there are some where one is marked
+--     looks_leaf, looks_next                a marked leaf; the nodes after the first
 -- Assumes nothing.
 use Rattle.std.specs.Prelude.{ℕ, suc, ◌+◌, ◌-◌, ◌/◌, ◌%◌, ◌<◌, ◌≤◌, ◌≡◌, List, ◌∷◌, map, length, get_or}
 use Rattle.std.proofs.Common.{arith, ap, ◌∙◌, eq-eqb}

@@ -1,7 +1,7 @@
 -- What is told of a tree by whether there are residuals after the event.
---     still-prepared     there are none: all that there is to prepare is the number 0
---     prefix-word        there are some, and it is a leaf: a prefix whose set holds the event
---     pair-word          a pair's node is no prefix
+--     still_prepared     there are none: all that there is to prepare is the number 0
+--     prefix_word        there are some, and it is a leaf: a prefix whose set holds the event
+--     pair_word          a pair's node is no prefix
 -- Assumes nothing.
 use Rattle.std.specs.Prelude.{ℕ, ◌+◌, ◌*◌, ◌<◌, ◌≤◌, ◌≡◌, refl, Bool, true, false, List, [], ◌∷◌, length, get_or, eqb}
 use Rattle.std.proofs.Common.{arith, ap, ◌∙◌, inl, eqb-true}

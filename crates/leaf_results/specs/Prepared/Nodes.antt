@@ -1,9 +1,9 @@
 -- One node of a residual in a store.
---     leaf-fits                                 a known leaf's results are few
---     event-fits, sound-store, sound-kept       the event has room in a node word; the store is one of the table; so
+--     leaf_fits                                 a known leaf's results are few
+--     event_fits, sound_store, sound_kept       the event has room in a node word; the store is one of the table; so
 --                                               it is where the slot is the same
---     node-known, node-resolves, node-few       the node is a known term; its results can be resolved, and are few
---     fill-resolves, fill-yes, fill-store       `prepare_prefix`
+--     node_known, node_resolves, node_few       the node is a known term; its results can be resolved, and are few
+--     fill_resolves, fill_yes, fill_store       `prepare_prefix`
 -- Assumes nothing.
 use Rattle.std.specs.Prelude.{ℕ, zero, suc, ◌+◌, ◌-◌, ◌*◌, ◌<◌, ◌≤◌, ◌≡◌, refl, Bool, true, false, List, [], ◌∷◌, ◌++◌, map, length, get_or, set, take, eqb}
 use native.Mathlib.Omega.{arith}

@@ -1,8 +1,8 @@
 -- A leaf whose word was there before: its results are the same.
---     over-room, over-fills, over-store       they are copied from the leaf filled last
---     entry-few, entry-fills, entry-store     they are copied from where they are kept
+--     over_room, over_fills, over_store       they are copied from the leaf filled last
+--     entry_few, entry_fills, entry_store     they are copied from where they are kept
 --     kept_fills, kept_store                  they were not kept yet, and are now
---     last_none, last-kept, last-filled       the prefix filled last: none yet; the one that it was; this one
+--     last_none, last_kept, last_filled       the prefix filled last: none yet; the one that it was; this one
 -- Assumes nothing.
 use Rattle.std.specs.Prelude.{ℕ, ◌+◌, ◌*◌, ◌<◌, ◌≤◌, ◌≡◌, List, length, get_or, take}
 use Rattle.std.proofs.Common.{arith, ◌∙◌}

@@ -1,10 +1,10 @@
 -- A store is filled tree by tree: one law per way out of `prepare_tree`.
---     prepared-kept                         what stands of a tree is the same where nothing before its end is touched
---     node-inside, tree-asked               the first node of a tree; what `takes_at` is asked of it
---     marked-store, passed-done             a tree that cannot take the event
---     leaf-held, leaf-done                  a prefix that takes it
---     left-asks, right-asks, pair-done      a pair that takes it, its left side filled first
---     whole-asks, whole-done                the whole residual: `prepare`
+--     prepared_kept                         what stands of a tree is the same where nothing before its end is touched
+--     node_inside, tree_asked               the first node of a tree; what `takes_at` is asked of it
+--     marked_store, passed_done             a tree that cannot take the event
+--     leaf_held, leaf_done                  a prefix that takes it
+--     left_asks, right_asks, pair_done      a pair that takes it, its left side filled first
+--     whole_asks, whole_done                the whole residual: `prepare`
 -- Assumes nothing.
 use Rattle.std.specs.Prelude.{ℕ, ◌+◌, ◌*◌, ◌<◌, ◌≤◌, ◌≡◌, false, get_or, set, take, ltb}
 use Rattle.std.proofs.Common.{arith, ap, sym, ◌∙◌, inl, get_or-set_same, ltb-true}

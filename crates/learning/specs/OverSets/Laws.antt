@@ -1,8 +1,8 @@
 -- One event more over the sets met, on plain values: one law for each way out.
---     out-reached, out-room, out-shape      a set that is laid out is reached; what picking up the next one asks for
---     learn-full, learn-link, learn-kept    it has no room; it is linked, and kept
---     Sizes, first-full, first-kept         the set of the monitor that a run begins with
---     begun-full, begun_kept                the same where all sets are forgotten on the way
+--     out_reached, out_room, out_shape      a set that is laid out is reached; what picking up the next one asks for
+--     learn_full, learn_link, learn_kept    it has no room; it is linked, and kept
+--     Sizes, first_full, first_kept         the set of the monitor that a run begins with
+--     begun_full, begun_kept                the same where all sets are forgotten on the way
 -- Assumes nothing.
 use Rattle.std.specs.Prelude.{ℕ, suc, ◌+◌, ◌*◌, ◌<◌, ◌≤◌, ◌≡◌, List, length, get_or, set}
 use Rattle.std.proofs.Common.{arith, sym, subst, ◌∙◌, length-set, get_or-set_same}

@@ -1,7 +1,7 @@
 -- What `open_list` and `open` promise, by the ways out of their code.
---     list-given, list-refused, list-stopped     by Open's answer
---     opens-numbers, opens-refused               by the table that was read
---     started-within                             what `open` gives lies within the list and the input
+--     list_given, list_refused, list_stopped     by Open's answer
+--     opens_numbers, opens_refused               by the table that was read
+--     started_within                             what `open` gives lies within the list and the input
 -- Assumes nothing.
 use Rattle.std.specs.Prelude.{ℕ, ◌-◌, ◌≤◌, ◌≡◌, length, take, drop}
 use Rattle.std.proofs.Common.{arith, ap, subst, ◌∙◌, length-drop}

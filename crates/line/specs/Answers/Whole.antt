@@ -1,6 +1,6 @@
 -- What `finish` and `line` promise, by the ways out of their code.
---     end-going, end-over                          by what the last piece left
---     line-started, line_refused                   by what `open` gives
+--     end_going, end_over                          by what the last piece left
+--     line_started, line_refused                   by what `open` gives
 -- Assumes nothing.
 use Rattle.std.specs.Prelude.{ℕ, ◌-◌, ◌≡◌, length}
 use Rattle.std.proofs.Common.{arith, ◌∙◌}

@@ -1,6 +1,6 @@
 -- What `feed_front` and `open_front` promise, by the ways out of their code.
---     front_goes, front-over       by what the front's events leave
---     says-started, says-refused   by what `open` gives
+--     front_goes, front_over       by what the front's events leave
+--     says_started, says_refused   by what `open` gives
 -- Assumes nothing.
 use Rattle.std.specs.Prelude.{ℕ, ◌-◌, ◌≤◌, refl, Bool, length}
 use Rattle.std.proofs.Common.{arith, sym, ◌∙◌}

@@ -1,6 +1,6 @@
 -- One turn of `follow`, on a piece p of which a part was filled.
---     turn_on, turn-took    the monitor goes on, and has taken the whole piece
---     turn-over             a line stands
+--     turn_on, turn_took    the monitor goes on, and has taken the whole piece
+--     turn_over             a line stands
 -- Assumes nothing.
 use Rattle.std.specs.Prelude.{ℕ, ◌<◌, ◌≡◌, true, false, List, length, take}
 use Rattle.std.proofs.Common.{arith, ap, ◌∙◌}

@@ -1,8 +1,8 @@
 -- Pieces, one after the other, come to a line of the input.
---     goes_first, goes-next, goes_over    no piece; one piece more, after which the monitor goes on, or a line stands
---     goes-took                           where it goes on, all of the piece is taken
---     flatten-last                        a piece more, joined
---     front-line, follows-judged          a line that is said of the front, or after it, is one of the input
+--     goes_first, goes_next, goes_over    no piece; one piece more, after which the monitor goes on, or a line stands
+--     goes_took                           where it goes on, all of the piece is taken
+--     flatten_last                        a piece more, joined
+--     front_line, follows_judged          a line that is said of the front, or after it, is one of the input
 -- Assumes nothing.
 use Rattle.std.specs.Prelude.{ℕ, ◌≤◌, ◌<◌, Bool, ◌⊎◌, length}
 use Rattle.std.proofs.Common.{arith, ◌∙◌, inl, inr}

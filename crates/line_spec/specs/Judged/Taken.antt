@@ -1,7 +1,7 @@
 -- A monitor that goes on has taken every event that it was fed, and its counter has not run over.
---     event-took      one event was taken
---     given-took      Feed gave a record
---     course-took     the course goes on
+--     event_took      one event was taken
+--     given_took      Feed gave a record
+--     course_took     the course goes on
 -- Assumes nothing.
 use Rattle.std.specs.Prelude.{ℕ, suc, ◌≡◌, List, [], ◌∷◌, length}
 use Rattle.std.proofs.Common.{arith, ap, sym, subst, ◌∙◌}

@@ -1,6 +1,6 @@
 -- The program's calls come to the line of the calls on all pieces.
 --     stays         a line that stands is the line, whatever pieces follow
---     ends-pieces   with `after_piece` on each piece a line stands at the end, and it is the same
+--     ends_pieces   with `after_piece` on each piece a line stands at the end, and it is the same
 -- Assumes nothing.
 use Rattle.std.specs.Prelude.{ℕ, ◌≡◌, refl, false, List, [], ◌∷◌, drop}
 use Rattle.std.proofs.Common.{ap, sym, ◌∙◌}

@@ -1,7 +1,7 @@
 -- The calls on an input, whole or in pieces, come to the line of the input, whatever stood in the lent buffers.
---     fed-work        what a piece leaves, whatever the work area held
---     pieces-lent     the line of the calls on a front and pieces
---     whole-line      the line of `line`
+--     fed_work        what a piece leaves, whatever the work area held
+--     pieces_lent     the line of the calls on a front and pieces
+--     whole_line      the line of `line`
 -- Assumes nothing.
 use Rattle.std.specs.Prelude.{ℕ, ◌≤◌, ◌≡◌, Bool, true, false, cond, ◌⊎◌, length}
 use Rattle.std.proofs.Math.Path.{refl, ap}

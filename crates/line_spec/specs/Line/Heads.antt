@@ -1,10 +1,10 @@
 -- The head of an input that goes on: what its beginning decides, whatever follows.
---     value-more, malformed-more     a length number that was read, or that is none
---     truncated-short                bytes that end within a number are two at most
---     widenHead, Fixed               a head with more events; a head that stays: any but 3
---     head_more, long-fixed          a head that stays;  one of 16,387 bytes does
+--     value_more, malformed_more     a length number that was read, or that is none
+--     truncated_short                bytes that end within a number are two at most
+--     widen_head, Fixed              a head with more events; a head that stays: any but 3
+--     head_more, long_fixed          a head that stays;  one of 16,387 bytes does
 --     parts_more                     a table that is there, stays; what follows belongs to the events
---     over-more, loose-more          a length number over 16,384 stays; one that is not written as it should be
+--     over_more, loose_more          a length number over 16,384 stays; one that is not written as it should be
 -- Assumes nothing.
 use Rattle.std.specs.Prelude.{ℕ, zero, suc, ◌-◌, ◌≤◌, ◌≡◌, refl, Bool, true, false, cond, List, [], ◌∷◌, ◌++◌, length, ltb, leb, eqb}
 use Rattle.std.proofs.Common.{arith, ap₂, sym, subst, ◌∙◌, length-append, length-drop, ltb-true, ltb-false}

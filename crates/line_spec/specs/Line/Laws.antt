@@ -1,8 +1,8 @@
 -- The head of an input.
---     cut-over, cut-missing, cut-there     its parts, by the length number
---     head-events                          the events end the input
---     head-ways                            what it is, by the bytes
---     slots-256                            the slots that the program lends
+--     cut_over, cut_missing, cut_there     its parts, by the length number
+--     head_events                          the events end the input
+--     head_ways                            what it is, by the bytes
+--     slots_256                            the slots that the program lends
 -- Assumes nothing.
 use Rattle.std.specs.Prelude.{ℕ, ◌+◌, ◌-◌, ◌≤◌, ◌<◌, ◌≡◌, Bool, true, false, List, ◌++◌, take, ltb}
 use Rattle.std.proofs.Common.{arith, ap, ◌∙◌, length-drop, take-append-drop, drop-drop, length-take-le}

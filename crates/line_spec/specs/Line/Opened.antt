@@ -1,6 +1,6 @@
 -- The line of a number list and events is that of one Open with these events (02, W7): the program opens with none, and
 -- feeds them.
---     opened-line     of a list and events;  whole-opened: of an input
+--     opened_line     of a list and events;  whole_opened: of an input
 -- Assumes nothing.
 use Rattle.std.specs.Prelude.{ℕ, ◌≤◌, ◌≡◌, true}
 use Rattle.std.proofs.Math.Path.{ap, sym}

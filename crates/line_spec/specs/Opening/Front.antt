@@ -1,9 +1,9 @@
 -- What `open_input_of` leaves is the front of the input.
---     lent_out, lent-in          the lent lengths
---     open-unfit                 where one is wrong
---     open-wrong, open-accepted, open-declined     by the head, and by Read's judgement
---     open-ways                  its ways
---     open-course, open-began    the course is that of the front; where there is a record, what holds besides
+--     lent_out, lent_in          the lent lengths
+--     open_unfit                 where one is wrong
+--     open_wrong, open_accepted_lem, open_declined  by the head, and by Read's judgement
+--     open_ways                  its ways
+--     open_course_lem, open_began  the course is that of the front; where there is a record, what holds besides
 -- Assumes nothing.
 use Rattle.std.specs.Prelude.{ℕ, ◌-◌, ◌≡◌, Bool, List, ◌++◌, take, eqb}
 use Rattle.std.proofs.Common.{arith, ◌∙◌, eq-eqb, eqb-true}

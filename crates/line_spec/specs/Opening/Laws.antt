@@ -1,8 +1,8 @@
 -- What Read and Open with an empty list leave of lent buffers of the right lengths, whatever stood in them.
---     areas-measured                     areas of 4,096 words have a right length
---     fed-fresh                          Open's course is that of a fresh monitor
---     fresh-work                         it clears the work area
---     table-accepted, table-declined     a table's bytes read and started, by the judgement on them
+--     areas_measured_lem                 areas of 4,096 words have a right length
+--     fed_fresh                          Open's course is that of a fresh monitor
+--     fresh_work                         it clears the work area
+--     table_accepted_lem, table_declined_lem  a table's bytes read and started, by the judgement on them
 -- Assumes nothing.
 use Rattle.std.specs.Prelude.{ℕ, ◌-◌, ◌≡◌, refl, Bool, true, false, ◌&&◌, ltb}
 use native.Mathlib.Omega.{arith}

@@ -1,6 +1,6 @@
 -- The line of an input in pieces is that of the whole: the front is opened, and each piece goes on where the one
 -- before ended.
---     over-stays         a line that stands, stands
+--     over_stays         a line that stands, stands
 --     pieces_whole       all of it
 -- Assumes nothing.
 use Rattle.std.specs.Prelude.{ℕ, ◌≤◌, ◌≡◌, refl, Bool, true, false, ◌&&◌, ◌⊎◌, length}

@@ -1,7 +1,7 @@
 -- An input in pieces gives the line of the whole.
---     fold-stopped         a fold that stopped does not see what follows
---     course, piece-course  what a fold of events leaves of a running monitor
---     piece-more           two pieces are one
+--     fold_stopped         a fold that stopped does not see what follows
+--     course, piece_course  what a fold of events leaves of a running monitor
+--     piece_more           two pieces are one
 -- Assumes nothing.
 use Rattle.std.specs.Prelude.{ℕ, suc, ◌+◌, true, length}
 use Rattle.std.proofs.Common.{arith, subst, ◌∙◌, eq-eqb}

@@ -1,7 +1,7 @@
 -- The loop of `judge`: after some records, what is left of the book gives the answer.
 --     Judging                                        the invariant
---     judging-first, judging-next                    it holds before the first record, and after one more
---     judging-done, judging-unread, judging-unsound  the ways out
+--     judging_first, judging_next                    it holds before the first record, and after one more
+--     judging_done, judging_unread, judging_unsound  the ways out
 -- Assumes nothing.
 use Rattle.std.specs.Prelude.{ℕ, ◌+◌, ◌≤◌, ◌<◌, ◌≡◌, refl, true, false, length}
 use Rattle.std.proofs.Common.{arith, sym, ◌∙◌}

@@ -1,8 +1,8 @@
 -- The records of a book, one after the other.
---     book-none, book-more, book-unsound, book-unread    bookFrom by cases
---     First, book-first, book-not-unread, book-end       a good book by its first record
---     total-within, total-over, within-total, over-total total_of by cases, and back
---     added-within, added-over, added-again              `add`
+--     book_none, book_more, book_unsound, book_unread    book_from by cases
+--     First, book_first, book_not_unread, book_end       a good book by its first record
+--     total_within, total_over, within_total, over_total total_of by cases, and back
+--     added_within, added_over, added_again              `add`
 -- Not here: whether a record is a good one, `Book/Sound.antt`. Assumes nothing.
 use Rattle.std.specs.Prelude.{ℕ, zero, suc, ◌+◌, ◌-◌, ◌≤◌, ◌<◌, ◌≡◌, Bool, true, false, cond, List, [], ◌∷◌, length}
 use Rattle.std.proofs.Common.{arith, ap, sym, ◌∙◌, length-drop, le-ltb, lt-ltb}
@@ -17,7 +17,7 @@ use Rattle.lot_book.specs.Book.{sound, Book, lots, bad, add, step, unless_none, 
 use Rattle.lot_book.specs.Book.{total_of, Added}
 use Rattle.lot_book.specs.Book.Sound.{GoodRecord, sound_out}
 
--- ---- readBook, for any count of records that is enough
+-- ---- read_book, for any count of records that is enough
 same_rest : (s : List ℕ) (floor i : ℕ) (f g : ℕ → List ℕ → Book) (x : LotScan) → read_lot s ≡ x
     → ((h : ℕ) (t : List ℕ) → length t < length s → f h t ≡ g h t) → step floor i f x ≡ step floor i g x
 unfolding step
@@ -41,7 +41,7 @@ enough (suc k) (suc m) floor i (c ∷ s) a b =
     same_rest (c ∷ s) floor i _ _ (read_lot (c ∷ s)) refl
     (λ h t l. enough k m h (i + 1) t (omega arith) (omega arith))
 
--- ---- bookFrom, by cases
+-- ---- book_from, by cases
 pub book_none : (floor i : ℕ) → book_from floor i [] ≡ lots []
 unfolding book_from read_book unless_none
 book_none floor i = refl

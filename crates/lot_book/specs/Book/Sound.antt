@@ -1,6 +1,6 @@
 -- The tests of `sound`, in the order of the code, and as facts.
---     sound-low to sound-running      one law for each way out of the function `sound`
---     GoodRecord, sound-out, sound-in      what it tests, as facts
+--     sound_low to sound_running      one law for each way out of the function `sound`
+--     GoodRecord, sound_out, sound_in      what it tests, as facts
 -- Assumes nothing.
 use Rattle.std.specs.Prelude.{ℕ, ◌≤◌, ◌<◌, ◌≡◌, Bool, true, false, ◌&&◌, ◌||◌, ◌⊎◌, T, ltb, leb, eqb}
 use Rattle.std.proofs.Common.{arith, sym, ◌∙◌, inl, inr, ltb→lt, leb→le, eqb→eq}

@@ -1,6 +1,6 @@
 -- One record at a position: one law for each way out of `lot_at`, and what callers need.
---     no_number, no-taken, no-mark, no_place, whole    the ways out of `lot_at`
---     lot-stands, lot-unread                           each answer of entry_at, as a scan of the bytes
+--     no_number, no_taken, no_mark, no_place, whole    the ways out of `lot_at`
+--     lot_stands, lot_unread                           each answer of entry_at, as a scan of the bytes
 -- Assumes nothing.
 use Rattle.std.specs.Prelude.{ℕ, ◌+◌, ◌-◌, ◌≤◌, ◌<◌, ◌≡◌, List, length, drop}
 use Rattle.std.proofs.Common.{arith, ap, sym, ◌∙◌, subst, length-drop, drop-drop}

@@ -1,7 +1,7 @@
 -- The record at the head of some bytes, by its four numbers.
---     LotRead, lot-read, read-lot     a record that was read: its numbers stand one after the other, and back
---     LotLost, lot-lost, lost-lot     none was read: the first number that is not there, and back
---     lot-extent                      how far a record goes
+--     LotRead, lot_read, read_lot_lem  a record that was read: its numbers stand one after the other, and back
+--     LotLost, lot_lost, lost_lot     none was read: the first number that is not there, and back
+--     lot_extent                      how far a record goes
 -- Not here: records at a position, `Lot/Laws.antt`. Assumes nothing.
 use Rattle.std.specs.Prelude.{ℕ, ◌+◌, ◌≡◌, List, length, drop}
 use Rattle.std.proofs.Common.{arith, ap, sym, ◌∙◌, subst, length-drop, drop-drop}
@@ -38,7 +38,7 @@ pub data LotLost : List ℕ → Type 0 where
       → scan_number s ≡ value v i s1 → scan_number s1 ≡ value w j s2 → scan_number s2 ≡ value m k s3
       → NoNumber (scan_number s3) → LotLost s
 
--- ---- each answer of readLot, number by number
+-- ---- each answer of read_lot, number by number
 abbrev LotScanned : List ℕ → LotScan → Type 0
 LotScanned s (lot r n rest) = LotRead s r n rest
 LotScanned s unread = LotLost s

@@ -1,9 +1,9 @@
 -- The numbers of a lot book at a position: one law for each way out of `later` and `read`, and what callers need.
---     cut, zero-byte, large, last, short, more, lost the ways out of `later`;  value-small: what it found is small
+--     cut, zero_byte, large, last, short, more, lost the ways out of `later`;  value_small: what it found is small
 --     none, one, several, broken                     those of `read`
---     limit-8, limit-under                           bounds of what a number's later groups give
---     number-stands                                  a number that was read, as a scan of the bytes
---     NoNumber, number-unread                        no number was read
+--     limit_8, limit_under                           bounds of what a number's later groups give
+--     number_stands                                  a number that was read, as a scan of the bytes
+--     NoNumber, number_unread                        no number was read
 -- Assumes nothing.
 use Prim.Native.Nat.{ℕ, zero, suc, ◌+◌, ◌-◌, ◌*◌, ◌≤◌, ◌<◌}
 use native.Mathlib.Omega.{arith}
@@ -41,7 +41,7 @@ limit_under k h =
 pub value_small : (k v q : ℕ) (s : List ℕ) (at : ℕ) (x : Number) → x ≡ Value v q → Grouped k s at x → v < limit_of k 1
 value_small k v q s at x e g = subst (Small k) e g.small
 
--- ---- the equations of groupsAt
+-- ---- the equations of groups_at
 -- a low group before what was found after it
 after : ℕ → Number → Number
 after low (Value v q) = Value (low + v * 128) q

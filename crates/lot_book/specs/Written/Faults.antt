@@ -1,6 +1,6 @@
 -- The first bad record of a book: what `read_book` stops at is what `BadAt` says of the bytes, and back.
---     no-lot-in, no-lot-out          no record at the head of some bytes
---     bad-out, bad-in                the first bad record
+--     no_lot_in, no_lot_out          no record at the head of some bytes
+--     bad_out, bad_in                the first bad record
 -- Not here: good books, `Written/Laws.antt`; what makes a record bad, `Written/Unsound.antt`. Assumes nothing.
 use Rattle.std.specs.Prelude.{ℕ, zero, suc, ◌+◌, ◌^◌, ◌≤◌, ◌<◌, ◌≡◌, refl, Bool, true, false, List, [], ◌∷◌, ◌++◌, length}
 use Rattle.std.proofs.Common.{arith, ap, sym, ◌∙◌, subst, inl, inr, append_assoc, length-drop}

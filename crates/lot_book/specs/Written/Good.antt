@@ -1,6 +1,6 @@
 -- A good book, record by record: each lot is above the one before it.
---     GoodFrom                 a good book whose lots are above a bound;  good-range: its numbers are in range
---     good_book, book-good     it is a good book, and back
+--     GoodFrom                 a good book whose lots are above a bound;  good_range: its numbers are in range
+--     good_book, book_good     it is a good book, and back
 -- Assumes nothing.
 use Rattle.std.specs.Prelude.{ℕ, zero, suc, ◌+◌, ◌^◌, ◌≤◌, ◌<◌, ◌≡◌, refl, ◌⊎◌, List, [], ◌∷◌}
 use Rattle.std.proofs.Common.{arith, inl, inr}

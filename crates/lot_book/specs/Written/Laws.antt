@@ -1,8 +1,8 @@
 -- Records and books as bytes: what is written is read back, and what is read is just what would be written.
---     number-written, written-number    one number of ten bytes at most
---     lot-written, written-lot          one record
---     book-written, read-back           a whole book, written
---     written-book                      a whole book, read
+--     number_written, written_number    one number of ten bytes at most
+--     lot_written, written_lot          one record
+--     book_written, read_back           a whole book, written
+--     written_book                      a whole book, read
 -- Not here: what a good book is, record by record, `Written/Good.antt`. Assumes nothing.
 use Rattle.std.specs.Prelude.{ℕ, suc, ◌+◌, ◌^◌, ◌<◌, ◌≡◌, refl, List, [], ◌∷◌, ◌++◌, length}
 use Rattle.std.proofs.Common.{arith, ap, sym, ◌∙◌, subst, append_assoc, append-nil}

@@ -1,6 +1,6 @@
 -- A record that is bad after those before it: what `sound` refuses is what `Wrong` says, and back.
---     floorAfter            the least lot after some records
---     wrong-in, wrong-out   the two halves
+--     floor_after           the least lot after some records
+--     wrong_in, wrong_out   the two halves
 -- Assumes nothing.
 use Rattle.std.specs.Prelude.{ℕ, zero, ◌+◌, ◌^◌, ◌<◌, ◌≡◌, refl, List, [], ◌∷◌, ◌++◌, length}
 use Rattle.std.proofs.Common.{arith, ap, sym, ◌∙◌}

@@ -1,8 +1,8 @@
 -- What is told, by the ways out of the code.
---     refused-bad, refused_over     of a refusal
---     told-given, told-refused      of a whole book
---     tell-whole, tell-long         by whether the book was read whole
---     tell-fits, fits-sheet         a sheet's bytes stand in the text
+--     refused_bad, refused_over     of a refusal
+--     told_given, told_refused      of a whole book
+--     tell_whole, tell_long         by whether the book was read whole
+--     tell_fits, fits_sheet         a sheet's bytes stand in the text
 -- Assumes nothing.
 use Rattle.std.specs.Prelude.{ℕ, ◌≤◌, ◌≡◌, refl, Bool, true, false, cond, List, ◌++◌, length, drop, eqb, ltb}
 use Rattle.std.proofs.Common.{arith, subst, ◌∙◌, eq-eqb, ne_eqb, ltb-false}

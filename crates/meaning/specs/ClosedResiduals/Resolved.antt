@@ -1,8 +1,8 @@
 -- What resolving a closed term gives: terms that hold together just what the term holds.
---     any-pairs, all-pairs              a rule of pairs, from a rule of each side
+--     any_pairs, all_pairs              a rule of pairs, from a rule of each side
 --     Resolved, Into, Has               STOP, prefixes and parallels of these; it holds no more than; it holds a trace
---     closed-into, closed-out           each resolved term holds only what the term does; each trace of it is one's
---     closed-resolved, closed-formed    they are resolved, and well formed where the term is
+--     closed_into, closed_out           each resolved term holds only what the term does; each trace of it is one's
+--     closed_resolved, closed_formed    they are resolved, and well formed where the term is
 -- Assumes nothing.
 use Prim.Native.Nat.{ℕ, zero, suc, ◌<◌, ◌≤◌}
 use Rattle.std.proofs.Common.{arith}

@@ -1,8 +1,8 @@
 -- Taking e at a prefix and substituting is remembering e; event sets under a memory are the closed ones.
---     close-sub        [e/x]P of a closed term is the term closed under the memory that has e
---     close-plain      a term with no prefix around it is closed under any memory
---     member-close     the set of a closed reference is the reference's set under the memory
---     guarded-close    closing keeps the calls
+--     close_sub        [e/x]P of a closed term is the term closed under the memory that has e
+--     close_plain      a term with no prefix around it is closed under any memory
+--     member_close     the set of a closed reference is the reference's set under the memory
+--     guarded_close    closing keeps the calls
 -- Assumes nothing.
 use Rattle.std.specs.Prelude.{ℕ, suc, ◌-◌, ◌≤◌, ◌<◌, ◌≡◌, refl}
 use Rattle.std.proofs.Common.{arith, ap, ap₂, sym, ◌∙◌, le-ltb, lt-ltb, eq-eqb, ne_eqb}
@@ -16,7 +16,7 @@ use Rattle.meaning.specs.Figure1.{Arg, var, ev, family, Term, prefix, choice, pa
 use Rattle.meaning.specs.Figure1.{sub_arg, sub_set, sub, plain_ref, plain, Guarded}
 use Rattle.meaning.specs.Closing.{close_arg, close_ref, close, ScopedRef, Scoped}
 
--- ---- closeArg and subArg, by cases
+-- ---- close_arg and sub_arg, by cases
 
 close_arg_in : (c : ℕ) (m : Memory) (k : ℕ) → k < c → close_arg c m k ≡ var k
 unfolding close_arg

@@ -1,6 +1,6 @@
 -- A closed term of the table is doomed exactly where it has no branches (01, "Openings": "FAIL 0"): both go through
 -- choice, parallel and call alike.
---     doomed-branches    of the closed term of a table term
+--     doomed_branches    of the closed term of a table term
 -- Assumes nothing.
 use Prim.Native.Nat.{ℕ, zero, suc, ◌*◌, ◌<◌, ◌≤◌}
 use native.Mathlib.Omega.{arith}

@@ -1,7 +1,7 @@
 -- A doomed term without calls goes silently to FAIL (000, Proposition 2: "a doomed term keeps transitioning until it
 -- reaches FAIL"), one side after the other.
 --     falls    it has such a chain
--- With calls it need not: `Doom.antt`, call-stuck. Assumes nothing.
+-- With calls it need not: `Doom.antt`, call_stuck. Assumes nothing.
 use Rattle.std.proofs.Common.{arith, inl, inr, ⊎_elim}
 use Rattle.std.specs.Prelude.{[], ◌⊎◌}
 use Rattle.table.specs.Table.{Table}

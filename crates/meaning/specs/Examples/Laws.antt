@@ -1,7 +1,7 @@
 -- The worked rows are meant, in one theorem, by computing the residuals of closed terms.
---     rows-meant       each row is meant
---     table-b-read     01's bytes of table B are read as that table
---     only-fail-rules  the table whose one body is FAIL is accepted too
+--     rows_meant       each row is meant
+--     table_b_read     01's bytes of table B are read as that table
+--     only_fail_rules  the table whose one body is FAIL is accepted too
 -- Assumes nothing.
 use Rattle.std.specs.Prelude.{Bool, true, false, ◌↔◌, ◌≡◌, refl, T}
 use mathlib.Core.List.{List, [], ◌∷◌, map, flat_map, tail}

@@ -1,8 +1,8 @@
 -- The parallel of trace sets: it is prefix-closed whatever its sides are, meets equations (1) and (2), and of
 -- prefix-closed sides nothing else does.
---     parallel-sides     its two sides have a trace
---     parallel-closed    it holds the beginnings of its traces
---     is-parallel, parallel-only    it meets the equations; any operator that does is the same
+--     parallel_sides     its two sides have a trace
+--     parallel_closed    it holds the beginnings of its traces
+--     is_parallel, parallel_only    it meets the equations; any operator that does is the same
 -- Assumes nothing.
 use Rattle.std.specs.Prelude.{ℕ, Bool, true, false, not, List, [], ◌∷◌, ◌↔◌, ◌⊎◌, ◌≡◌, refl, T}
 use Rattle.std.proofs.Common.{inl, inr, ⊎_elim, sym, subst}

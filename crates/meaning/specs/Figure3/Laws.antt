@@ -1,7 +1,7 @@
 -- Figure 3's rules taken apart: the steps of a term, by its form.
---     fail-stuck, stop-stuck, prefix-viable    FAIL and STOP have no step; a prefix is not doomed
---     prefix-steps                             the steps of a prefix
---     call-steps, call-dooms                   a call has the steps and the doom of its body
+--     fail_stuck, stop_stuck, prefix_viable    FAIL and STOP have no step; a prefix is not doomed
+--     prefix_steps                             the steps of a prefix
+--     call_steps, call_dooms                   a call has the steps and the doom of its body
 -- Assumes nothing.
 use Rattle.std.specs.Prelude.{ℕ, ◌↔◌, ◌≡◌, refl}
 use Rattle.std.proofs.Common.{sym, subst}

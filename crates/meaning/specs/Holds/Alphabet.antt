@@ -1,6 +1,6 @@
 -- The traces of a table that keeps the rules are lists of its events (01, "Numbers and table": "events are 0 to A-1"),
 -- and its steps emit no other, so Σ may be read as the alphabet or as all numbers.
---     member_below, holds-below, step-below    an event of a set, of a trace, of a step is below the alphabet size
+--     member_below, holds_below, step_below    an event of a set, of a trace, of a step is below the alphabet size
 -- Assumes nothing.
 use Rattle.std.specs.Prelude.{ℕ, zero, suc, ◌<◌, Bool, ◌≡◌, get_or}
 use Rattle.std.proofs.Math.Bool.{true, false}

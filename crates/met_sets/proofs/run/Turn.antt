@@ -1,6 +1,6 @@
 -- One event along a transition that is known: `follow`.
---     within-next, next-stands         the set that follows is kept, and stands within the words
---     followed-first, followed-next    the promise holds at first, and after one event more
+--     within_next, next_stands         the set that follows is kept, and stands within the words
+--     followed_first, followed_next    the promise holds at first, and after one event more
 -- Assumes nothing.
 use Prim.Native.Nat.{ℕ, suc, ◌+◌, ◌-◌, ◌*◌, ◌≤◌, ◌<◌}
 use native.Mathlib.Omega.{arith}

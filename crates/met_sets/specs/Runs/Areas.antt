@@ -1,9 +1,9 @@
 -- Between the areas and the sets kept.
---     zeroed-room, laid-room       both areas have room for a set, and for what they hold
---     found-old, found-new         the set of an area is one that is kept; it is kept as one more
---     picked-even, picked-odd      the same of the present area, by the parity of the events taken
+--     zeroed_room, laid_room       both areas have room for a set, and for what they hold
+--     found_old, found_new         the set of an area is one that is kept; it is kept as one more
+--     picked_even, picked_odd      the same of the present area, by the parity of the events taken
 --     laid_in                      a set is laid into an area
---     laid-even, laid-odd          the same, into the present area
+--     laid_even, laid_odd          the same, into the present area
 -- Assumes nothing.
 use Rattle.std.specs.Prelude.{ℕ, suc, ◌+◌, ◌*◌, ◌%◌, ◌≤◌, ◌<◌, ◌≡◌, List, [], ◌++◌, length, get_or, drop, replicate}
 use Rattle.std.proofs.Common.{arith, ap₂, subst, ◌∙◌, length-drop}

@@ -1,10 +1,10 @@
 -- Runs along known transitions, and what a step says of the sets.
---     reached-first, reached_then, reached-next    runs by their events
---     went-known                                   an event that is taken is of the alphabet
---     within-met, stands-met                       a set among those kept
+--     reached_first, reached_then, reached_next    runs by their events
+--     went_known                                   an event that is taken is of the alphabet
+--     within_met, stands_met                       a set among those kept
 --     follows_next                                 one event more, by a transition that is known
---     picked-follows, laid-reached                 a set is taken out of the areas; it is laid into them
---     step-leads                                   a step says which set follows which
+--     picked_follows, laid_reached                 a set is taken out of the areas; it is laid into them
+--     step_leads                                   a step says which set follows which
 -- Assumes nothing.
 use Rattle.std.specs.Prelude.{ℕ, suc, ◌+◌, ◌*◌, ◌<◌, ◌≡◌, false, length, get_or, drop, eqb, leb, ltb}
 use Rattle.std.proofs.Common.{arith, add-one, ap₂, subst, ◌∙◌, drop-cons}

@@ -1,7 +1,7 @@
 -- One set more: `keep`.
---     slots-old, slots-new    the slots of the sets before, and of the new one
+--     slots_old, slots_new    the slots of the sets before, and of the new one
 --     row_old, row_new        the transitions of the sets before, and that none of the new one is known
---     shape-kept, met-kept    the sets with the new one
+--     shape_kept, met_kept    the sets with the new one
 -- Assumes nothing.
 use Prim.Native.Nat.{ℕ, suc, ◌+◌, ◌-◌, ◌*◌, ◌≤◌, ◌<◌}
 use Rattle.std.proofs.Common.{arith, ◌∙◌, length-set, get_or-set_same, get_or-set_other}

@@ -1,9 +1,9 @@
 -- Sets kept: within the room; none, and one transition more.
 --     row_inside, row_fits            the row of a set is within the bytes
---     shape-stands, words_inside      the slots of a set are within the words
---     found-slots                     a set that has the words of an area
---     shape-none, first-start, met-none    no set
---     link-inside, met-linked         a transition more
+--     shape_stands, words_inside      the slots of a set are within the words
+--     found_slots                     a set that has the words of an area
+--     shape_none, first_start, met_none    no set
+--     link_inside, met_linked         a transition more
 -- One set more is in `Added.antt`. Assumes nothing.
 use Rattle.std.specs.Prelude.{ℕ, suc, ◌+◌, ◌*◌, ◌≤◌, ◌<◌, ◌≡◌, List, length, get_or, set, take, drop}
 use Rattle.std.proofs.Common.{arith, mul-le-mul_right, sym, subst, ◌∙◌, length-set, get_or-set_same, get_or-set_other}

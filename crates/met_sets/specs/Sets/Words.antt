@@ -1,11 +1,11 @@
 -- Words copied one by one, and what is read from them.
 --     copy_step                    words copied, word by word
 --     same_step                    words compared, word by word
---     forget-step                  words zeroed, word by word
---     stored-before, stored-inside  a word before those copied, and one of them
---     chunks-same                  slots by their words
---     chunks-agree                 the same, word by word
---     laid-words                   slots copied into an area of zeros
+--     forget_step                  words zeroed, word by word
+--     stored_before, stored_inside  a word before those copied, and one of them
+--     chunks_same                  slots by their words
+--     chunks_agree                 the same, word by word
+--     laid_words                   slots copied into an area of zeros
 -- Assumes nothing.
 use Rattle.std.specs.Prelude.{ℕ, zero, suc, ◌+◌, ◌-◌, ◌*◌, ◌≤◌, ◌<◌, ◌≡◌, refl, set, drop, replicate}
 use Rattle.std.proofs.Common.{arith, ap₂, sym, ◌∙◌, length-append, length-drop, take-suc, get_or-drop, take-take, take-add, take_at, drop_at, ext_get_or}

@@ -1,10 +1,10 @@
 -- An entrance, case by case, and what it says of the tests before it.
---     entrance-unmeasured, entrance-declined, entrance-accepted    by the tests
---     entrance-admits                                              and back
---     on-shut, on-inconsistent, on-consistent, on-admits           the same with refusal 10
---     shut-all, on-all      what holds of 1, of 2 to 9 and of 10 holds of a refusal
---     on-length             the work area keeps its length
---     entering-shut, entering-admits    what an operation makes of each, whatever it makes of the other
+--     entrance_unmeasured, entrance_declined, entrance_accepted    by the tests
+--     entrance_admits                                              and back
+--     on_shut, on_inconsistent, on_consistent, on_admits           the same with refusal 10
+--     shut_all, on_all      what holds of 1, of 2 to 9 and of 10 holds of a refusal
+--     on_length             the work area keeps its length
+--     entering_shut, entering_admits    what an operation makes of each, whatever it makes of the other
 -- Assumes nothing.
 use Rattle.std.specs.Prelude.{ℕ, ◌≡◌, refl, Bool, true, false, ◌&&◌, List, length}
 use Rattle.std.proofs.Common.{arith, sym, subst, ◌∙◌}

@@ -1,7 +1,7 @@
 -- The peak that events call for is the greatest count over the beginnings of the list.
---     peak-snoc          with one event more
---     peak-over          no beginning has more;  peak-last: nor has the whole
---     peak-stands        it is the peak before, or a beginning has as many
+--     peak_snoc          with one event more
+--     peak_over          no beginning has more;  peak_last: nor has the whole
+--     peak_stands        it is the peak before, or a beginning has as many
 -- Assumes nothing.
 use Prim.Native.Nat.{ℕ, zero, suc, max, ◌≤◌, ◌<◌}
 use native.Mathlib.Omega.{arith}

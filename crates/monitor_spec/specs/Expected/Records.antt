@@ -1,7 +1,7 @@
 -- The record that events call for: it is `state_after` over the counts of the beginnings.
---     onward-now, onward_then              no event; one event first
---     record-taken, record-count, record-peak, record-verdict   the record of a list, by its fields
---     record-first, record-next            of the empty list: `fresh_state`; with one event more: `state_after`
+--     onward_now, onward_then              no event; one event first
+--     record_taken, record_count, record_peak, record_verdict   the record of a list, by its fields
+--     record_first, record_next            of the empty list: `fresh_state`; with one event more: `state_after`
 -- Assumes nothing.
 use Prim.Native.Nat.{ℕ, suc, max, ◌+◌, ◌≤◌}
 use native.Mathlib.Omega.{arith}

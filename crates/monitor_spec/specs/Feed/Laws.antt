@@ -1,9 +1,9 @@
 -- One event, case by case; Feed, by what stands before its events.
---     EventCase, event-case                                        which refusal an event meets, if any
---     event-unknown, event-full, event-exceeded, event-passes      by the tests
---     passes-counts                                                an event that is taken can be counted
---     take-refused, take-passes                                    on a monitor
---     feed-shut, feed-admits                                       a call
+--     EventCase, event_case                                        which refusal an event meets, if any
+--     event_unknown, event_full, event_exceeded, event_passes      by the tests
+--     passes_counts                                                an event that is taken can be counted
+--     take_refused, take_passes                                    on a monitor
+--     feed_shut, feed_admits                                       a call
 -- Assumes nothing.
 use Rattle.std.specs.Prelude.{ℕ, ◌≤◌, ◌<◌, ◌≡◌, refl, Bool, true, false, List, length, eqb, ltb, leb}
 use Rattle.std.proofs.Common.{arith}

@@ -1,9 +1,9 @@
 -- A fold whose state is, all along, the one that the list of the elements taken so far calls for, and which stops just
 -- where a test of that list says so: what it takes is told by the test alone.
---     extend-snoc                one list more
+--     extend_snoc                one list more
 --     Follows                    that a step is such
---     extended                   over one list;  all-ends, all-joins, all-keeps: over lists, with a restart at each
---     one-fold                   one fold over all that was taken;  fold-begins: over every beginning of it
+--     extended                   over one list;  all_ends, all_joins, all_keeps: over lists, with a restart at each
+--     one_fold                   one fold over all that was taken;  fold_begins: over every beginning of it
 -- Assumes nothing.
 use Rattle.std.specs.Prelude.{ℕ, zero, suc, ◌≡◌, Bool, length, take}
 use Rattle.std.proofs.Common.{arith, subst, ◌∙◌}

@@ -1,8 +1,8 @@
 -- What Open gives is the monitor that its joined events call for.
---     fresh-after, fresh-laid     the settled monitor is the one that the empty list calls for, laid out of its
+--     fresh_after, fresh_laid     the settled monitor is the one that the empty list calls for, laid out of its
 --                                 residuals
---     open-goes                   Open is Feed's run from there
---     BeganOn, opened-began       the record and areas that an Open gave;  empty-joins: of an empty list
+--     open_goes                   Open is Feed's run from there
+--     BeganOn, opened_began       the record and areas that an Open gave;  empty_joins: of an empty list
 -- Assumes nothing.
 use Rattle.std.specs.Prelude.{ℕ, ◌%◌, ◌≤◌, ◌≡◌, Bool, true, false, List, [], length, eqb, leb}
 use Rattle.std.proofs.Common.{arith, subst, ◌∙◌, leb-true}

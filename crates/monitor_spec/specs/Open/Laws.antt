@@ -1,8 +1,8 @@
 -- Open, case by case.
---     open-shut, open-admits                          by what stands before it
---     OpenCase, open-case                             which of the four cases it is
---     open-unmeasured, open-declined, open-exceeded, open-runs      the whole outcome in each
---     empty-never                                     Open of an empty list gives no number with a record
+--     open_shut, open_admits                          by what stands before it
+--     OpenCase, open_case                             which of the four cases it is
+--     open_unmeasured, open_declined, open_exceeded, open_runs      the whole outcome in each
+--     empty_never                                     Open of an empty list gives no number with a record
 -- Assumes nothing.
 use Rattle.std.specs.Prelude.{ℕ, ◌≤◌, ◌<◌, ◌≡◌, refl, Bool, true, false, List, [], length, ltb}
 use Rattle.std.proofs.Common.{arith, ap, sym, ◌∙◌, ltb-true, ltb-false, lt-ltb, le-ltb}

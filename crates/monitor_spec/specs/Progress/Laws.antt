@@ -1,8 +1,8 @@
 -- On a monitor laid out of proper residuals, events that meet none of 11, 12 and 13 lead to the monitor that they call
 -- for, and the first that meets one stops the fold there.
---     pass-went, meets-stops                  what one event comes to
---     passes_then, passes-ends, halts-ends    what a fold comes to
---     PassOrHalt, pass-or-halt                it comes to one of these
+--     pass_went, meets_stops                  what one event comes to
+--     passes_then, passes_ends, halts_ends    what a fold comes to
+--     PassOrHalt, pass_or_halt                it comes to one of these
 -- Assumes nothing.
 use Prim.Native.Nat.{ℕ, suc, ◌+◌, ◌≤◌, ◌<◌}
 use native.Mathlib.Omega.{arith}

@@ -1,7 +1,7 @@
 -- The conditions of 1, of 2 to 9 and of 10, and the tests that definitions make of them.
---     measured-in, measured-out, unmeasured-in, unmeasured-out    lent lengths
---     is-table-in, is-table-out, accepts                          the table
---     held_in, held_out, unheld-in                                the monitor
+--     measured_in, measured_out, unmeasured_in, unmeasured_out    lent lengths
+--     is_table_in, is_table_out, accepts                          the table
+--     held_in, held_out, unheld_in                                the monitor
 -- Assumes nothing.
 use Rattle.std.specs.Prelude.{ℕ, ◌%◌, ◌≡◌, refl, Bool, true, false, ◌&&◌, List, length, eqb, leb}
 use Rattle.std.proofs.Common.{arith, eqb-true, eq-eqb, leb-true, le-leb}

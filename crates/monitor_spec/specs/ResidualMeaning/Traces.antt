@@ -1,6 +1,6 @@
 -- Residuals are traces: those by numbers stand for the residuals of the closed terms, which are the traces.
---     traces-run           of a list of sound residuals
---     traces-definition    from a definition;  traces-last: from the last
+--     traces_run           of a list of sound residuals
+--     traces_definition    from a definition;  traces_last: from the last
 -- Assumes nothing.
 use Rattle.std.specs.Prelude.{ℕ, ◌<◌, ◌≡◌, ◌↔◌}
 use Rattle.std.proofs.Common.{arith, ◌∙◌}

@@ -1,6 +1,6 @@
 -- The record, by its fields, and the verdict after an event, by the residuals that it leaves. Assumes nothing.
---     state-path                             records with the same fields
---     next-some, next-none, next-failed      the equations of nextVerdict
+--     state_path                             records with the same fields
+--     next_some, next_none, next_failed      the equations of next_verdict
 use Rattle.std.specs.Prelude.{ℕ, zero, suc, ◌<◌, ◌≡◌, refl}
 use Rattle.std.proofs.Common.{arith}
 use Rattle.monitor_spec.specs.State.{running, failed_at, State, next_verdict}
@@ -9,7 +9,7 @@ pub state_path : (a b : State) → a.taken ≡ b.taken → a.count ≡ b.count �
     → a.verdict ≡ b.verdict → a ≡ b
 state_path a b p q h r i = record { taken = p i; count = q i; peak = h i; verdict = r i }
 
--- ---- the equations of nextVerdict
+-- ---- the equations of next_verdict
 
 pub next_some : (k n : ℕ) → 0 < n → next_verdict running k n ≡ running
 unfolding next_verdict

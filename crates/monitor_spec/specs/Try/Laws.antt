@@ -1,7 +1,7 @@
 -- Try, by the further areas' lengths and by Feed's answer.
---     try-alike, try-unlike                        by the lengths
---     copy-given, copy-stopped, copy-refused       by Feed's answer;  copy-ending: by where its events end
---     try-shut, try-admits                         by what stands before Feed's events
+--     try_alike, try_unlike                        by the lengths
+--     copy_given, copy_stopped, copy_refused       by Feed's answer;  copy_ending: by where its events end
+--     try_shut, try_admits                         by what stands before Feed's events
 -- Assumes nothing.
 use Rattle.std.specs.Prelude.{ℕ, ◌≡◌, true, false, List, length}
 use Rattle.std.proofs.Math.Path.{refl, ap}

@@ -21,7 +21,7 @@ use Rattle.monitor_spec.specs.Expected.Verdicts.{slots_none}
 use Rattle.monitor_spec.specs.Sensible.{Agrees, Sensible}
 use Rattle.monitor_spec.specs.Expected.Laid.{all_sixteen}
 
--- ---- the equations of viewPart
+-- ---- the equations of view_part
 
 -- so many slots of one area, while running
 pub part_fits : (n k l : ℕ) → n * 16 ≤ l → part_by running n k l ≡ record { area = k; words = n * 16 }

@@ -1,4 +1,4 @@
--- View goes one of its ways: part-way. Assumes nothing.
+-- View goes one of its ways: part_way. Assumes nothing.
 use Rattle.std.specs.Prelude.{ℕ, ◌*◌, ◌%◌, ◌≡◌, Bool, List, length, ltb}
 use Rattle.std.proofs.Common.{arith, sym, subst, ◌∙◌}
 use Rattle.std.proofs.Math.Path.{refl}

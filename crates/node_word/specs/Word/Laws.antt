@@ -1,11 +1,11 @@
 -- Laws of node words.
---     events-fit                                   the events of every alphabet have room
---     term-pack, memory-pack                       a word gives back its term and its memory
---     word-pack                                    and is packed of them
---     words-fit                                    words of terms below 1,024 have room in 64 bits
---     memory-zero, zero-below                      no events
---     node-word, memory_word, remember-word        what code reckons with: a memory as a word of term 0
---     digit-0, -1, -2, -3                          the events of a word, one after the other
+--     events_fit                                   the events of every alphabet have room
+--     term_pack, memory_pack                       a word gives back its term and its memory
+--     word_pack                                    and is packed of them
+--     words_fit                                    words of terms below 1,024 have room in 64 bits
+--     memory_zero, zero_below                      no events
+--     node_word_lem, memory_word, remember_word    what code reckons with: a memory as a word of term 0
+--     digit_0, -1, -2, -3                          the events of a word, one after the other
 -- Assumes nothing.
 use Rattle.std.specs.Prelude.{ℕ, zero, suc, ◌+◌, ◌*◌, ◌/◌, ◌-◌, ◌%◌, ◌^◌, ◌<◌, ◌≤◌, ◌≡◌, refl}
 use Rattle.std.proofs.Common.{arith, ap, sym, ◌∙◌}

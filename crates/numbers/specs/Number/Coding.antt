@@ -1,7 +1,7 @@
 -- A number's bytes are those that 01's sentence calls for, and no others (`InGroups`), for any count of bytes that may
 -- follow the first. By induction on that count, and on the bytes.
---     groups-in        the bytes of a number are in groups
---     groups-unique    two lists of bytes of one number are the same;  in-groups: so they are `groups`
+--     groups_in        the bytes of a number are in groups
+--     groups_unique    two lists of bytes of one number are the same;  in_groups: so they are `groups`
 -- Assumes nothing.
 use Rattle.std.specs.Prelude.{ℕ, zero, suc, ◌+◌, ◌/◌, ◌%◌, ◌^◌, ◌≤◌, ◌<◌, ◌≡◌, refl, ◌↔◌, List, [], ◌∷◌, length, get_or}
 use Rattle.std.proofs.Common.{arith, pow-suc, div-one, mul_comm, ap, sym, subst, ◌∙◌}

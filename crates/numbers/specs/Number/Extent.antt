@@ -1,7 +1,7 @@
 -- How far a scan goes, whatever the bytes are: it takes one byte or more of those there, and leaves the rest.
 --     Extent         what n bytes taken and a rest are to the bytes scanned
---     scan-extent    the extent of a number that was read
---     ReadsAt       a number stands at a position of some bytes;  scan-at: it does where a scan found it
+--     scan_extent    the extent of a number that was read
+--     ReadsAt       a number stands at a position of some bytes;  scan_at: it does where a scan found it
 -- Not here: what the number is, `Number/Groups.antt`. Assumes nothing.
 use Rattle.std.specs.Prelude.{ℕ, zero, suc, ◌+◌, ◌-◌, ◌≤◌, ◌<◌, ◌≡◌, refl, List, [], ◌∷◌, length, drop, ltb, leb, eqb}
 use Rattle.std.proofs.Common.{arith, ap, sym, ◌∙◌, subst, length-drop, drop-drop}

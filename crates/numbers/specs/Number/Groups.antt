@@ -1,8 +1,8 @@
 -- The laws of `Number.antt` for any count of bytes and any greatest last byte: a written number reads back, and what
 -- is read is just what would be written. By induction on how many bytes may follow.
---     groups-short, groups-long       groups by cases;  groups-some, groups-few: its length
---     limit-zero, limit-suc           limitOf by cases;  limit-65536, limit-64-bits: the two that are used
---     scan-written, scan-is-written   the two halves
+--     groups_short, groups_long       groups by cases;  groups_some, groups_few: its length
+--     limit_zero, limit_suc           limit_of by cases;  limit_65536, limit_64_bits: the two that are used
+--     scan_written, scan_is_written   the two halves
 -- Not here: at most two bytes after the first, `Number/Laws.antt`. Assumes nothing.
 use Rattle.std.specs.Prelude.{ℕ, zero, suc, ◌+◌, ◌-◌, ◌*◌, ◌/◌, ◌%◌, ◌^◌, ◌≤◌, ◌<◌, ◌≡◌, refl, List, [], ◌∷◌, ◌++◌, length, ltb, leb, eqb}
 use Rattle.std.proofs.Common.{arith, pow-suc, mul_assoc, ap, sym, subst, le-ltb, lt-ltb, le-leb, ne_eqb, ltb-true, ltb-false, leb-true}
@@ -35,7 +35,7 @@ groups_few (suc k) v =
     let few = groups_few k (v / 128) in
     cond_cases (λ (l : List ℕ). length l ≤ suc (suc k)) (ltb v 128) (v ∷ []) _ (λ _. omega arith) (λ _. omega arith)
 
--- ---- the equations of limitOf
+-- ---- the equations of limit_of
 pub limit_zero : (top : ℕ) → limit_of zero top ≡ top + 1
 unfolding limit_of
 limit_zero top = rw pow-zero (omega arith)

@@ -1,7 +1,7 @@
 -- The laws of 01's own numbers, of three bytes at most: those of `Number/Groups.antt` at 2 and 3.
---     bytes1, bytes2, bytes3          bytes_of by cases;  bytes-some, length-bytesOf: its length;  bytes-of-bytes
---     count1, count2, count3          byte_count by cases;  byteCount-le
---     read-written, read-is-written   a written number reads back; what is read is just what would be written
+--     bytes1, bytes2, bytes3          bytes_of by cases;  bytes_some, bytes_few, length_bytes_of: its length
+--     count1, count2, count3          byte_count by cases
+--     read_written, read_is_written   a written number reads back; what is read is just what would be written
 -- Not here: numbers at a position, `Position/Laws.antt`. Assumes nothing.
 use Rattle.std.specs.Prelude.{ℕ, ◌+◌, ◌*◌, ◌/◌, ◌%◌, ◌≤◌, ◌<◌, ◌≡◌, refl, List, [], ◌∷◌, ◌++◌, length}
 use native.Mathlib.Omega.{arith}

@@ -1,8 +1,8 @@
 -- When a scan finds no number: it is truncated just where the bytes of a number begin with those there and go on, and
 -- malformed in all other cases. By induction on how many bytes may follow.
---     truncated-out, truncated-in    truncated, exactly on `IncompleteWith`
---     malformed-out, malformed-in    malformed, exactly on `IllWrittenWith`
---     read-truncated, read-malformed, incomplete-read, ill-written-read    the same of 01's own numbers
+--     truncated_out, truncated_in    truncated, exactly on `IncompleteWith`
+--     malformed_out, malformed_in    malformed, exactly on `IllWrittenWith`
+--     read_truncated, read_malformed, incomplete_read, ill_written_read    the same of 01's own numbers
 -- Not here: the numbers that are found, `Number/Groups.antt`. Assumes nothing.
 use Rattle.std.specs.Prelude.{ℕ, zero, suc, ◌+◌, ◌-◌, ◌*◌, ◌/◌, ◌%◌, ◌≤◌, ◌<◌, ◌≡◌, refl, List, [], ◌∷◌, ◌++◌, length, ltb, leb, eqb}
 use Rattle.std.proofs.Common.{arith, ap, sym, ◌∙◌, subst, length-append, le-ltb, ltb-false, ne_eqb}

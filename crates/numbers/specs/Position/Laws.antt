@@ -1,7 +1,7 @@
 -- What the answers of `read` and `write` say of the bytes, for callers.
---     value_read, truncated-read, malformed-read    each answer of readAt, as a scan of the bytes at the position
---     number-3, number-4                            01's numbers of readAt's answers, by the bytes at the position
---     next-stored, full-kept                        each answer of end_at, with the bytes after it
+--     value_read, truncated_read, malformed_read    each answer of read_at, as a scan of the bytes at the position
+--     number_3, number_4                            01's numbers of read_at's answers, by the bytes at the position
+--     next_stored, full_kept                        each answer of end_at, with the bytes after it
 -- Not here: the same by the cases of the code, `Position/Reads.antt` and `Position/Writes.antt`. Assumes nothing.
 use Rattle.std.specs.Prelude.{ℕ, zero, suc, ◌+◌, ◌≤◌, ◌<◌, ◌≡◌, refl, Bool, true, false, cond, ◌↔◌, List, [], ◌∷◌, ◌++◌, length, take, drop, leb}
 use Rattle.std.proofs.Common.{arith, leb-true, leb-false}
@@ -13,7 +13,7 @@ use Rattle.numbers.specs.Number.Extent.{Found, ReadsAt, scan_at}
 use Rattle.numbers.specs.Number.Unread.{read_truncated, incomplete_read, read_malformed, ill_written_read}
 use Rattle.numbers.specs.Position.{found, refusal_number, read_at, end_at, stored_at}
 
--- ---- readAt
+-- ---- read_at
 -- each answer, over every scan x of the bytes at the position
 value_found : (at v q : ℕ) (x : Scan) → Value v q ≡ found at x → Found at v q x
 unfolding found
@@ -45,7 +45,7 @@ pub malformed_read : (l : List ℕ) (at : ℕ) → Malformed ≡ read_at l at �
 unfolding read_at
 malformed_read l at e = malformed_found at (read_number (drop at l)) e
 
--- ---- refusalNumber
+-- ---- refusal_number
 found_3 : (at : ℕ) (x : Scan) → (refusal_number (found at x) ≡ 3) ↔ (x ≡ truncated)
 unfolding found
 found_3 at (value v n rest) = (λ e. absurd (omega arith), λ e. let z : ◌≡◌ {A = ℕ} 0 1 = cc in absurd (omega arith))

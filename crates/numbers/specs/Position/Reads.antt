@@ -1,4 +1,4 @@
--- readAt, case by case: one law for each way out of `read`. a, b and c are the bytes that stand there.
+-- read_at, case by case: one law for each way out of `read`. a, b and c are the bytes that stand there.
 --     cut1, cut2, cut3        the bytes end before the first, second and third
 --     one, two, three         a number of so many bytes
 --     loose2, loose3, large3  a second or third byte of 0; a third above 3

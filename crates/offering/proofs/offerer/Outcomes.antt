@@ -1,6 +1,6 @@
 -- The whole outcome of Offer, by what stands before its words.
---     offer-enters                        what `offered` asks for
---     offer-declined, offer-answered      refusals 1 to 10; the words
+--     offer_enters                        what `offered` asks for
+--     offer_declined, offer_answered      refusals 1 to 10; the words
 -- Assumes nothing.
 use Prim.Native.Nat.{ℕ}
 use mathlib.Core.Path.{◌≡◌, ap, ap₂, sym, ◌∙◌}

@@ -1,5 +1,5 @@
 -- The word of the events from b on, by how many there are: none, fewer than a word has bits for, or enough.
---     words-both     both words together
+--     words_both     both words together
 -- Assumes nothing.
 use Prim.Native.Nat.{ℕ, ◌-◌, ◌≤◌, ◌<◌, min}
 use native.Mathlib.Omega.{arith}

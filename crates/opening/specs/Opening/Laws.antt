@@ -1,10 +1,10 @@
 -- Open: one law per way out.
---     areas-cleared                                      areas of the right lengths, all zero
---     is_last, known, last-resolves                      the last definition of an accepted table
---     resolved-count, resolved-exceeded                  it into an area
---     fresh-same, fresh-stands                           what it holds then is the settled monitor
---     opened-run, opened-exceeded                        an accepted table
---     open-enters, open-declined, open-accepted          any list and any lengths
+--     areas_cleared                                      areas of the right lengths, all zero
+--     is_last, known, last_resolves                      the last definition of an accepted table
+--     resolved_count, resolved_exceeded                  it into an area
+--     fresh_same, fresh_stands                           what it holds then is the settled monitor
+--     opened_run, opened_exceeded                        an accepted table
+--     open_enters, open_declined, open_accepted_lem      any list and any lengths
 -- Assumes nothing.
 use Rattle.std.specs.Prelude.{ℕ, ◌-◌, ◌*◌, ◌<◌, ◌≤◌, ◌≡◌, Bool, true, ◌&&◌, List, []}
 use native.Mathlib.Omega.{arith}

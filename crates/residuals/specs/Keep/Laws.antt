@@ -1,10 +1,10 @@
 -- What may be said of the memory that a node keeps, whatever it keeps. A set reads one of four events, so those laws
 -- are of terms whose parameters are in scope.
---     keep-twice                      kept once, it is kept
---     keep-prefix, keep-par           a set reads of it what it reads of the whole memory
---     keep-closed, keep-closed-par    a term, a parallel's set, under it is the same as under the whole memory
---     keep-follower                   what a prefix does not keep, its follower would not keep either
---     keep-digit                      its events are those of the memory, or 0
+--     keep_twice                      kept once, it is kept
+--     keep_prefix, keep_par           a set reads of it what it reads of the whole memory
+--     keep_closed, keep_closed_par    a term, a parallel's set, under it is the same as under the whole memory
+--     keep_follower                   what a prefix does not keep, its follower would not keep either
+--     keep_digit                      its events are those of the memory, or 0
 -- Assumes nothing.
 use Rattle.std.specs.Prelude.{ℕ, ◌≡◌, refl, ◌⊎◌}
 use Rattle.std.proofs.Common.{inl}

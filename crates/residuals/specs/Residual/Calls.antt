@@ -1,7 +1,7 @@
 -- "call the settled body" (01, "Residuals"): the bound in `resolve_def` is not seen where calls are guarded.
---     resolve-at         the term of a number, resolved
---     resolveDef-body    a resolved definition is its body, resolved with no memory
---     resolve-call       so is a call
+--     resolve_at         the term of a number, resolved
+--     resolve_def_body   a resolved definition is its body, resolved with no memory
+--     resolve_call       so is a call
 -- Assumes nothing.
 use Prim.Native.Nat.{ℕ, zero, suc, ◌+◌, ◌<◌}
 use Rattle.std.proofs.Common.{arith, ap₂, ◌∙◌}

@@ -1,7 +1,7 @@
 -- Resolving lists as many residuals as the term has branches (01, "Openings"), where 7 is not met.
 --     length_pairs         of pairs
---     resolveDef-length    of a definition's body;  resolve-length: of the term of a number, with whatever memory
---     residuals-few        before any event there are 256 at most, of a table that meets the rules
+--     resolve_def_length   of a definition's body;  resolve_length: of the term of a number, with whatever memory
+--     residuals_few        before any event there are 256 at most, of a table that meets the rules
 -- That there are none exactly for a doomed term is in `Doom/Branches.antt` of crate meaning. Assumes nothing.
 use Prim.Native.Nat.{ℕ, zero, suc, ◌+◌, ◌*◌, ◌≤◌, ◌<◌}
 use native.Mathlib.Omega.{arith}

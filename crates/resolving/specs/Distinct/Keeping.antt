@@ -1,8 +1,8 @@
 -- Keeping the distinct ones of a term's residuals: one law per way out of the loops of `leaves.rt`.
 --     held_first, -none, -here, -on, -off    looking for a slot among those kept; -off: their keys differ
 --     Head, head_first, -held, -new          the loop of `distinct_in`
---     kept-none, kept-one                    no residual, and one
---     kept_same, kept-both                   two residuals: equal, and not
+--     kept_none, kept_one                    no residual, and one
+--     kept_same, kept_both                   two residuals: equal, and not
 -- Assumes nothing.
 use Rattle.std.specs.Prelude.{ℕ, suc, ◌+◌, ◌-◌, ◌*◌, ◌<◌, ◌≤◌, ◌≡◌, Bool, true, length, get_or, set}
 use Rattle.std.proofs.Common.{arith, add-one, sym, ◌∙◌, get_or-set_same, get_or-set_other}

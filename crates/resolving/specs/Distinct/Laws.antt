@@ -1,9 +1,9 @@
 -- The laws of a leaf's distinct results.
---     same_true, same-cons, differ-cons                      equal lists of words
---     length-window, at-window, window-none, window-cons     some words of a list
---     kept-held, kept_new, kept-below, kept-few              the indices kept
---     snoc-window, drop-further                              one index more in a list; what is behind a later place
---     resolves-empty, branches-exact                         what resolving asks; how many residuals there are
+--     same_true, same_cons, differ_cons                      equal lists of words
+--     length_window, at_window, window_none, window_cons     some words of a list
+--     kept_held, kept_new, kept_below, kept_few              the indices kept
+--     snoc_window, drop_further                              one index more in a list; what is behind a later place
+--     resolves_empty, branches_exact                         what resolving asks; how many residuals there are
 -- Not here: the loops of `leaves.rt`, in `Words.antt` and `Keeping.antt`. Assumes nothing.
 use Rattle.std.specs.Prelude.{ℕ, zero, suc, ◌+◌, ◌-◌, ◌<◌, ◌≤◌, ◌≡◌, refl, Bool, true, false, List, [], ◌∷◌, ◌++◌, length, get_or, set, drop}
 use Rattle.std.proofs.Common.{arith, add-one, ap, sym, ◌∙◌, length-append, length-take, length-drop, drop-cons, get_or-take, get_or-drop, take-suc-set, drop-drop, eq-eqb, ne_eqb}

@@ -1,8 +1,8 @@
 -- Slots by their words: one law per way out of the functions of `leaves.rt` that look at one slot.
 --     same_none, -on, -off                      comparing a slot with the words from a place on
---     key-none, -on, differ-by                  a slot's key; slots of different keys differ
---     window-all, hold-here, hold-kept          a slot as a list; the slots held, one more and those before it
---     hold-first, hold-none                     holding it, or not
+--     key_none, -on, differ_by                  a slot's key; slots of different keys differ
+--     window_all, hold_here, hold_kept          a slot as a list; the slots held, one more and those before it
+--     hold_first, hold_none                     holding it, or not
 -- Not here: the loops over the slots kept, in `Keeping.antt`. Assumes nothing.
 use Rattle.std.specs.Prelude.{ℕ, suc, ◌+◌, ◌*◌, ◌%◌, ◌<◌, ◌≤◌, ◌≡◌, Bool, true, false, cond, List, ◌∷◌, ◌++◌, length, get_or, take, drop}
 use Rattle.std.proofs.Common.{arith, ap, sym, ◌∙◌, append_assoc, length-append, drop-cons, get_or-take, take_all, ext_get_or, take_at, drop_at, length-take-le, lt-ltb, le-ltb}

@@ -1,5 +1,5 @@
 -- What is left of a residual after an event, by the kind of its term.
---     after-held, -not-held, -not-kind    a leaf: a prefix whose set has the event; has it not; no prefix
+--     after_held, -not-held, -not-kind    a leaf: a prefix whose set has the event; has it not; no prefix
 --     after_both, -either                 a pair: both sides move; one of them
 -- Assumes nothing.
 use Rattle.std.specs.Prelude.{ℕ, ◌+◌, ◌<◌, ◌≡◌, true, false, [], ◌∷◌, ◌++◌}

@@ -1,8 +1,8 @@
 -- Resolving the i-th residual of a term into a slot, by the kind of the term.
---     into-leaf, into-none, into-call                   a term that is its own residual; that has none; a call
---     choice-left, choice-right                         a side of a choice
---     par-facts, par-divides, par-left, par-right       the sides of a parallel
---     into-definition                                   a definition is its body
+--     into_leaf, into_none, into_call                   a term that is its own residual; that has none; a call
+--     choice_left, choice_right                         a side of a choice
+--     par_facts, par_divides, par_left, par_right       the sides of a parallel
+--     into_definition                                   a definition is its body
 -- `Ways.antt` has these as the code needs them. Assumes nothing.
 use Rattle.std.specs.Prelude.{ℕ, suc, ◌+◌, ◌-◌, ◌*◌, ◌/◌, ◌%◌, ◌<◌, ◌≤◌, ◌≡◌, ◌⊎◌}
 use native.Mathlib.Omega.{arith}

@@ -1,7 +1,7 @@
 -- What a term by number resolves to, by its kind.
---     resolved-leaf, resolved-none                  STOP and a prefix; FAIL
---     TwoSides, resolved-choice, resolved-par       two sides
---     Calls, resolved-call                          a call
+--     resolved_leaf, resolved_none                  STOP and a prefix; FAIL
+--     TwoSides, resolved_choice, resolved_par       two sides
+--     Calls, resolved_call                          a call
 -- Assumes nothing.
 use Rattle.std.specs.Prelude.{ℕ, suc, ◌+◌, ◌*◌, ◌<◌, ◌≤◌, ◌⊎◌, ◌≡◌, refl}
 use Rattle.std.proofs.Common.{arith, inl, inr, ap, sym, ◌∙◌}

@@ -1,7 +1,7 @@
 -- The i-th of a list of residuals.
 --     nth_left, nth_right    of two lists, one after the other
---     nth-pairs              of the pairs of two lists
---     factor-positive        what is below a product has positive factors
+--     nth_pairs              of the pairs of two lists
+--     factor_positive        what is below a product has positive factors
 -- Assumes nothing.
 use Rattle.std.specs.Prelude.{ℕ, zero, suc, ◌+◌, ◌-◌, ◌*◌, ◌/◌, ◌%◌, ◌<◌, ◌≤◌, ◌≡◌, refl, length, get_or}
 use Rattle.std.proofs.Common.{arith, mod-eq_of_lt, suc-mul, mul-zero, add-one, ap, ◌∙◌, get_or-append-add}

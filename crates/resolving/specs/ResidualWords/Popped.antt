@@ -1,12 +1,12 @@
 -- A slot whose words are taken off again.
---     length-popped                       one word less: its length
---     popped-pushed                       the word that was pushed last, taken off
---     popAll-last                         several less: the last of them apart
---     popAll-pushAll                      the words that were pushed, taken off
---     pop-back, pop-back-one              the same, where what is left is given by the count before
---     clean-empty                         nothing stands behind the words of an empty slot
---     clean-pushed, clean-pushAll         nor behind those that are pushed
---     Popping, popping-..                 the loop of `pop_to`: the words from the c-th on are taken off; its first,
+--     length_popped                       one word less: its length
+--     popped_pushed                       the word that was pushed last, taken off
+--     pop_all_last                        several less: the last of them apart
+--     pop_all_push_all                    the words that were pushed, taken off
+--     pop_back, pop_back_one              the same, where what is left is given by the count before
+--     clean_empty                         nothing stands behind the words of an empty slot
+--     clean_pushed, clean_push_all        nor behind those that are pushed
+--     Popping, popping_..                 the loop of `pop_to`: the words from the c-th on are taken off; its first,
 --                                         next and last turn
 -- Assumes nothing.
 use Rattle.std.specs.Prelude.{ℕ, zero, suc, ◌+◌, ◌-◌, ◌<◌, ◌≤◌, ◌≡◌, refl, List, [], ◌∷◌, length, get_or, set, replicate}

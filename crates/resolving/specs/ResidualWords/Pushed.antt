@@ -1,6 +1,6 @@
 -- A slot with words pushed onto it: its length, its count, and several at once.
---     length-pushed, head-pushed                       one word more
---     length-pushAll, head-pushAll, pushAll-append     several more
+--     length_pushed, head_pushed                       one word more
+--     length_push_all, head_push_all, push_all_append  several more
 -- Assumes nothing.
 use Rattle.std.specs.Prelude.{ℕ, ◌+◌, ◌≡◌, refl, List, [], ◌∷◌, ◌++◌, length, get_or, set}
 use Rattle.std.proofs.Common.{arith, ◌∙◌, length-set, get_or-set_same}

@@ -1,7 +1,7 @@
 -- Resolving a term by number, as lists.
---     term-beyond, term-none, resolve-of    the term of a number: from the term count on there is none; resolved
---     length-resolved                       as many residuals as branches
---     resolved-definition                   a call's residuals are those of the body called
+--     term_beyond, term_none, resolve_of    the term of a number: from the term count on there is none; resolved
+--     length_resolved                       as many residuals as branches
+--     resolved_definition                   a call's residuals are those of the body called
 -- Not here: by the kind of the term (`Kinds.antt`); the i-th of a list of residuals (`Nth.antt`). Assumes nothing.
 use Rattle.std.specs.Prelude.{ℕ, ◌<◌, ◌≤◌, ◌≡◌}
 use Rattle.std.proofs.Common.{arith, ◌∙◌}

@@ -1,9 +1,9 @@
 -- The ways out of a term that is resolved, a law each: k is the kind of the term, r the right side's number, c the
 -- branches that the index has.
 --     Next                                             the term that is resolved next gives the same slot
---     go-leaf, go-call, go-none                        STOP and a prefix; a call; FAIL
---     choice-next-in, go_left, go_right                a choice
---     par-next-in, par-room, par-first, par-second     a parallel
+--     go_leaf, go_call, go_none                        STOP and a prefix; a call; FAIL
+--     choice_next_in, go_left, go_right                a choice
+--     par_next_in, par_room, par_first, par_second     a parallel
 --     beyond                                           a kind that is none of the six
 --     ResolvingWay, way-..                             where the loop of `term_into` has come to, and from there on
 -- Assumes nothing.

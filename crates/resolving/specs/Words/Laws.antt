@@ -1,6 +1,6 @@
 -- Whether the set of a node word's term has an event, by the set's parameter: what `holds_at` reads.
---     holds-fixed     a set of kind 0, which recalls no event
---     holds-family    a set of kind 1, which recalls the event that its parameter says
+--     holds_fixed     a set of kind 0, which recalls no event
+--     holds_family    a set of kind 1, which recalls the event that its parameter says
 -- Assumes nothing.
 use Rattle.std.specs.Prelude.{ℕ, ◌-◌, ◌<◌, ◌≡◌, refl}
 use Rattle.std.proofs.Common.{arith, ap, ◌∙◌}

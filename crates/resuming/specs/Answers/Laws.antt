@@ -1,5 +1,5 @@
--- What `after_piece` promises, by the ways out of its code: piece-more, piece-going, piece-over; and `take_piece`, by
--- what `resume` and `after_piece` promise: piece-taken. Not here: the ways of `resume`, in `Pieces.antt`. Assumes
+-- What `after_piece` promises, by the ways out of its code: piece_more, piece_going, piece_over; and `take_piece`, by
+-- what `resume` and `after_piece` promise: piece_taken. Not here: the ways of `resume`, in `Pieces.antt`. Assumes
 -- nothing.
 use Rattle.std.specs.Prelude.{ℕ, ◌-◌, ◌≡◌, Bool, true, false, List}
 use Rattle.std.proofs.Common.{ap, ◌∙◌}

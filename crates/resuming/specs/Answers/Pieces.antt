@@ -1,5 +1,5 @@
 -- What `resume` promises, by the ways out of its code.
---     piece-given, piece-refused, piece-stopped    by Feed's answer
+--     piece_given, piece_refused, piece_stopped    by Feed's answer
 -- Assumes nothing.
 use Rattle.std.specs.Prelude.{ℕ, ◌≡◌, List}
 use Rattle.std.proofs.Math.Path.{ap, sym}

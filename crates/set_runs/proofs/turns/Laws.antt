@@ -1,7 +1,7 @@
 -- Events over the sets met, on plain values: one law for each way out of a turn.
---     going-within, -stands, -room, -out    along known transitions: what is asked for; the set is laid out
---     turn-out, turn-learnt, turn-onward    a turn that learns nothing, or one event; one that goes on
---     since-goes, -kept, -ended, -left      turns one after the other
+--     going_within, -stands, -room, -out    along known transitions: what is asked for; the set is laid out
+--     turn_out, turn_learnt, turn_onward    a turn that learns nothing, or one event; one that goes on
+--     since_goes, -kept, -ended, -left      turns one after the other
 -- Assumes nothing.
 use Prim.Native.Nat.{ℕ, ◌*◌, ◌<◌, ◌≤◌}
 use native.Mathlib.Omega.{arith}

@@ -1,6 +1,6 @@
 -- Holding the residuals of a definition: one law per way out of `resolve_set`'s loop.
---     body-in, all-branches                      the body's number; as many residuals as branches
---     start-next, start-exceeded, start-end      the loop of `resolve_set`
+--     body_in_lem, all_branches                  the body's number; as many residuals as branches
+--     start_next, start_exceeded, start_end      the loop of `resolve_set`
 -- Assumes nothing.
 use Rattle.std.specs.Prelude.{ℕ, zero, suc, ◌+◌, ◌*◌, ◌<◌, ◌≤◌, ◌≡◌, refl, List, [], ◌∷◌, map, length, get_or, drop}
 use Rattle.std.proofs.Common.{arith, add-one, ap, sym, ◌∙◌, drop_of_length-le, drop-cons}

@@ -1,6 +1,6 @@
 -- The step: one law per way out.
---     load-next                                          the loop of `load`
---     step-asks, Gathering, gather-first, -next, -exceeded, -end      the loop of `step_set`
+--     load_next                                          the loop of `load`
+--     step_asks, Gathering, gather_first, -next, -exceeded, -end      the loop of `step_set`
 -- Assumes nothing.
 use Prim.Native.Nat.{ℕ, suc, ◌+◌, ◌-◌, ◌*◌, ◌<◌, ◌≤◌}
 use native.Mathlib.Omega.{arith}

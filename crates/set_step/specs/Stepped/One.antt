@@ -1,10 +1,10 @@
 -- One residual and one event: one law per way out of `step_one` and `step_many`.
---     slot-rooted                    the residual's tree stands in its slot
+--     slot_rooted                    the residual's tree stands in its slot
 --     still_one                      it has no result
---     lone-rebuilds, lone-done       it has one
---     several-asks, several-done     it has those that moves say
---     several-looks                  these can be looked at
---     loaded-sound, start-place, many-done, many-one     it may have others
+--     lone_rebuilds, lone_done       it has one
+--     several_asks, several_done     it has those that moves say
+--     several_looks                  these can be looked at
+--     loaded_sound, start_place, many_done, many_one     it may have others
 -- Assumes nothing.
 use Rattle.std.specs.Prelude.{ℕ, ◌+◌, ◌-◌, ◌*◌, ◌<◌, ◌≤◌, ◌^◌, ◌≡◌, true, take}
 use Rattle.std.proofs.Common.{arith, ◌∙◌, take-append-drop, get_or-take, pow_mono}

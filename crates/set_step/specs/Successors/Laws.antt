@@ -1,5 +1,5 @@
 -- What `step_set` promises comes to, from a zeroed area.
---     results-of, gathered-of      the results of a walk are those of `after_kept`
+--     results_of, gathered_of      the results of a walk are those of `after_kept`
 --     stepped                      the slots of the residuals after the event
 --     exceeded                     no room, where these are more than fit
 -- Assumes nothing.

@@ -1,7 +1,7 @@
 -- The residuals after an event fit a slot where the results of a residual's nodes have room in it.
---     after-room        their node words are no more than what the residual's nodes can become
---     slots-written     slots that words are pushed to are those of residuals that fit
---     sixteen-words     they have sixteen words
+--     after_room        their node words are no more than what the residual's nodes can become
+--     slots_written     slots that words are pushed to are those of residuals that fit
+--     sixteen_words     they have sixteen words
 -- Assumes nothing.
 use Rattle.std.specs.Prelude.{ℕ, suc, ◌+◌, ◌≤◌, ◌≡◌, refl, Bool, true, false, length}
 use Rattle.std.proofs.Common.{arith, ap₂, ◌∙◌, length-append}

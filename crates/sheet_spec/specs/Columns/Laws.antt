@@ -1,8 +1,8 @@
 -- The lines that the sheet has are those that their columns call for, and no others.
---     right-aligned, aligned-right       one field
---     lot-columns, columns-lot           the line of a record
---     total-columns, columns-total       the last line
---     text-printed, printed-text         all lines
+--     right_aligned, aligned_right       one field
+--     lot_columns, columns_lot           the line of a record
+--     total_columns, columns_total       the last line
+--     text_printed, printed_text         all lines
 -- Assumes nothing.
 use Rattle.std.specs.Prelude.{ℕ, ◌+◌, ◌-◌, ◌^◌, ◌≤◌, ◌<◌, ◌≡◌, refl, ◌⊎◌}
 use Rattle.std.proofs.Common.{arith, sym, ◌∙◌, inl, inr, length-append, length-drop, take-append-drop, take_at, drop-drop, length-take-le, eq-eqb, ne_eqb}

@@ -1,8 +1,8 @@
 -- The loops that fill a part of a line.
---     blank-next, blank-done                            spaces from the front
---     Filling, fill-first, fill-next, fill_done         the digits of a number from the right end
---     spell_next, spell-done                            a word from the left end
---     right-one, right-more                             `right`, digit by digit;  right-length
+--     blank_next, blank_done                            spaces from the front
+--     Filling, fill_first, fill_next, fill_done         the digits of a number from the right end
+--     spell_next, spell_done                            a word from the left end
+--     right_one, right_more                             `right`, digit by digit;  right_length
 -- Assumes nothing.
 use Rattle.std.specs.Prelude.{ℕ, zero, suc, ◌+◌, ◌-◌, ◌/◌, ◌%◌, ◌^◌, ◌≤◌, ◌<◌, ◌≡◌, refl, List, [], ◌∷◌, ◌++◌, length, get_or, set, take, drop}
 use Rattle.std.proofs.Common.{arith, add-one, pow-suc, ap, sym, ◌∙◌, subst, append_assoc, append-nil, length-set, length-append, drop_of_length-le, take-suc-set, drop-cons, take-suc, take_all, length-take-le}

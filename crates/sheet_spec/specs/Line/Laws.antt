@@ -1,8 +1,8 @@
 -- The parts of a line put one after the other into a line of spaces.
---     right-room, right-filled        what `right` asks of a part of spaces, and what it leaves there
---     Row, row_put, row-skip          a line whose first part is done;  one part more
---     lot-part2 to lot-done           the line of a record, part by part;  total-part2, total-done: the last line
---     lot-length, total-length        how long they are
+--     right_room, right_filled        what `right` asks of a part of spaces, and what it leaves there
+--     Row, row_put, row_skip          a line whose first part is done;  one part more
+--     lot_part2 to lot_done           the line of a record, part by part;  total_part2, total_done: the last line
+--     lot_length, total_length        how long they are
 -- Assumes nothing.
 use Rattle.std.specs.Prelude.{ℕ, zero, suc, ◌+◌, ◌-◌, ◌^◌, ◌≤◌, ◌<◌, ◌≡◌, refl, length, set, take, drop, eqb}
 use Rattle.std.proofs.Common.{arith, ap, sym, ◌∙◌, length-append, take_at, drop_at, eq-eqb, ne_eqb}

@@ -1,5 +1,5 @@
 -- What `sheet_of` is comes by one of the four ways, and each way is what it is.
---     comes-out, comes-in      the two halves
+--     comes_out, comes_in      the two halves
 -- Assumes nothing.
 use Rattle.std.specs.Prelude.{ℕ, ◌+◌, ◌*◌, ◌^◌, ◌<◌, ◌≡◌, List, length}
 use Rattle.std.proofs.Common.{arith, ap, sym, ◌∙◌}

@@ -1,6 +1,6 @@
 -- The outcomes of a sheet, by cases: one law for each way out of `sheet`.
---     sheet-bad, sheet-over, sheet-short, sheet-given       the outcomes
---     judged-bad, judged-lots                               what `judge` says of a book
+--     sheet_bad, sheet_over, sheet_short, sheet_given       the outcomes
+--     judged_bad, judged_lots                               what `judge` says of a book
 -- Assumes nothing.
 use Rattle.std.specs.Prelude.{ℕ, ◌+◌, ◌/◌, ◌≤◌, ◌<◌, ◌≡◌, List, ◌++◌, length, drop}
 use Rattle.std.proofs.Common.{arith, ap, sym, ◌∙◌}

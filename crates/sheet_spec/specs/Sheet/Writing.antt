@@ -1,6 +1,6 @@
 -- The loop of `write`: some lines are done, and what is left of the book gives the others.
 --     Writing                              the invariant
---     write-first, write-next              it holds before the first line, and after one more
+--     write_first, write_next              it holds before the first line, and after one more
 --     write_read                           a record stands where the book is not at its end
 --     write_done                           with the last line all is written
 -- Assumes nothing.

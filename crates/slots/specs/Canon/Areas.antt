@@ -1,6 +1,6 @@
 -- The words of slots laid into an area.
---     flatten-append, slots-append    of two lists of slots
---     length-flatten, length-fill     how many they are
+--     flatten_append, slots_append    of two lists of slots
+--     length_flatten, length_fill     how many they are
 --     fill_none                       an area with no slot is all zero
 -- Assumes nothing.
 use Rattle.std.specs.Prelude.{ℕ, ◌-◌, ◌*◌, ◌≤◌, ◌≡◌, refl, length, replicate}

@@ -1,6 +1,6 @@
 -- Holding slots in an area is putting them in their places in a list.
---     put-slot                          holding one: what is held, or that there is no room
---     put-canon, put-exceeded-canon     holding several: what is held, and when there is no room
+--     put_slot                          holding one: what is held, or that there is no room
+--     put_canon, put_exceeded_canon     holding several: what is held, and when there is no room
 -- Assumes nothing.
 use Rattle.std.specs.Prelude.{ℕ, ◌+◌, ◌-◌, ◌*◌, ◌<◌, ◌≤◌, ◌≡◌, refl}
 use native.Mathlib.Omega.{arith}

@@ -1,8 +1,8 @@
 -- Members of lists, of two lists together and of a list's images.
---     sub-append                                       two lists
---     Image, map-in, map-out, sub-map                  images
---     same_refl, same-trans, same-append, same_map     the same members
---     slots-in                                         members of slots are slots
+--     sub_append                                       two lists
+--     Image, map_in, map_out, sub_map                  images
+--     same_refl, same_trans, same_append, same_map     the same members
+--     slots_in                                         members of slots are slots
 -- Assumes nothing.
 use Rattle.std.specs.Prelude.{ℕ, ◌≡◌, refl, ◌⊎◌, List, [], ◌∷◌, ◌++◌, map}
 use Rattle.std.proofs.Common.{ap, inl, inr, ⊎_elim}

@@ -1,8 +1,8 @@
 -- The place of a slot among those that an area holds is its place in the list of them.
---     placeAmong                 the place by the list
---     Split, split-place         what a place says of the list
+--     place_among                the place by the list
+--     Split, split_place         what a place says of the list
 --     held_same                  a slot that is held
---     place-in                   among ascending slots the last may be looked at first and the search be narrowed
+--     place_in_lem               among ascending slots the last may be looked at first and the search be narrowed
 -- Assumes nothing.
 use Rattle.std.specs.Prelude.{ℕ, zero, suc, ◌+◌, ◌*◌, ◌≤◌, ◌<◌, ◌≡◌, refl, true, false, length, get_or, ltb}
 use Rattle.std.proofs.Common.{arith, ap, sym, ◌∙◌, length-append, get_or-append-add}

@@ -1,7 +1,7 @@
 -- Slots held one after the other.
---     put-none, put-single, put-append     of none, of one, of two lists
---     put_then, put-stop                   after one list comes the other; nothing comes once there is no room
---     put-held, put-new, put_full          one slot, by the answer of insertion
+--     put_none, put_single, put_append     of none, of one, of two lists
+--     put_then, put_stop                   after one list comes the other; nothing comes once there is no room
+--     put_held, put_new, put_full          one slot, by the answer of insertion
 -- Assumes nothing.
 use Rattle.std.specs.Prelude.{ℕ, ◌+◌, ◌-◌, ◌*◌, ◌≤◌, ◌≡◌, refl, Bool, true, false, List, [], ◌∷◌, ◌++◌, length}
 use native.Mathlib.Omega.{arith}

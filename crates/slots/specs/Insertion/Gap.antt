@@ -1,7 +1,7 @@
 -- Loops that store one word a turn: words that move up by sixteen, from the last on, and a slot over an area.
---     gap-none, gap_step     of `gapped`
---     gap-part               a gap opened in the part from p on
---     stored-none, stored-step           of `stored`
+--     gap_none, gap_step     of `gapped`
+--     gap_part               a gap opened in the part from p on
+--     stored_none, stored_step           of `stored`
 -- Assumes nothing.
 use Prim.Native.Nat.{ℕ, suc, ◌+◌, ◌-◌, ◌≤◌, ◌<◌}
 use native.Mathlib.Omega.{arith}

@@ -1,7 +1,7 @@
 -- Where a slot belongs and what insertion does, case by case. The numbers that a step changes are given by equations.
---     order-none, -below, -above, -on      the words of two slots
---     seek-none, -here, -held, -on, -bound the slots of an area
---     insert-held, -full, -new             insertion, by the place found
+--     order_none, -below, -above, -on      the words of two slots
+--     seek_none, -here, -held, -on, -bound the slots of an area
+--     insert_held, -full, -new             insertion, by the place found
 -- Assumes nothing.
 use Prim.Native.Nat.{ℕ, zero, suc, ◌+◌, ◌-◌, ◌*◌, ◌≤◌, ◌<◌}
 use native.Mathlib.Omega.{arith}

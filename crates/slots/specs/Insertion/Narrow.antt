@@ -1,9 +1,9 @@
 -- The search narrowed by halving.
---     middle-half, -none, -low     the next slot to compare with
---     halve-none, -up, -down       a turn of the halving
---     narrow-none, -start          where it starts
---     narrow-bound, place-bound    it stays among the slots; so does the place found
---     Ascends, place-seek          where a slot before one below the new slot is below it too, what is left out does
+--     middle_half, -none, -low     the next slot to compare with
+--     halve_none, -up, -down       a turn of the halving
+--     narrow_none, -start          where it starts
+--     narrow_bound, place_bound    it stays among the slots; so does the place found
+--     Ascends, place_seek          where a slot before one below the new slot is below it too, what is left out does
 --                                  not matter: the place is that of the search from the first on
 -- Assumes nothing.
 use Prim.Native.Nat.{ℕ, zero, suc, ◌+◌, ◌-◌, ◌*◌, ◌/◌, ◌≤◌, ◌<◌}

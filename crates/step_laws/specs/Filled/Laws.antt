@@ -1,6 +1,6 @@
 -- What `step_set` and `resolve_set` leave in an area of zeros: the residuals after an event, and those of a definition.
---     holds_source, stepped-filled     what a step asks for, and what it leaves
---     settled-filled                   what settling a definition leaves
+--     holds_source, stepped_filled     what a step asks for, and what it leaves
+--     settled_filled                   what settling a definition leaves
 -- Assumes nothing.
 use Rattle.std.specs.Prelude.{ℕ, ◌≤◌, ◌<◌, ◌≡◌, List, [], length}
 use Rattle.std.proofs.Common.{arith, ap, ◌∙◌}

@@ -1,6 +1,6 @@
 -- Where the first number is at most 64 the grammar reads as 01's does; 01's refuses every other.
---     list-before, bytes-before     an alphabet of at most 64 events
---     was-refused                   a larger one
+--     list_before, bytes_before     an alphabet of at most 64 events
+--     was_refused                   a larger one
 -- Assumes nothing.
 use Prim.Native.Nat.{ℕ, zero, suc, ◌+◌, ◌<◌, ◌≤◌}
 use Rattle.std.proofs.Common.{arith, ◌∙◌, le-leb}

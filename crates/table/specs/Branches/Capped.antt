@@ -1,8 +1,8 @@
 -- Branches counted up to 257 only: the same recursion, capped at each step, gives the capped branches, and the test
 -- against 256 is the same. So code may count with small numbers.
---     capped, cappedWith        at most 257; a term's branches so counted
---     nextCapped, allCapped     a definition's; of each definition
---     capped-few, capped-term   the test against 256; a term of a table
+--     capped, capped_with       at most 257; a term's branches so counted
+--     next_capped, all_capped   a definition's; of each definition
+--     capped_few, capped_term   the test against 256; a term of a table
 -- Assumes nothing.
 use Rattle.std.specs.Prelude.{ℕ, zero, suc, ◌+◌, ◌*◌, ◌≤◌, min, ◌≡◌, refl, ◌↔◌, List, [], ◌∷◌, ◌++◌, map, length}
 use native.Mathlib.Omega.{arith}

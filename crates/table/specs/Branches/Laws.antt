@@ -1,7 +1,7 @@
 -- No body or follower is found above 256 exactly where each has at most 256 (01, "Openings").
 --     Few                              a term has at most 256
---     followers-out, followers-in      of the followers in a term
---     bodies-out, bodies-in            of the bodies and the followers in them
+--     followers_out, followers_in      of the followers in a term
+--     bodies_out, bodies_in            of the bodies and the followers in them
 -- Assumes nothing.
 use Rattle.std.specs.Prelude.{ℕ, suc, ◌+◌, ◌≤◌, ◌≡◌, leb}
 use Rattle.std.proofs.Math.Path.{refl}

@@ -1,6 +1,6 @@
 -- Bytes are refused exactly on the conditions of `RefusedBytes`: a refusal has one of them
 -- (01, "When the monitor declines": "Each is given exactly on its condition").
---     refused-bytes-out    all refusals of bytes
+--     refused_bytes_out    all refusals of bytes
 -- The other way, `refused_bytes_in`, is in `Given`. Assumes nothing.
 use Rattle.std.specs.Prelude.{ℕ, ◌+◌, ◌≤◌, ◌<◌, ◌≡◌, refl, ◌⊎◌, List, [], ◌∷◌, ◌++◌, length}
 use Rattle.std.proofs.Common.{arith, sym, ◌∙◌, subst, inl, inr, append-nil}

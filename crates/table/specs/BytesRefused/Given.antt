@@ -1,6 +1,6 @@
 -- Each condition of `RefusedBytes` gives its refusal.
 --     whole_in            the judgement of bytes that are a table's numbers, and an end
---     refused-bytes-in    all refusals of bytes
+--     refused_bytes_in    all refusals of bytes
 -- The other way is in `Exact`. Assumes nothing.
 use Rattle.std.specs.Prelude.{ℕ, ◌+◌, ◌≤◌, ◌<◌, ◌≡◌, refl, ◌⊎◌, length}
 use Rattle.std.proofs.Common.{arith, sym, ap, ◌∙◌, inl, inr, length-append}

@@ -1,7 +1,7 @@
 -- The grammar and the judgement on a stream that ends, from those on the list of its numbers.
 --     IsEnd                                  no number stands next
---     stream-cut, stream-off, stream-got     what the grammar says of the stream, by what it says of the list
---     judge-no, judge-got                    the judgement of a stream from its reading
+--     stream_cut, stream_off, stream_got     what the grammar says of the stream, by what it says of the list
+--     judge_no, judge_got                    the judgement of a stream from its reading
 -- Assumes nothing.
 use Rattle.std.specs.Prelude.{ℕ, suc, ◌+◌, refl, Bool}
 use Rattle.std.proofs.Common.{arith, ◌∙◌, subst}

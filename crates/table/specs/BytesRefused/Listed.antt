@@ -1,6 +1,6 @@
 -- The bytes of a list with one number more.
---     bytes-last, bytes-more, length_more    listBytes of a list with one number more, and of the numbers before i + 1
---     place_none, place-more, place-all      the place of the first number, of the next one, and after the last
+--     bytes_last, bytes_more, length_more    list_bytes of a list with one number more, and of the numbers before i + 1
+--     place_none, place_more, place_all      the place of the first number, of the next one, and after the last
 -- Assumes nothing.
 use Rattle.std.specs.Prelude.{ℕ, ◌+◌, ◌<◌, ◌≡◌, refl, List, [], ◌∷◌, ◌++◌, length, take, get_or}
 use Rattle.std.proofs.Common.{arith, add-one, sym, ap, ◌∙◌, append-nil, append_assoc, length-append, take-suc}
@@ -23,7 +23,7 @@ pub length_more : (l : List ℕ) (i : ℕ) → i < length l
     → length (list_bytes (take (i + 1) l)) ≡ length (list_bytes (take i l)) + length (bytes_of (get_or l i 0))
 length_more l i h = ap length (bytes_more l i h) ∙ length-append (list_bytes (take i l)) (bytes_of (get_or l i 0))
 
--- ---- bytePlace
+-- ---- byte_place
 pub place_none : (l : List ℕ) → 0 ≡ byte_place l 0
 unfolding byte_place list_bytes
 place_none l = refl

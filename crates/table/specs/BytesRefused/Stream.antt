@@ -1,8 +1,8 @@
 -- Bytes as a stream: the numbers written in them, at their byte places, and an end in which no number is well written.
---     bytePlaces        numbers with the places of their first bytes
+--     byte_places       numbers with the places of their first bytes
 --     Ends, Stream      how a stream of bytes ends; the stream of some bytes
 --     decode, shown     every input is such a stream; decoded bytes are theirs
---     place-bytes       the place of a number
+--     place_bytes       the place of a number
 -- Assumes nothing.
 use Rattle.std.specs.Prelude.{ℕ, zero, suc, ◌+◌, ◌≤◌, ◌<◌, ◌≡◌, refl, ◌⊎◌, List, [], ◌∷◌, ◌++◌, length, take}
 use Rattle.std.proofs.Common.{arith, ap, ◌∙◌, subst, inl, inr, append_assoc, length-append, eq-eqb, ne_eqb}

@@ -1,5 +1,5 @@
 -- Every row of `Examples` holds, by computing.
---     numbers-hold, tables-hold, counts-hold
+--     numbers_hold, tables_hold, counts_hold
 -- Assumes nothing.
 use mathlib.Core.List.{flat_map}
 use Rattle.std.specs.Prelude.{T}

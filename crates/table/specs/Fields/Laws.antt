@@ -1,7 +1,7 @@
 -- The field rules are the bounds that the parser has: `Fields` against `TableOk`.
---     ofRef-imp, ofRef-and, ofCall-imp    of a term's own reference
+--     of_ref_imp, of_ref_and, of_call_imp  of a term's own reference
 --     run_out, run_in                     rows
---     setOk-out, setOk-in                 sets
+--     set_ok_out, set_ok_in               sets
 --     fields_out, fields_in               tables
 -- Assumes nothing.
 use Rattle.std.specs.Prelude.{ℕ, suc, ◌≤◌, ◌<◌, List, [], ◌∷◌, length}

@@ -1,8 +1,8 @@
 -- The equations of `or_else`, `unless` and `first_false`: no place is found exactly where all is as it should be, and a
 -- place that is found is the first.
---     orElse-out, orElse-in, unless-out, unless-in    into and out of no place
---     firstFalse-append                               of two lists of tests, one after the other
---     first-in, first_out, pass-in, pass-out          `first_false` against `FirstAt` and `AllPass`
+--     or_else_out, or_else_in, unless_out, unless_in  into and out of no place
+--     first_false_append                              of two lists of tests, one after the other
+--     first_in, first_out, pass_in, pass_out          `first_false` against `FirstAt` and `AllPass`
 --     first_short                                     the first test that fails is one of the list
 -- Assumes nothing.
 use Rattle.std.specs.Prelude.{ℕ, zero, suc, ◌+◌, ◌<◌, ◌≡◌, refl, Bool, true, false, List, [], ◌∷◌, ◌++◌, length, T}
@@ -35,7 +35,7 @@ unfolding or_else
 or_else_assoc none b c = refl
 or_else_assoc (some n) b c = refl
 
--- ---- firstFalse
+-- ---- first_false
 pub first_false_append : (i : ℕ) (a b : List Bool)
     → first_false i (a ++ b) ≡ or_else (first_false i a) (first_false (i + length a) b)
 unfolding first_false

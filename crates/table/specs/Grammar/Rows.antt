@@ -1,7 +1,7 @@
 -- The kind of the set that passes the bound of the rows is refused with 5 (02, W6).
 --     rows_are           the rows of sets, counted by kinds, are their rows
---     sets-stop          so many sets, where the first is refused of those that come after some
---     passing-refused    the judgement of a list whose sets pass the bound
+--     sets_stop          so many sets, where the first is refused of those that come after some
+--     passing_refused    the judgement of a list whose sets pass the bound
 -- Assumes nothing.
 use Rattle.std.specs.Prelude.{ℕ, zero, suc, ◌+◌, ◌≤◌, ◌<◌, ◌≡◌, Bool, true, false, ◌&&◌, leb}
 use native.Mathlib.Omega.{arith}

@@ -1,9 +1,9 @@
 -- The grammar of sets: what `event_set` reads is what would be written, within its bounds, and the other way.
 --     Run, RowOk, SetOk           events, a row, a set within the bounds
---     row-sound, row-complete     a row
+--     row_sound, row_complete     a row
 --     SetIn                       and after so many rows
---     set-sound, set-complete     a set
---     sets-sound, sets-complete   so many sets
+--     set_sound, set_complete     a set
+--     sets_sound, sets_complete   so many sets
 -- Assumes nothing.
 use Rattle.std.specs.Prelude.{ℕ, zero, suc, ◌+◌, ◌≤◌, ◌<◌, ◌≡◌, refl, length, leb, ltb}
 use Rattle.std.proofs.Common.{arith, sym, ap, subst, leb→le, le→leb, ltb→lt, lt→ltb}

@@ -1,7 +1,7 @@
 -- The grammar of terms: what `term_with` reads is what would be written, within its bounds, and the other way.
 --     RefOk, ReadTerm              a set reference, a term within the bounds
---     ref-sound, ref-complete      a set reference
---     term-sound, term-complete    a term
+--     ref_sound, ref_complete      a set reference
+--     term_sound, term_complete    a term
 -- Assumes nothing.
 use Prim.Native.Nat.{ℕ, zero, suc, ◌+◌, ◌≤◌, ◌<◌}
 use native.Mathlib.Omega.{arith}

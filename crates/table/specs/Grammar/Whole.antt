@@ -1,6 +1,6 @@
 -- The grammar of a table: what `table` reads is what would be written, within the field bounds, and the other way.
 --     DefinitionOk, TableOk               a definition, a table within the bounds
---     table-ok-sound, table-ok-complete   a table
+--     table_ok_sound, table_ok_complete   a table
 -- Assumes nothing.
 use Prim.Native.Nat.{ℕ, zero, suc, ◌+◌, ◌≤◌}
 use Rattle.std.proofs.Common.{arith, sym, subst, le→leb}

@@ -1,5 +1,5 @@
 -- A grown list: its length, its values, and that they do not turn on how long it is.
---     length-grow, getD-grow, grow-stable
+--     length_grow, get_d_grow, grow_stable
 -- Assumes nothing.
 use Prim.Native.Nat.{ℕ, zero, suc, ◌<◌, ◌+◌}
 use native.Mathlib.Omega.{arith}

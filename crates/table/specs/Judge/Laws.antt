@@ -1,7 +1,7 @@
 -- A list, or bytes, are accepted exactly where they are the writing of a table that keeps the rules, short enough.
---     Accepts, judge-out, judge-in             a stream;  unless-met-in, placed-none: where a rule is kept
---     AcceptedList, list-out, list-in          a number list;  list-declined: one that is refused, but not with 2
---     AcceptedBytes, bytes-out, bytes-in       bytes
+--     Accepts, judge_out, judge_in             a stream;  unless_met_in, placed_none: where a rule is kept
+--     AcceptedList, list_out, list_in          a number list;  list_declined: one that is refused, but not with 2
+--     AcceptedBytes, bytes_out, bytes_in       bytes
 -- Assumes nothing.
 use Rattle.std.specs.Prelude.{ℕ, ◌+◌, ◌≤◌, ◌≡◌, refl, Bool, true, false, cond, List, length, ltb}
 use Rattle.std.proofs.Common.{arith, sym, ap, ◌∙◌, subst, le-ltb, ltb-false}

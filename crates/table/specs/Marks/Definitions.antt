@@ -1,6 +1,6 @@
 -- The grammar of definitions sees their marked writings.
 --     DefinitionsR        the marked writing of so many definitions, the first of whose terms has a given number
---     sees-definitions    the law
+--     sees_definitions    the law
 -- Assumes nothing.
 use Prim.Native.Nat.{ℕ, zero, suc, ◌+◌}
 use native.Mathlib.Omega.{arith}

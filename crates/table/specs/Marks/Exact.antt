@@ -1,5 +1,5 @@
 -- The field rules hold exactly where a table has its shape and each of its numbers keeps its own bound.
---     marks-out, marks-in    the two ways
+--     marks_out, marks_in    the two ways
 -- Assumes nothing.
 use Rattle.std.specs.Prelude.{◌+◌, ◌≡◌, refl, [], ◌++◌, length}
 use Rattle.std.proofs.Common.{subst}

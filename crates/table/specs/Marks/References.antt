@@ -1,6 +1,6 @@
 -- The grammar of set references sees their marked writings.
 --     RefR        a set reference's marked writing
---     sees-ref    the law
+--     sees_ref    the law
 -- Assumes nothing.
 use Rattle.std.specs.Prelude.{ℕ, ◌≡◌, refl, Bool, length, get_or, ltb, leb}
 use Rattle.std.proofs.Common.{sym, ◌∙◌}

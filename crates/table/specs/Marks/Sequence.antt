@@ -1,9 +1,9 @@
 -- Marked writings put together: one after another, and so many of one kind.
 --     join, last           a list of marks in two parts, each known; the second of them empty
---     AnyForm, any-number  one number of any form
---     then-pure            a writing and nothing after it
+--     AnyForm, any_number  one number of any form
+--     then_pure            a writing and nothing after it
 --     ItemR, SeqR          the marked writings of one thing, of so many things
---     sees-times           `Sees` is kept by `times`
+--     sees_times           `Sees` is kept by `times`
 -- Assumes nothing.
 use Prim.Native.Nat.{ℕ, zero, suc}
 use native.Mathlib.Omega.{arith}

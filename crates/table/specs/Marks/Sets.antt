@@ -1,6 +1,6 @@
 -- The grammar of sets sees their marked writings.
 --     SetR, SetsR    a set's marked writing after so many rows; that of so many sets
---     sees-sets      the law
+--     sees_sets      the law
 -- Assumes nothing.
 use Rattle.std.specs.Prelude.{ℕ, zero, suc, ◌+◌, ◌≤◌, ◌≡◌, refl, Bool, true, ◌&&◌, length, ltb, leb}
 use Rattle.std.proofs.Common.{arith, sym, ap, ◌∙◌, subst, leb-true}

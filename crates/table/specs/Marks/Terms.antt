@@ -1,5 +1,5 @@
 -- The grammar of terms sees their marked writings: one level of terms from the level below it.
---     sees-term    the law
+--     sees_term    the law
 -- Assumes nothing.
 use Prim.Native.Nat.{ℕ, zero, suc, ◌+◌, ◌<◌}
 use native.Mathlib.Omega.{arith}

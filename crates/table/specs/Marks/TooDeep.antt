@@ -1,7 +1,7 @@
 -- Terms nested too deep: the grammar refuses a kind for which there is no room, as the term's marks say
 -- (01, "Numbers and table": "nested at most 32 deep").
 --     TermR        a term's marked writing, with so many levels of room
---     sees-deep    `Sees` where there is no room
+--     sees_deep    `Sees` where there is no room
 -- Assumes nothing.
 use Rattle.std.specs.Prelude.{ℕ, zero, ◌+◌, List, [], ◌∷◌, ◌++◌, length}
 use native.Mathlib.Omega.{arith}

@@ -1,6 +1,6 @@
 -- The grammar of a table sees its marked writing.
 --     TableR        a table's marked writing
---     sees-table    the law
+--     sees_table    the law
 -- Assumes nothing.
 use Rattle.std.specs.Prelude.{ℕ, ◌≡◌, refl, Bool, ◌&&◌, List, [], ◌∷◌, ◌++◌, length, leb}
 use Rattle.std.proofs.Common.{sym, ◌∙◌, subst}

@@ -1,5 +1,5 @@
 -- The marked writing of a table is its writing: without the marks it is `numbers_of`.
---     table-numbers    the law
+--     table_numbers    the law
 -- Assumes nothing.
 use Rattle.std.specs.Prelude.{ℕ, suc, ◌+◌, ◌≡◌, refl, ◌&&◌, length, leb}
 use Rattle.std.proofs.Common.{ap, ap₂, ◌∙◌}

@@ -1,9 +1,9 @@
 -- Which node stands where over definitions: what `definition_nodes` lists, as a relation to go by (ours).
 --     NodeStands                     x is the node of number n over definitions
---     stands-in, stands-out          it is the list's element
---     node-stands                    its term stands there, under its prefixes
---     stands-body                    each body stands at its number
---     stands-home                    each node in a definition's body, which is as all are
+--     stands_in, stands_out          it is the list's element
+--     node_stands                    its term stands there, under its prefixes
+--     stands_body                    each body stands at its number
+--     stands_home                    each node in a definition's body, which is as all are
 -- Assumes nothing.
 use Rattle.std.specs.Prelude.{ℕ, zero, suc, ◌+◌, ◌-◌, ◌<◌, ◌≤◌, ◌≡◌, refl, List, [], ◌∷◌, length, get_or, take}
 use Rattle.std.proofs.Common.{arith, ap, ◌∙◌, length-append}

@@ -1,8 +1,8 @@
 -- Nodes by number: how many there are, what stands inside a term, and where each definition's terms stand.
---     follower-node, choice-nodes, par-nodes    the nodes inside a node's term, by number
---     body-node, home-node                      a definition's body; the definition of a node
+--     follower_node, choice_nodes, par_nodes    the nodes inside a node's term, by number
+--     body_node, home_node                      a definition's body; the definition of a node
 --     SpotOf, spot_of                           what a table within its bounds says of where a node stands
---     each-node                                 what every term of every body keeps, by number
+--     each_node                                 what every term of every body keeps, by number
 -- That `term_at` and `enclosing` are the node's is in `Node/Numbers.antt`. Assumes nothing.
 use Rattle.std.specs.Prelude.{ℕ, suc, ◌+◌, ◌<◌, ◌≤◌, ◌≡◌, length}
 use Rattle.std.proofs.Common.{arith, ap}

@@ -1,5 +1,5 @@
 -- The node of a number has the term that `term_at` finds, with the prefixes around it.
---     term-at, enclosing-at    `term_at`, `enclosing` of a table's numbers
+--     term_at_lem, enclosing_at  `term_at`, `enclosing` of a table's numbers
 -- Assumes nothing.
 use Rattle.std.specs.Prelude.{ℕ, ◌<◌, ◌≡◌}
 use Rattle.std.proofs.Math.Option.{some}

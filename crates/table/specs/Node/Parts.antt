@@ -1,7 +1,7 @@
 -- Which node stands where in a term: what `nodes` lists, as a relation to go by (ours).
 --     Part                 x is the node that stands k terms into a term
 --     part_in, part_out    it is the list's element
---     part-trans           parts of parts are parts
+--     part_trans           parts of parts are parts
 -- What every part keeps is at the end. The same over definitions is in `Node/Homes.antt`. Assumes nothing.
 use Rattle.std.specs.Prelude.{ℕ, zero, suc, ◌+◌, ◌-◌, ◌<◌, ◌≤◌, ◌≡◌, refl, List, ◌++◌, length, get_or}
 use Rattle.std.proofs.Common.{arith, ap, ◌∙◌, length-append, get_or-append-add}

@@ -1,9 +1,9 @@
 -- The round trips of Read and Write, and what they give on an accepted input.
 --     read_done, write_done              what a count says of the input
---     read-accepted, write-accepted      the whole outcome where the input is accepted and the lengths are right
---     writes-back, reads-back            the round trips
---     length-zeros                       the length of so many zeros
---     read-fills                         Read's output keeps its length
+--     read_accepted_lem, write_accepted_lem  the whole outcome where the input is accepted and the lengths are right
+--     writes_back, reads_back            the round trips
+--     length_zeros                       the length of so many zeros
+--     read_fills                         Read's output keeps its length
 -- Assumes nothing.
 use Rattle.std.specs.Prelude.{ℕ, ◌+◌, ◌-◌, ◌≤◌, ◌≡◌, refl, Bool, true, false, cond, ◌&&◌, List, [], ◌∷◌, ◌++◌, length, take, drop, eqb, leb}
 use Rattle.std.proofs.Common.{arith, sym, ap, ◌∙◌, subst, length-append, eq-eqb, eqb-true, le-leb}

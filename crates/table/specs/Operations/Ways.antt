@@ -1,5 +1,5 @@
 -- Read and Write go one of their ways.
---     read-ways, write-ways     by the lent lengths and the judgement
+--     read_ways, write_ways     by the lent lengths and the judgement
 -- Assumes nothing.
 use Rattle.std.specs.Prelude.{ℕ, ◌<◌, ◌≡◌, Bool, List, length}
 use Rattle.std.proofs.Math.Decide.{dec_lt}

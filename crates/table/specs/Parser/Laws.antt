@@ -1,8 +1,8 @@
 -- What a parser that succeeds has read, and when it succeeds.
---     pure-out, then-out, then-in       nothing; one thing and then another
---     number-out, number_in             one number
+--     pure_out, then_out, then_in       nothing; one thing and then another
+--     number_out, number_in             one number
 --     Sound, Complete                   a parser reads just what is written, within its bounds; and reads all of that
---     times-sound, times-complete       so many things of one kind
+--     times_sound, times_complete       so many things of one kind
 -- Assumes nothing.
 use Prim.Native.Nat.{ℕ, zero, suc}
 use Rattle.std.proofs.Common.{arith}

@@ -1,7 +1,7 @@
 -- A parser against the marked writings of what it reads.
 --     Whole, Partial            a number list is a writing and then more; or the beginning of one, and its numbers pass
 --     Sees R p                  on a number list p reads, ends early or refuses just as R's marked writings say
---     sees-number, sees-pure    one number; nothing
+--     sees_number, sees_pure    one number; nothing
 -- One thing and then another is in `SeesThen`. Assumes nothing.
 use Rattle.std.specs.Prelude.{ℕ, suc, ◌+◌, Bool, true, false}
 use native.Mathlib.Omega.{arith}

@@ -1,6 +1,6 @@
 -- `Sees` is kept by `and_then`: one thing and then another, written one after the other.
 --     ThenR        the marked writings of the two together
---     sees-then    the law
+--     sees_then    the law
 -- Assumes nothing.
 use Rattle.std.specs.Prelude.{ℕ, ◌+◌, false, true}
 use native.Mathlib.Omega.{arith}

@@ -1,9 +1,9 @@
 -- How parsers go at a place of a number list, and how things are read one after another.
---     tokens-in, tokens-end                 what stands at a place; nothing stands at the end
---     number-got, number-off, number_short  one number at a place: it passes, it does not, there is none
---     then-got, then-stop                   one thing and then another, by what the first says
---     Reads, reads-snoc                     things read one after another, with a state that each moves on
---     all_done, all-stop                    so many things, by what was read of them
+--     tokens_in, tokens_end                 what stands at a place; nothing stands at the end
+--     number_got, number_off, number_short  one number at a place: it passes, it does not, there is none
+--     then_got, then_stop                   one thing and then another, by what the first says
+--     Reads, reads_snoc                     things read one after another, with a state that each moves on
+--     all_done, all_stop                    so many things, by what was read of them
 -- Assumes nothing.
 use Rattle.std.specs.Prelude.{ℕ, zero, suc, ◌+◌, ◌<◌, ◌≡◌, Bool, true, false, List, [], ◌∷◌, ◌++◌, length, get_or}
 use Rattle.std.proofs.Common.{arith, add-one, drop-cons}
@@ -13,7 +13,7 @@ use Rattle.table.specs.Tokens.{Tokens, token, ended, list_tokens, tokens_at}
 use Rattle.table.specs.Parser.{Result, got, refused, Parser, number, pure, next, and_then, times}
 use Rattle.table.specs.Parser.Laws.{then_in}
 
--- ---- tokensAt
+-- ---- tokens_at
 
 pub tokens_in : (l : List ℕ) (i : ℕ) → i < length l → tokens_at l i ≡ token (get_or l i 0) i (tokens_at l (i + 1))
 unfolding tokens_at list_tokens

@@ -1,6 +1,6 @@
 -- No number breaks a rule on references exactly where the rules hold (01, "References").
 --     CallOk, Linked, BodyLinked            the rules, of a call, a term and a body
---     in-out, in-in, from_out, from_in      `wrong_in` and `wrong_from` find nothing
+--     in_out, in_in, from_out, from_in      `wrong_in` and `wrong_from` find nothing
 -- Assumes nothing.
 use Prim.Native.Nat.{ℕ, zero, suc, ◌+◌, ◌≤◌, ◌<◌}
 use Rattle.std.proofs.Common.{arith, ⊎_elim, le→leb, lt→ltb}

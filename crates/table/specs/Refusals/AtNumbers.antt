@@ -1,7 +1,7 @@
 -- A number list is refused with 3 or 5 exactly on that refusal's condition, and so with any number
 -- (01, "When the monitor declines": "Each is given exactly on its condition").
---     open-cut, cut-open           a beginning of a table ends early, and nothing else does
---     refused-out, refused-in      all refusals of a number list
+--     open_cut, cut_open           a beginning of a table ends early, and nothing else does
+--     refused_out, refused_in      all refusals of a number list
 -- Assumes nothing.
 use Rattle.std.specs.Prelude.{ℕ, suc, ◌+◌, ◌≡◌, refl, List, [], ◌∷◌, ◌++◌, length}
 use Rattle.std.proofs.Common.{arith, sym, ap, ◌∙◌, subst, append-nil}

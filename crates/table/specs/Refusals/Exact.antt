@@ -1,7 +1,7 @@
 -- A number list is refused with 2, 6, 7, 8 or 9 exactly on that refusal's condition; what is left is 3 and 5, which the
 -- parser gives (01, "When the monitor declines": "Each is given exactly on its condition").
 --     Declined                     the refusals of a list
---     declined-out, declined-in    `judge_list` gives these and no other
+--     declined_out, declined_in    `judge_list` gives these and no other
 -- Assumes nothing.
 use Rattle.std.specs.Prelude.{ℕ, zero, suc, ◌+◌, ◌<◌, Bool}
 use native.Mathlib.Omega.{arith}

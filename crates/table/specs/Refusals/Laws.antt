@@ -1,6 +1,6 @@
 -- The walks of refusals 7, 8 and 9 find the first test that fails.
---     length-links, length-few                      as many tests as numbers, as terms
---     wrong_first, width-first, branches-first      `first_wrong`, `too_wide`, `too_many_branches`
+--     length_links, length_few                      as many tests as numbers, as terms
+--     wrong_first, width_first, branches_first      `first_wrong`, `too_wide`, `too_many_branches`
 -- Assumes nothing.
 use Prim.Native.Nat.{ℕ, zero, suc, ◌+◌}
 use native.Mathlib.Omega.{arith}
@@ -70,7 +70,7 @@ length_links t =
     let d = length-append s (length t.definitions ∷ flat_map definition_numbers t.definitions) in
     omega arith
 
--- ---- firstWrong (refusal 7)
+-- ---- first_wrong (refusal 7)
 skip : (i : ℕ) (l : List Bool) → first_false i (true ∷ l) ≡ first_false (suc i) l
 unfolding first_false or_else unless
 skip i l = refl
@@ -133,7 +133,7 @@ wrong_first t =
     first_false_append 0 (replicate n true) _
     ∙ ap₂ or_else (trues 0 n) (rw e (from_first t.definitions 0 n t.definitions))
 
--- ---- tooWide (refusal 8)
+-- ---- too_wide (refusal 8)
 width_first' : (i : ℕ) (l : List ℕ) → first_false i (map (λ n. leb n 8) l) ≡ first_above 8 i l
 unfolding first_false first_above
 width_first' i [] = refl
@@ -143,7 +143,7 @@ pub width_first : (t : Table) → first_false 0 (narrow_levels t) ≡ too_wide t
 unfolding narrow_levels too_wide
 width_first t = width_first' 0 (all_widths t.definitions)
 
--- ---- tooManyBranches (refusal 9)
+-- ---- too_many_branches (refusal 9)
 module _ (calls : ℕ → ℕ) where
   pub length_few : (p : Term) → suc (length (few_in calls p)) ≡ size p
   unfolding few_in size

@@ -1,6 +1,6 @@
 -- A body or a prefix's follower above 256 is found: `few_terms` fails at its number. The other way is in `Terms.antt`.
---     follower-in, follower-from, body-from     what is tested at the number of a follower, of a body
---     many-in                                   where there is such a term, `few_terms` fails
+--     follower_in, follower_from, body_from     what is tested at the number of a follower, of a body
+--     many_in                                   where there is such a term, `few_terms` fails
 -- Assumes nothing.
 use Prim.Native.Nat.{ℕ, zero, suc, ◌+◌, ◌-◌, ◌<◌}
 use Rattle.std.proofs.Common.{arith, sym, ◌∙◌}

@@ -1,6 +1,6 @@
 -- Where the grammar stops on a number list: 3 at the list's length, or 5 at a number before which it would be 3,
 -- whatever follows (01, "When the monitor declines": "3 to 5 at each number from the left").
---     places, list-prepend, prepend-list    a number list as numbers with places
+--     places, list_prepend, prepend_list    a number list as numbers with places
 --     Stops, stops                          the two ways, and that there is no other
 -- Assumes nothing.
 use Rattle.std.specs.Prelude.{ℕ, suc, ◌+◌, ◌≡◌, refl, Bool}

@@ -1,6 +1,6 @@
 -- Refusal 9's place is a term number (01, "When the monitor declines": "lowest such term"): the term of that number is
 -- a body or a prefix's follower, above 256.
---     many-at    where `few_terms` fails there is such a term (`ManyAt`)
+--     many_at    where `few_terms` fails there is such a term (`ManyAt`)
 -- Assumes nothing.
 use Prim.Native.Nat.{ℕ, zero, suc, ◌+◌, ◌-◌, ◌<◌}
 use Rattle.std.proofs.Common.{arith, sym, ap, ◌∙◌, get_or-append-add}

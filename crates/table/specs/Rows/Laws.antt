@@ -1,8 +1,8 @@
 -- The laws of the rows' bound.
---     fits_out, fits_in, fits-true    the test says just that so many rows may stand
---     fits-small                      it passes for an alphabet of at most 64 events
---     fits-large, fits-no             for a larger one it passes, or fails, by the number of rows
---     fit-less                        fewer rows fit too
+--     fits_out, fits_in, fits_true    the test says just that so many rows may stand
+--     fits_small                      it passes for an alphabet of at most 64 events
+--     fits_large, fits_no             for a larger one it passes, or fails, by the number of rows
+--     fit_less                        fewer rows fit too
 -- Assumes nothing.
 use Rattle.std.specs.Prelude.{ℕ, ◌<◌, ◌≤◌, ◌≡◌, refl, true, false, T, leb}
 use Rattle.std.proofs.Common.{arith, leb→le, le-leb}

@@ -1,9 +1,9 @@
 -- The rules hold exactly where none of 7, 8 and 9 is met, given the fields.
---     inBodies-imp, inBodies-and                      what holds in all bodies
+--     in_bodies_imp, in_bodies_and                    what holds in all bodies
 --     linked                                          the rules on references together
---     links-out, levels-out, guarded-out              those where 7 is not met
---     rules-in                                        none is met, so the rules hold
---     no-wrong, no-wide-level, no-many-branches       the rules hold, so none is met
+--     links_out, levels_out, guarded_out              those where 7 is not met
+--     rules_in                                        none is met, so the rules hold
+--     no_wrong, no_wide_level, no_many_branches       the rules hold, so none is met
 -- Assumes nothing.
 use Rattle.std.specs.Prelude.{ℕ, ◌≤◌, ◌<◌, ◌≡◌, length, T}
 use Rattle.std.proofs.Math.Option.{none}

@@ -1,6 +1,6 @@
 -- The definition of a term that stands in a table: the term lies within that definition's terms.
---     home-within    from the number of the definition's body on, and up to the next one's
---     home-one       so the number of a term says which definition it is in
+--     home_within    from the number of the definition's body on, and up to the next one's
+--     home_one       so the number of a term says which definition it is in
 -- Assumes nothing.
 use Rattle.std.specs.Prelude.{ℕ, ◌+◌, ◌≤◌, ◌≡◌, List}
 use Rattle.std.proofs.Common.{arith}

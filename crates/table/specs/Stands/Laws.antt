@@ -1,8 +1,8 @@
 -- The laws of `Stands`: it is what `term_at` and `enclosing` compute.
---     renumber, later-stands                    another name for the number; one definition more before
+--     renumber, later_stands                    another name for the number; one definition more before
 --     Numbered, numbered                        the numbers in a term are the table's, from the term's own on
---     at-number, number_at, around-number       `term_at` and `enclosing`
---     number-below, body-number                 the numbers of a table, and of its bodies
+--     at_number, number_at, around_number       `term_at` and `enclosing`
+--     number_below, body_number_lem             the numbers of a table, and of its bodies
 -- Assumes nothing.
 use Rattle.std.specs.Prelude.{ℕ, zero, suc, ◌+◌, ◌-◌, ◌<◌, ◌≤◌, ◌≡◌, List, [], ◌∷◌, length, take}
 use native.Mathlib.Omega.{arith}

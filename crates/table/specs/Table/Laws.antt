@@ -1,10 +1,10 @@
 -- The equations of a table's numbering: the term of a number and the prefixes around it, in a term and over
 -- definitions.
---     size-positive                          a term has a number
---     termIn-here, .., prefixes-here, ..     inside a term, by its kind
---     defs-first, defs-later, none-beyond    the term of a number, over definitions
---     around-first, around-later             the prefixes around it, over definitions
---     body-beyond                            a definition that there is not
+--     size_positive                          a term has a number
+--     term_in_here, .., prefixes_here, ..    inside a term, by its kind
+--     defs_first, defs_later, none_beyond    the term of a number, over definitions
+--     around_first, around_later             the prefixes around it, over definitions
+--     body_beyond                            a definition that there is not
 -- Not here: which term stands where, `Stands.antt`. Assumes nothing.
 use Rattle.std.specs.Prelude.{ℕ, suc, ◌+◌, ◌-◌, ◌≤◌, ◌<◌, ◌≡◌, refl, List, [], ◌∷◌, length}
 use Rattle.std.proofs.Common.{arith, ap, le-ltb, lt-ltb}
@@ -23,7 +23,7 @@ size_positive (choice p q) = omega arith
 size_positive (par r p q) = omega arith
 size_positive (call d) = omega arith
 
--- ---- the equations of termIn
+-- ---- the equations of term_in
 
 pub term_in_here : (p : Term) → term_in p 0 ≡ some p
 unfolding term_in
@@ -78,7 +78,7 @@ term_in_par_right r p q n =
     let l : size p ≤ size p + n = omega arith in
     rw (eqb-suc-zero (size p + n), e, le-ltb _ _ l, term_in) (ap (term_in q) f)
 
--- ---- the equations of prefixesIn
+-- ---- the equations of prefixes_in
 
 pub prefixes_here : (p : Term) (c : ℕ) → prefixes_in p c 0 ≡ c
 unfolding prefixes_in

@@ -1,7 +1,7 @@
 -- Streams that begin with given numbers, at whatever places; and when nothing trails.
 --     Follows ns ts rest          ts is the numbers ns and then rest
---     list-whole, whole-list      a number list that is read to its end
---     bytes_whole, whole-bytes    bytes that are read to their end
+--     list_whole, whole_list      a number list that is read to its end
+--     bytes_whole, whole_bytes    bytes that are read to their end
 -- Assumes nothing.
 use Rattle.std.specs.Prelude.{ℕ, zero, suc, ◌+◌, ◌≤◌, ◌<◌, ◌≡◌, refl, Bool, true, false, cond, List, [], ◌∷◌, ◌++◌, length, eqb}
 use Rattle.std.proofs.Common.{arith, sym, ap, ◌∙◌, subst, length-append, eq-eqb, eqb-true}

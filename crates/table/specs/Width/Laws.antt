@@ -1,5 +1,5 @@
 -- No number of a list is found above a bound exactly where each is at most that; so of the widths of levels and 8.
---     above-out, above_in
+--     above_out, above_in
 -- Assumes nothing.
 use Rattle.std.specs.Prelude.{ℕ, zero, suc, ◌≤◌, ◌≡◌, refl, List, [], ◌∷◌, get_or, leb}
 use Rattle.std.proofs.Common.{arith, leb→le, le→leb}

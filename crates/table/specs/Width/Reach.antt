@@ -1,11 +1,11 @@
 -- A body's reach is at most its level's width, so at most 8 where the rules hold (01, "Hands of a term").
 -- It rests on 01, "References": "under a parallel, of a strictly lower level": an own-level call is never added to
 -- anything.
---     reach-each, reach-linked, reach-body    every term in a body that is not wider than its level; every term in a
+--     reach_each, reach_linked, reach_body    every term in a body that is not wider than its level; every term in a
 --                                             table's body
---     reach-most                every term of every body: at most 8
---     bodies-all                what holds of each body by its number holds of all
---     level-small               levels are at most 7
+--     reach_most                every term of every body: at most 8
+--     bodies_all                what holds of each body by its number holds of all
+--     level_small               levels are at most 7
 -- Assumes nothing.
 use Rattle.std.specs.Prelude.{ℕ, zero, suc, ◌≤◌, ◌<◌, max, ◌≡◌, refl, List, [], ◌∷◌, get_or, T, eqb}
 use native.Mathlib.Omega.{arith}

@@ -1,6 +1,6 @@
 -- Every number of a table that keeps the rules is small enough to be written (01, "Numbers and table": "is at most
 -- 65,535").
---     numbers-small    the law
+--     numbers_small    the law
 -- Assumes nothing.
 use Rattle.std.specs.Prelude.{ℕ, suc, ◌+◌, ◌≤◌, ◌<◌, length}
 use native.Mathlib.Omega.{arith}

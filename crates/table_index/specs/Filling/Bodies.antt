@@ -1,5 +1,5 @@
 -- The branches of the bodies, one after another, then of all terms: the turns of `fill_all_branches`.
---     BodiesSoFar, bodies-first, bodies-asked, bodies-next     a body more
+--     BodiesSoFar, bodies_first, bodies_asked, bodies_next     a body more
 --     all_asked, all_done                                      then all terms
 -- Assumes nothing.
 use Rattle.std.specs.Prelude.{ℕ, suc, ◌+◌, ◌≤◌, ◌<◌, ◌≡◌, refl, List, length, get_or}

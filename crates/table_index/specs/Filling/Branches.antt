@@ -1,6 +1,6 @@
 -- The branches of a term from the stored ones of the terms in it, by kind.
---     branches-one, -fail, -choice, -par, -called            what `branches_at` gives, by kind
---     called-inside, root-inside                             the definition that is called, and its body
+--     branches_one, -fail, -choice, -par, -called            what `branches_at` gives, by kind
+--     called_inside, root_inside                             the definition that is called, and its body
 -- Assumes nothing.
 use Prim.Native.Nat.{ℕ, suc, ◌+◌, ◌*◌, ◌≤◌, ◌<◌, min}
 use Rattle.std.proofs.Common.{arith, ◌∙◌, inl, inr, ⊎_elim}

@@ -1,7 +1,7 @@
 -- The first body or follower with more than 256 branches is the first node that does not pass its test.
---     excess-entry, excess-other       the test, by the node's words
---     excess-first, excess-none        the first node that exceeds; none does
---     excess-broken, excess-nowhere    what `first_excess` answers
+--     excess_entry, excess_other       the test, by the node's words
+--     excess_first, excess_none        the first node that exceeds; none does
+--     excess_broken, excess_nowhere    what `first_excess` answers
 -- Assumes nothing.
 use Prim.Native.Nat.{ℕ, suc, ◌+◌, ◌≤◌, ◌<◌, min}
 use Rattle.std.proofs.Common.{arith, ◌∙◌}

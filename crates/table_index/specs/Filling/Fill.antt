@@ -1,6 +1,6 @@
 -- The branches of terms, stored one after the other from the last: the turns of `fill_branches`.
---     fill-first, fill_done         before the first turn; after the last
---     branches-next, fill-next      what a turn asks of `branches_at`; one term more
+--     fill_first, fill_done         before the first turn; after the last
+--     branches_next, fill_next      what a turn asks of `branches_at`; one term more
 -- The branches of one term are in `Branches.antt`. Assumes nothing.
 use Rattle.std.specs.Prelude.{ℕ, ◌+◌, ◌-◌, ◌≤◌, ◌<◌, ◌≡◌, refl, List, get_or, set}
 use Rattle.std.proofs.Common.{arith, ap, ◌∙◌, subst, get_or-set_same, get_or-set_other}

@@ -1,8 +1,8 @@
 -- What a term's kind says of it.
---     kind-at                                                    the kind of a term, by its word
---     kind-most                                                  a kind is at most 5
---     stop_is, fail-is, prefix-is, choice-is, par-is, call-is    the term of a kind
---     size-some                                                  a term has one term at least
+--     kind_at_lem                                                the kind of a term, by its word
+--     kind_most                                                  a kind is at most 5
+--     stop_is, fail_is, prefix_is, choice_is, par_is, call_is    the term of a kind
+--     size_some                                                  a term has one term at least
 -- Assumes nothing.
 use Rattle.std.specs.Prelude.{ℕ, ◌+◌, ◌≤◌, ◌<◌, ◌≡◌, refl, List, get_or}
 use Rattle.std.proofs.Common.{arith, sym, ◌∙◌}

@@ -1,6 +1,6 @@
 -- Widths of bodies, and of a level: the ways out of `body_width`, the turns of `level_width`.
---     body-asked, root-inside, body_own, body-other                  a body
---     LevelSoFar, level-first, level-asked, level-next, level-done   the bodies of a level, one after another
+--     body_asked, root_inside, body_own, body_other                  a body
+--     LevelSoFar, level_first, level_asked, level_next, level_done   the bodies of a level, one after another
 -- Assumes nothing.
 use Rattle.std.specs.Prelude.{ℕ, suc, ◌+◌, ◌≤◌, ◌<◌, max, ◌≡◌, Bool, true, false, length, eqb}
 use native.Mathlib.Omega.{arith}

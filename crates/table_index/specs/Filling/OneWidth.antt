@@ -1,7 +1,7 @@
 -- The width of a term from the stored widths of the terms in it, by kind.
---     calls-kept, call-own, call-other                     what a call counts, by the stored widths of levels
---     width-leaf, -prefix, -choice, -par, -call, -none     what `width_at` gives, by kind
---     par-small, call-named                                a parallel's sum; the definition that is called
+--     calls_kept, call_own, call_other                     what a call counts, by the stored widths of levels
+--     width_leaf, -prefix, -choice, -par, -call, -none     what `width_at` gives, by kind
+--     par_small, call_named                                a parallel's sum; the definition that is called
 -- Assumes nothing.
 use Prim.Native.Nat.{ℕ, suc, ◌+◌, ◌*◌, ◌≤◌, ◌<◌, max}
 use native.Mathlib.Omega.{arith}

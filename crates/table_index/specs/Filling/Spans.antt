@@ -1,11 +1,11 @@
 -- Where the terms of a definition stand, and what their calls name.
---     end-stored                    the word of the next body
---     structured-set                a term's word with the same structure is stored
---     body-before                   bodies stand in the order of their definitions
---     body-whole, all_whole         the terms of a definition, and all terms, are whole
---     body-inside                   where a body stands, and that no prefix is around it
---     level-most, level-stored      a level is at most 7, and so is its word
---     calls-level, calls-below      the calls of every body, by the rules on references
+--     end_stored                    the word of the next body
+--     structured_set                a term's word with the same structure is stored
+--     body_before                   bodies stand in the order of their definitions
+--     body_whole, all_whole         the terms of a definition, and all terms, are whole
+--     body_inside                   where a body stands, and that no prefix is around it
+--     level_most, level_stored      a level is at most 7, and so is its word
+--     calls_level, calls_below      the calls of every body, by the rules on references
 -- Assumes nothing.
 use Rattle.std.specs.Prelude.{ℕ, zero, suc, ◌+◌, ◌-◌, ◌≤◌, ◌<◌, ◌≡◌, List, length, get_or, set}
 use Rattle.std.proofs.Common.{arith, ap, ◌∙◌, subst, length-set, get_or-set_same, get_or-set_other}

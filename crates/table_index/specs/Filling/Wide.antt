@@ -1,8 +1,8 @@
 -- Widths of the levels, one after another: the turns and the ways out of `first_wide_level`.
---     WideSoFar, wide-first, wide-asked, wide-next     a level more
---     wide-level, wide-none                            a level above 8; none
---     reach-asked, reach-done                          then the reach of all terms
---     wide-broken, wide-nowhere                        what it answers
+--     WideSoFar, wide_first, wide_asked, wide_next     a level more
+--     wide_level, wide_none                            a level above 8; none
+--     reach_asked, reach_done                          then the reach of all terms
+--     wide_broken, wide_nowhere                        what it answers
 -- Assumes nothing.
 use Rattle.std.specs.Prelude.{ℕ, zero, suc, ◌+◌, ◌≤◌, ◌<◌, ◌≡◌, List, [], ◌∷◌, set, eqb}
 use native.Mathlib.Omega.{arith}

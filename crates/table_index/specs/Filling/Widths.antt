@@ -1,7 +1,7 @@
 -- The widths of terms, stored one after the other from the last: the turns of `fill_widths`.
---     widths-first, widths-done     before the first turn; after the last
---     width-next, width_small       what a turn asks of `width_at`; what it gives fits in a word
---     widths-next                   one width more
+--     widths_first, widths_done     before the first turn; after the last
+--     width_next, width_small       what a turn asks of `width_at`; what it gives fits in a word
+--     widths_next                   one width more
 -- The width of one term is in `OneWidth.antt`. Assumes nothing.
 use Rattle.std.specs.Prelude.{ℕ, ◌+◌, ◌-◌, ◌≤◌, ◌<◌, ◌≡◌, refl, List, get_or, set}
 use Rattle.std.proofs.Common.{arith, ap, ◌∙◌, subst, get_or-set_same, get_or-set_other}

@@ -1,10 +1,10 @@
 -- Where each term's kind stands among the numbers, from the terms before it: no word of the index holds a place.
---     headLength                how many numbers a term has before those of the terms in it
---     headsBefore               where the definitions start, and that many numbers for each term before n
---     heads-first, heads-next   no term before; one more
+--     head_length               how many numbers a term has before those of the terms in it
+--     heads_before              where the definitions start, and that many numbers for each term before n
+--     heads_first, heads_next   no term before; one more
 --     place_is                  the place of term n: a level for each definition up to its own stands before it too
---     length-family, -leaf, -choice, -two    headLength, by what a term's word says
---     head-inside               a term's head is within its numbers
+--     length_family, -leaf, -choice, -two    head_length, by what a term's word says
+--     head_inside               a term's head is within its numbers
 -- Assumes nothing.
 use Rattle.std.specs.Prelude.{ℕ, zero, suc, ◌+◌, ◌<◌, ◌≤◌, ◌≡◌, refl, List, [], ◌∷◌, ◌++◌, length, get_or}
 use Rattle.std.proofs.Common.{arith, add-one, sym, subst, length-append}

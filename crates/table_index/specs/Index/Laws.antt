@@ -1,6 +1,6 @@
 -- The digits of a term's word, and what a write elsewhere keeps of the index.
 --     WordDigits, digits       the digits of the word of term n in a structured work area
---     structured-kept          a work area that agrees with a structured one apart from the widths of levels and what
+--     structured_kept          a work area that agrees with a structured one apart from the widths of levels and what
 --                              stands above the structure of terms is structured
 -- Assumes nothing.
 use Rattle.std.specs.Prelude.{ℕ, ◌+◌, ◌*◌, ◌<◌, ◌≤◌, ◌≡◌, List, length, get_or}

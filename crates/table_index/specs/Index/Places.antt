@@ -1,7 +1,7 @@
 -- The places of a table's terms lie within the list that the table is read from.
 --     place_inside     within the table's numbers
---     place-in-list    within a list that begins with a table
---     some-numbers, long-numbers    a term has one number at least, with a parameter three
+--     place_in_list    within a list that begins with a table
+--     some_numbers, long_numbers    a term has one number at least, with a parameter three
 -- Assumes nothing.
 use Rattle.std.specs.Prelude.{ℕ, ◌+◌, ◌<◌, ◌≤◌, ◌≡◌, refl, length}
 use Rattle.std.proofs.Common.{arith, ap, length-append}

@@ -1,10 +1,10 @@
 -- Masks of rows, and the index of the sets as sets are added behind it.
---     mask-snoc, mask-under          one more event in a row; a mask below a power stays below the next
---     first-low .. second-high       the two words of a power of 2
---     first-add, second-add          the two words of a mask with one event more
---     masks-snoc, word_kept, word-last   one more set: the masks, the words before it, its own word
---     indexed-none, indexed-snoc     no sets; one more set, its rows and its word stored
---     indexed-kept                   the sets stay indexed where their words are kept
+--     mask_snoc, mask_under          one more event in a row; a mask below a power stays below the next
+--     first_low .. second_high       the two words of a power of 2
+--     first_add, second_add          the two words of a mask with one event more
+--     masks_snoc, word_kept, word_last   one more set: the masks, the words before it, its own word
+--     indexed_none, indexed_snoc     no sets; one more set, its rows and its word stored
+--     indexed_kept                   the sets stay indexed where their words are kept
 -- Assumes nothing.
 use Rattle.std.specs.Prelude.{ℕ, suc, ◌+◌, ◌*◌, ◌^◌, ◌-◌, ◌<◌, ◌≤◌, ◌≡◌, get_or, set}
 use native.Mathlib.Omega.{arith}

@@ -1,9 +1,9 @@
 -- The judgement of a list that is a whole table within its bounds, by the first broken rule of 7, 8 and 9; and what the
 -- bytes of the list add (01, "When the monitor declines": "6; 7 from the left; 8; 9", and 2 right after 9).
 --     Broken-out, Nowhere-out      what the code's answer says of a first place
---     judged-7, judged-8, judged-9, judged-all     everything but 2
---     listed-long, listed-short                    with 2
---     checked-wrong, checked-taken, checked_refused    and with the work area's length, cleared after a refusal
+--     judged_7, judged_8, judged_9, judged_all     everything but 2
+--     listed_long, listed_short                    with 2
+--     checked_wrong, checked_taken, checked_refused    and with the work area's length, cleared after a refusal
 -- Assumes nothing.
 use Rattle.std.specs.Prelude.{ℕ, zero, suc, ◌+◌, ◌<◌, ◌≤◌, ◌≡◌, length, replicate}
 use Rattle.std.proofs.Common.{arith, sym, ◌∙◌, subst, le-ltb, lt-ltb}

@@ -1,8 +1,8 @@
 -- A term's word with another width or other branches keeps its other digits.
---     structure-fits                       a word without a width is its structure
---     width-structure, width_same          a width stored; so the width is what was stored
---     branches-structure, branches-reach, branches-same    and branches
---     reach-same                           a width below 16 is a reach
+--     structure_fits                       a word without a width is its structure
+--     width_structure, width_same          a width stored; so the width is what was stored
+--     branches_structure, branches_reach, branches_same    and branches
+--     reach_same                           a width below 16 is a reach
 -- Assumes nothing.
 use Rattle.std.specs.Prelude.{ℕ, ◌<◌, ◌≡◌}
 use native.Mathlib.Omega.{arith}

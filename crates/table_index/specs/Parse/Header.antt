@@ -1,8 +1,8 @@
 -- A table's parts, one after another, at their places in a number list: what each says of the whole (01, "Numbers and
 -- table", "When the monitor declines": 3, 5, 6).
---     alphabetOk, setCountOk, bodyCountOk   the bounds of the three counts
+--     alphabet_ok, set_count_ok, body_count_ok  the bounds of the three counts
 --     Header                                      the alphabet and the sets were read, and stand in the work area
---     stop-1 .. stop-5, more_left, whole          the judgement where a part is refused, where input is left over, and
+--     stop_1 .. stop_5, more_left, whole          the judgement where a part is refused, where input is left over, and
 --                                                 the table where all were read
 -- Assumes nothing.
 use Rattle.std.specs.Prelude.{ℕ, ◌+◌, ◌<◌, ◌≤◌, ◌≡◌, Bool, true, false, ◌&&◌, List, [], length, get_or, leb}

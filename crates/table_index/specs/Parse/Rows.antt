@@ -1,6 +1,6 @@
 -- Rows stored one after another.
---     stored_one, stored-two      a row of one word, of two
---     stored-none, stored-snoc    no row; one row more
+--     stored_one, stored_two      a row of one word, of two
+--     stored_none, stored_snoc    no row; one row more
 -- Assumes nothing.
 use Rattle.std.specs.Prelude.{ℕ, ◌+◌, ◌<◌, ◌≤◌, ◌≡◌, List, [], ◌∷◌, ◌++◌, length, get_or, set}
 use Rattle.std.proofs.Common.{arith, sym, ap, ◌∙◌, subst, length-append, length-set, get_or-set_same, get_or-set_other, le-leb}

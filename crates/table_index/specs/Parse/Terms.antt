@@ -1,8 +1,8 @@
 -- What the functions that read a part of a term promise (ours).
 --     TermFoundBy, TermReadBy    as TermFound and TermRead, by any parser, from any place
---     Joint, jointTerm           a term with terms in it, apart from these; with given ones
+--     Joint, joint_term          a term with terms in it, apart from these; with given ones
 --     HeadOf                     a head's digits, and places, are a joint's
---     followerOf, sidesOf        the parsers of the terms in a joint's term
+--     follower_of, sides_of      the parsers of the terms in a joint's term
 --     LeafRead, DefinitionRead   a term without terms in it; a definition
 -- The laws: `Terms/Stored.antt` of what is stored, `Terms/Reference.antt`, `Kind.antt` and `Sides.antt` of reading a
 -- term, `OneDefinition.antt`, `Appended.antt` and `Definitions.antt` of reading definitions. Assumes nothing.

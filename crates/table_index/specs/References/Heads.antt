@@ -1,7 +1,7 @@
 -- Where a term's kind stands, and how many numbers stand before those of the terms in it, as the code finds them.
---     place-known, place_inside    the place, from the heads before the term and the digits of its word; in the list
---     head-family, head-leaf, head-choice, head-two    the length of its head, by the digits of its word
---     head-fits                    the heads up to it are within the list
+--     place_known, place_inside    the place, from the heads before the term and the digits of its word; in the list
+--     head_family, head_leaf, head_choice, head_two    the length of its head, by the digits of its word
+--     head_fits                    the heads up to it are within the list
 -- Assumes nothing.
 use Rattle.std.specs.Prelude.{ℕ, ◌+◌, ◌<◌, ◌≤◌, ◌≡◌, List, length, get_or}
 use Rattle.std.proofs.Common.{arith, sym, ◌∙◌}

@@ -1,7 +1,7 @@
 -- The rules on references by node (01, "References"; ours: the rules of a term by itself, where it stands).
---     wrongHere, wrongAt         the index of the number at which a term by itself breaks a rule
---     first-wrong-in, -none      `first_wrong` is the first such index over the nodes
---     NodeLinked, node-links     what the rules say of the node of each number, where none is broken
+--     wrong_here, wrong_at       the index of the number at which a term by itself breaks a rule
+--     first_wrong_in, -none      `first_wrong` is the first such index over the nodes
+--     NodeLinked, node_links     what the rules say of the node of each number, where none is broken
 -- Assumes nothing.
 use Prim.Native.Nat.{ℕ, zero, suc, ◌+◌, ◌<◌, ◌≤◌}
 use Rattle.std.proofs.Common.{arith, add-one, subst, ◌∙◌, ltb→lt, eq-eqb}

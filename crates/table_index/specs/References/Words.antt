@@ -1,9 +1,9 @@
 -- The rules on references by a term's word and place, as the code tests them.
---     callWordFits                                        whether the call with this word keeps the rules
---     badReference                                        where the term of a number breaks a rule
+--     call_word_fits                                      whether the call with this word keeps the rules
+--     bad_reference                                       where the term of a number breaks a rule
 --     fits-..                                             one law for each way out of its tests
---     call_kept, call-broken, param-kept, param-broken    what the term of a number breaks
---     first-broken, first-nowhere                         what the terms of the table break first
+--     call_kept, call_broken, param_kept, param_broken    what the term of a number breaks
+--     first_broken, first_nowhere                         what the terms of the table break first
 -- Assumes nothing.
 use Prim.Native.Nat.{ℕ, suc, ◌+◌, ◌<◌, ◌≤◌}
 use native.Mathlib.Omega.{arith}

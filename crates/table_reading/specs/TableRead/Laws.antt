@@ -1,7 +1,7 @@
 -- What `read_table` promises, by the ways out of its code; and what it promises its callers.
---     read-unfit, read-wrong, read_count, read-refused     by the lent lengths, the head and Read's answer
---     numbers-front, numbers-few, numbers-lengths          the numbers are the first of the list; the lent lengths
---     said-numbers, said-refused                           by the answer
+--     read_unfit_lem, read_wrong, read_count, read_refused  by the lent lengths, the head and Read's answer
+--     numbers_front, numbers_few, numbers_lengths          the numbers are the first of the list; the lent lengths
+--     said_numbers, said_refused                           by the answer
 -- Assumes nothing.
 use Rattle.std.specs.Prelude.{ℕ, ◌-◌, ◌≤◌, ◌≡◌, true, false, List, length, drop}
 use Rattle.std.proofs.Common.{arith, sym, subst, ◌∙◌, length-append}

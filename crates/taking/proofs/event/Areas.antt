@@ -1,6 +1,6 @@
 -- What a step between two areas leaves in them: `advance`.
---     holding-empty                        the other area is zero
---     advanced-count, advanced-refused     the event is taken; it is refused
+--     holding_empty                        the other area is zero
+--     advanced_count, advanced_refused     the event is taken; it is refused
 -- Assumes nothing.
 use Prim.Native.Nat.{ℕ, ◌*◌}
 use native.Mathlib.Omega.{arith}

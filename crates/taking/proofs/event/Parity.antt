@@ -1,6 +1,6 @@
 -- Which area is present, by the parity of the events taken: `advance_present`.
---     holding-even, holding-odd    the area of that parity holds the residuals, and the other is zero
---     moved-even, moved-odd        the areas after the event
+--     holding_even, holding_odd    the area of that parity holds the residuals, and the other is zero
+--     moved_even, moved_odd        the areas after the event
 -- Assumes nothing.
 use Prim.Native.Nat.{ℕ, ◌/◌, ◌%◌}
 use mathlib.Core.Path.{◌≡◌, refl, ap, ap₂, sym, ◌∙◌}

@@ -1,6 +1,6 @@
 -- The residuals after an event, by the tests in their order: `next_set`.
---     next-unknown, next-full, next-exceeded    refusals 11, 12 and 13
---     next-count                                the residuals have room
+--     next_unknown, next_full, next_exceeded    refusals 11, 12 and 13
+--     next_count                                the residuals have room
 -- Assumes nothing.
 use Prim.Native.Nat.{ℕ, ◌*◌, ◌≤◌, ◌<◌}
 use native.Mathlib.Omega.{arith}

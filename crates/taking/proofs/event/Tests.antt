@@ -1,6 +1,6 @@
 -- One event on a monitor: `take_event`.
 --     taken_refused     refusals 11, 12 and 13
---     taken-went        the event is taken
+--     taken_went        the event is taken
 -- Assumes nothing.
 use Prim.Native.Nat.{ℕ}
 use mathlib.Core.Path.{◌≡◌, ap, sym, ◌∙◌}

@@ -1,10 +1,10 @@
 -- Events one after the other, and one run after another: at place j the fold over the events from place i on is the
 -- fold over those left, from the monitor reached.
---     reached-start, reached-next       a monitor is reached at first, and after an event that is taken
+--     reached_start, reached_next       a monitor is reached at first, and after an event that is taken
 --     reached_then                      one is reached from one that is reached
---     ended-refused, ended-done         what the events come to where one is refused, and after the last
---     ended-then                        the same from a monitor that is reached
---     run-ended, run-left, run-then     a run, by where it comes to; a run from a monitor that is reached
+--     ended_refused, ended_done         what the events come to where one is refused, and after the last
+--     ended_then                        the same from a monitor that is reached
+--     run_ended, run_left, run_then     a run, by where it comes to; a run from a monitor that is reached
 -- Assumes nothing.
 use Rattle.std.specs.Prelude.{ℕ, suc, ◌+◌, ◌<◌, ◌≤◌, ◌≡◌, refl, List, ◌∷◌, length, get_or, drop}
 use Rattle.std.proofs.Common.{add-one, ◌∙◌, drop_of_length-le, drop-cons}

@@ -1,9 +1,9 @@
 -- `changes` says of a good timetable whether the table in force changes, over every minute between two.
---     begins-out, begins-in        a window begins within some minutes exactly where one holds a minute within them
+--     begins_out, begins_in        a window begins within some minutes exactly where one holds a minute within them
 --     others                       the windows of the table that is not in force
---     changed-between              between two minutes that differ there is one that differs from the one before it
---     changes-out, changes-in      the two halves of claim ChangesExactly;  unchanged-same: no change
---     week-out, week-in            the two halves of claim WeekOrMore
+--     changed_between              between two minutes that differ there is one that differs from the one before it
+--     changes_out, changes_in      the two halves of claim ChangesExactly;  unchanged_same: no change
+--     week_out, week_in            the two halves of claim WeekOrMore
 -- Assumes nothing.
 use Rattle.std.specs.Prelude.{ℕ, zero, suc, ◌+◌, ◌-◌, ◌%◌, ◌≤◌, ◌<◌, ◌≡◌, refl, List, [], ◌∷◌, ◌≢◌, ◌⊎◌, ltb, leb}
 use Rattle.std.proofs.Common.{arith, mod-lt, sym, ap, ◌∙◌, inl, inr, ltb→lt, leb→le, lt→ltb, le→leb}

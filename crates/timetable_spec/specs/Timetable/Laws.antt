@@ -1,8 +1,8 @@
 -- Minutes of the week, and the windows that a timetable leaves free.
 --     distance_some, -week, -reaches, -near            how far a minute of the week is from an absolute minute
---     not-before                                       no window of a good list holds a minute before all of them
---     gaps-hold                                        a gap holds a minute exactly where no window does
---     Fits, good-fits, gaps-fit                        no window ends after the week
+--     not_before                                       no window of a good list holds a minute before all of them
+--     gaps_hold                                        a gap holds a minute exactly where no window does
+--     Fits, good_fits, gaps_fit                        no window ends after the week
 -- Assumes nothing.
 use Rattle.std.specs.Prelude.{ℕ, ◌+◌, ◌-◌, ◌%◌, ◌≤◌, ◌<◌, ◌≡◌, Bool, not, ◌&&◌, ◌||◌, List, [], ◌∷◌, T, ltb, leb}
 use Rattle.std.proofs.Common.{arith, ◌∙◌, ltb→lt, leb→le}
@@ -66,7 +66,7 @@ good_pair floor a b w h =
     let z = both (ltb a b) (leb b week) y.1 in
     record { above = leb→le _ _ y.0; some = ltb→lt _ _ z.0; within = leb→le _ _ z.1; rest = x.1 }
 
--- ---- washAt, by cases
+-- ---- wash_at, by cases
 module _ (a b m : ℕ) (w : List ℕ) where
   pub wash_before : m < a → wash_at (a ∷ b ∷ w) m ≡ wash_at w m
   unfolding wash_at some_window holds

@@ -1,8 +1,8 @@
 -- One pass over the windows of a list: what stands at a position, and what each definition says of the rest.
---     drop-pair, drop-short                  two numbers more, and none
---     good-next, good-bad, good-done         goodFrom, at a position
---     some_next, some-found, some-done       someWindow;  some-not, some_is, some-last: by cases
---     gap-next, gap-found, gap-done          someWindow of the gaps
+--     drop_pair, drop_short                  two numbers more, and none
+--     good_next, good_bad, good_done         good_from, at a position
+--     some_next, some_found, some_done       some_window;  some_not, some_is, some_last: by cases
+--     gap_next, gap_found, gap_done          some_window of the gaps
 -- Assumes nothing.
 use Rattle.std.specs.Prelude.{ℕ, suc, ◌+◌, ◌≤◌, ◌<◌, ◌≡◌, Bool, true, ◌&&◌, ◌||◌, List, [], ◌∷◌, ◌⊎◌, drop}
 use Rattle.std.proofs.Common.{arith, ◌∙◌, inl, inr, drop_of_length-le, drop-cons, eq-eqb, ne_eqb}
@@ -35,7 +35,7 @@ module _ (w : List ℕ) (i : ℕ) where
           inr (k, drop-cons w i 0 k ∙ ap (λ (l : List ℕ). get_or w i 0 ∷ l) e)
       by (no k) = inl (omega arith)
 
--- ---- goodFrom
+-- ---- good_from
 module _ (w : List ℕ) (floor i : ℕ) where
   module _ (h : i + 1 < length w) where
     pub good_next : good_window floor (get_or w i 0) (get_or w (i + 1) 0) ≡ true
@@ -62,7 +62,7 @@ module _ (w : List ℕ) (floor i : ℕ) where
           let x = l.0 in
           ap (good_from floor) l.1 ∙ sym (ne_eqb i (length w) (λ e. omega arith))
 
--- ---- someWindow
+-- ---- some_window
 module _ (t : ℕ → ℕ → Bool) where
   pub some_not : (a b : ℕ) (w : List ℕ) → t a b ≡ false → some_window t (a ∷ b ∷ w) ≡ some_window t w
   unfolding some_window
@@ -93,7 +93,7 @@ module _ (t : ℕ → ℕ → Bool) where
         by (inl l) = ap (some_window t) (drop_of_length-le w l)
         by (inr l) = ap (some_window t) l.1
 
--- ---- someWindow of the gaps, from the end of the window before
+-- ---- some_window of the gaps, from the end of the window before
 module _ (t : ℕ → ℕ → Bool) (w : List ℕ) (end i : ℕ) where
   module _ (h : i + 1 < length w) where
     pub gap_next : t end (get_or w i 0) ≡ false

@@ -1,8 +1,8 @@
 -- A list that is judged good is a timetable by its conditions, and no other is.
 --     From                      the windows of a list, none before a minute
---     good-from-out, good-out   from the judgement to the conditions
---     good-from-in, good-in     and back
---     held_out, held_in         washAt, by windows
+--     good_from_out, good_out   from the judgement to the conditions
+--     good_from_in, good_in     and back
+--     held_out, held_in         wash_at, by windows
 -- Assumes nothing.
 use Rattle.std.specs.Prelude.{ℕ, ◌≤◌, ◌<◌, refl, ◌⊎◌, List, [], ◌∷◌, T, ltb, leb}
 use Rattle.std.proofs.Common.{arith, sym, ap, subst, inl, inr, ltb→lt, leb→le, lt→ltb, le→leb}

@@ -1,9 +1,9 @@
 -- What the functions on the front of an input promise, by the ways out of their code; and what the front's promise
 -- says of the trace.
---     settled-tracing, settled-starts, settled-exceeds     of a list that is indexed
---     list-enters, list-declined                           of a list
---     front-numbers, front-declined                        of an input, by the table that was read
---     front-reached, front-trace, front-refused            the trace of an input that has no event yet
+--     settled_tracing, settled_starts, settled_exceeds     of a list that is indexed
+--     list_enters, list_declined                           of a list
+--     front_numbers, front_declined                        of an input, by the table that was read
+--     front_reached, front_trace, front_refused            the trace of an input that has no event yet
 -- Assumes nothing.
 use Rattle.std.specs.Prelude.{ℕ, ◌-◌, ◌≤◌, ◌<◌, true, ◌&&◌, length, take, drop}
 use native.Mathlib.Omega.{arith}

@@ -1,7 +1,7 @@
 -- A front that is being read.
---     held_none, held-room     no bytes; what it needs has room
+--     held_none, held_room     no bytes; what it needs has room
 --     held_more, held_kept     some bytes more behind those that stand, no more than it needs; none
---     read-long, read_none, read_short, read-room, read_some, read_more
+--     read_long, read_none, read_short, read_room, read_some, read_more
 --                              what a read into the part of the buffer behind it leaves
 -- Assumes nothing.
 use Rattle.std.specs.Prelude.{ℕ, ◌+◌, ◌-◌, ◌≤◌, ◌<◌, ◌≡◌, List, ◌++◌, length, take, drop}

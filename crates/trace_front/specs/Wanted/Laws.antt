@@ -1,9 +1,9 @@
 -- What a front needs.
---     missing-over, missing-some, missing-none            what is missing of a table, by its length
---     wanted-value, wanted-truncated, wanted-malformed    by what is read at its start
---     wanted-decided                                      a front that needs nothing is decided
---     wanted-cut                                          one that needs more is cut short
---     fronts-first, fronts-more                           no bytes; no more than it needs
+--     missing_over, missing_some, missing_none            what is missing of a table, by its length
+--     wanted_value, wanted_truncated, wanted_malformed    by what is read at its start
+--     wanted_decided                                      a front that needs nothing is decided
+--     wanted_cut                                          one that needs more is cut short
+--     fronts_first, fronts_more                           no bytes; no more than it needs
 -- Assumes nothing.
 use Rattle.std.specs.Prelude.{ℕ, ◌+◌, ◌-◌, ◌≤◌, ◌<◌, ◌≡◌, refl, List, [], ◌∷◌, ◌++◌, length, take, drop}
 use Rattle.std.proofs.Common.{arith, subst, ◌∙◌, append-nil, length-append, length-drop, lt-ltb, le-ltb}

@@ -1,5 +1,5 @@
 -- Bytes that end within a number.
---     truncated-last     where a byte more ends the number, nothing is left
+--     truncated_last     where a byte more ends the number, nothing is left
 -- Assumes nothing.
 use Rattle.std.specs.Prelude.{ℕ, zero, suc, ◌-◌, ◌≡◌, refl, Bool, true, false, cond, List, [], ◌∷◌, ◌++◌, ltb, leb, eqb}
 use Rattle.std.proofs.Common.{arith, subst}

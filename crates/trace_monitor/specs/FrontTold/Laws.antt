@@ -1,6 +1,6 @@
 -- What is told, by what was read of the front.
---     whole-held, ended_held                  what was read of it
---     told-whole, told-ended, told-broken     `told_by`
+--     whole_held, ended_held                  what was read of it
+--     told_whole, told_ended, told_broken     `told_by`
 -- Assumes nothing.
 use Rattle.std.specs.Prelude.{ℕ, ◌<◌, ◌≡◌, refl, List}
 use Rattle.std.proofs.Common.{ap, sym}

@@ -1,8 +1,8 @@
 -- The line that was said last, by how the input came to its end.
---     last-said          the last line of a trace says what `line_monitor` prints
---     ended-said         the input ended
---     refused-said       a refusal was said
---     cut-short-said     the input ended within its front
+--     last_said          the last line of a trace says what `line_monitor` prints
+--     ended_said         the input ended
+--     refused_said       a refusal was said
+--     cut_short_said     the input ended within its front
 -- Assumes nothing.
 use Rattle.std.specs.Prelude.{ℕ, ◌≡◌, refl}
 use Rattle.std.proofs.Common.{arith, sym, ◌∙◌, length-append}

@@ -1,9 +1,9 @@
 -- An input in reads has the lines of the whole.
 --     read_more, after_more     two reads are one
---     reached-went, trace-went, trace-stops, reached-stops     one event more, on what stands
---     trace-more, reached-more  an input that goes on;  ended-stands: where it ended
---     reads-join                all reads
---     reached-last              the last line reports the monitor that stands
+--     reached_went, trace_went, trace_stops, reached_stops     one event more, on what stands
+--     trace_more, reached_more  an input that goes on;  ended_stands: where it ended
+--     reads_join                all reads
+--     reached_last              the last line reports the monitor that stands
 -- Assumes nothing.
 use Rattle.std.specs.Prelude.{ℕ, ◌≡◌, ◌⊎◌}
 use Rattle.std.proofs.Common.{arith, sym, subst, ◌∙◌, inl, inr}

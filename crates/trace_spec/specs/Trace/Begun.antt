@@ -1,8 +1,8 @@
 -- What stands before the first event, by the input.
---     read-list                the table of a list that Read gave
---     BeginWay                 the ways of a beginning;  begin-ways: which of them it is
---     list-exceeds, list-opens     of a list that is accepted
---     begins-in, begins-out    where there is a monitor
+--     read_list                the table of a list that Read gave
+--     BeginWay                 the ways of a beginning;  begin_ways: which of them it is
+--     list_exceeds, list_opens     of a list that is accepted
+--     begins_in, begins_out    where there is a monitor
 -- Assumes nothing.
 use Rattle.std.specs.Prelude.{ℕ, ◌≤◌, ◌<◌, ◌≡◌, Bool, ◌&&◌, length}
 use Rattle.std.proofs.Common.{arith, sym, ◌∙◌}

@@ -1,7 +1,7 @@
 -- The last line of a trace says what `line_monitor` prints of the input.
---     last-same      a list has one last line
+--     last_same      a list has one last line
 --     Ends           a list of lines by its last
---     events-last    of events, from a monitor on;  last_line: of an input
+--     events_last    of events, from a monitor on;  last_line: of an input
 -- Assumes nothing.
 use Rattle.std.specs.Prelude.{ℕ, suc, ◌≤◌, ◌<◌, ◌≡◌}
 use Rattle.std.proofs.Common.{arith, ◌∙◌}

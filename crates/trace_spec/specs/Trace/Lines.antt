@@ -1,7 +1,7 @@
 -- The lines of events, from a monitor on.
---     lines-went, lines-stops     of one event that is taken, or refused
---     OnlyLast, lines-last        a refusal is the last line
---     LinesTo, lines-to           where events are taken, a line for each, and the last reports the monitor then
+--     lines_went, lines_stops     of one event that is taken, or refused
+--     OnlyLast, lines_last        a refusal is the last line
+--     LinesTo, lines_to           where events are taken, a line for each, and the last reports the monitor then
 --     Each, each                  a line for each event that is taken, and then a refusal or none
 -- Assumes nothing.
 use Rattle.std.specs.Prelude.{ℕ, suc, ◌+◌, ◌≡◌, refl, List, [], ◌∷◌, ◌++◌, length}

@@ -1,7 +1,7 @@
 -- The events of two words are those whose bits are set, ascending.
---     from-set, from-clear     one event more, by its bit
---     from-exact               of one word
---     in-exact                 of both;  in-ascending: their order
+--     from_set, from_clear     one event more, by its bit
+--     from_exact               of one word
+--     in_exact                 of both;  in_ascending: their order
 -- Assumes nothing.
 use Rattle.std.specs.Prelude.{ℕ, zero, suc, ◌+◌, ◌-◌, ◌/◌, ◌%◌, ◌^◌, ◌≤◌, ◌<◌, ◌≡◌, true, List, [], ◌∷◌, ◌++◌, ◌⊎◌, ◌↔◌}
 use Rattle.std.proofs.Common.{arith, div-one, ap, sym, subst, ◌∙◌, inl, inr, ⊎_elim, eq-eqb, ne_eqb}

@@ -1,6 +1,6 @@
 -- A line at the start, one for each event taken, and a refusal or nothing.
---     trace-ways      which of the ways of a trace it is
---     refusal-last    nothing follows a refusal in a trace;  refusal-stands: nor whatever else comes
+--     trace_ways      which of the ways of a trace it is
+--     refusal_last    nothing follows a refusal in a trace;  refusal_stands: nor whatever else comes
 -- Assumes nothing.
 use Rattle.std.specs.Prelude.{ℕ, ◌+◌}
 use native.Mathlib.Omega.{arith}

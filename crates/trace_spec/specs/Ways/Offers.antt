@@ -1,7 +1,7 @@
 -- Each line has the record that Open gives of the events so far, and Offer's words of it.
---     offer-after     what Offer answers of the monitor that a list of events calls for
+--     offer_after     what Offer answers of the monitor that a list of events calls for
 --     shown           the events before a line, from a monitor on
---     lines-offer     of an input
+--     lines_offer     of an input
 -- Assumes nothing.
 use Prim.Native.Nat.{ℕ, suc, ◌≤◌}
 use Rattle.std.proofs.Common.{arith, sym, subst, ◌∙◌}

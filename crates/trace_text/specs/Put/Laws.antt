@@ -1,9 +1,9 @@
 -- Parts put into a buffer.
---     put_first, put_next, put-done     the loop of `put`
---     put_then, put-number              one part and then another; a space and then digits
---     event-set, event-clear            an event, by its bit
---     Putting, first-event, next-event, last-event    the loop of `put_events`
---     put_all, put-none                 all of a text, or nothing
+--     put_first, put_next, put_done     the loop of `put`
+--     put_then, put_number_lem          one part and then another; a space and then digits
+--     event_set, event_clear            an event, by its bit
+--     Putting, first_event, next_event, last_event    the loop of `put_events`
+--     put_all, put_none                 all of a text, or nothing
 -- Assumes nothing.
 use Rattle.std.specs.Prelude.{ℕ, suc, ◌+◌, ◌-◌, ◌*◌, ◌/◌, ◌%◌, ◌≤◌, ◌<◌, ◌≡◌, refl, length, get_or, set, take}
 use native.Mathlib.Omega.{arith}

@@ -1,7 +1,7 @@
 -- The text of a line.
---     text-set, text-clear       the text of one event, by its bit
---     events-next                of the events from one on: that one, and then the rest
---     events-both                of both words
+--     text_set, text_clear       the text of one event, by its bit
+--     events_next                of the events from one on: that one, and then the rest
+--     events_both                of both words
 -- Assumes nothing.
 use Rattle.std.specs.Prelude.{ℕ, suc, ◌/◌, ◌%◌, ◌≡◌, refl, List, [], ◌∷◌, ◌++◌}
 use Rattle.std.proofs.Math.Decide.{ℕ_discrete}

@@ -1,8 +1,8 @@
 -- What stands between calls serves the next event, and is the trace of what was read.
---     tracing-stands, tracing-measured, tracing-consistent     what `take_event` and `offered` ask for
---     tracing-next                     it stands after an event that is taken
---     traced-went, traced-stopped      the promise of `trace_event`, by its ways
---     reached-next, trace-next         one line more is the trace's;  trace-stop: a refusal is its last
+--     tracing_stands, tracing_measured, tracing_consistent     what `take_event` and `offered` ask for
+--     tracing_next                     it stands after an event that is taken
+--     traced_went, traced_stopped      the promise of `trace_event`, by its ways
+--     reached_next, trace_next         one line more is the trace's;  trace_stop: a refusal is its last
 -- Assumes nothing.
 use Rattle.std.specs.Prelude.{ℕ, ◌≡◌, refl, true, List, [], ◌∷◌, ◌++◌, length}
 use Rattle.std.proofs.Common.{ap, sym, ◌∙◌}

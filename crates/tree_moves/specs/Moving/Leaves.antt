@@ -1,7 +1,7 @@
 -- One leaf that moves: one law per way out of `step_leaf`.
---     leaf-known, leaf-resolves, leaf-rebuilds     what it asks of others
---     leafLeft, leaf_first, leaf-next, leaf-exceeded, leaf-end     its loop
---     leaf-whole, leaf-back                        the whole result; the slot as it was
+--     leaf_known, leaf_resolves, leaf_rebuilds     what it asks of others
+--     leaf_left, leaf_first, leaf_next, leaf_exceeded, leaf_end    its loop
+--     leaf_whole, leaf_back                        the whole result; the slot as it was
 -- Assumes nothing.
 use Rattle.std.specs.Prelude.{ℕ, suc, ◌+◌, ◌-◌, ◌*◌, ◌/◌, ◌<◌, ◌≤◌, ◌≡◌, List, [], ◌∷◌, ◌++◌, map, get_or, drop}
 use Rattle.std.proofs.Common.{arith, add-one, ap, ◌∙◌, drop_of_length-le, drop-cons, eq-eqb}

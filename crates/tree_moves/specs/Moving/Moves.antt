@@ -1,7 +1,7 @@
 -- The leaves that move, one after the other: one law per way out of `step_moves`, and per turn of its loop.
---     MovesLeft, moves-first               what holds at a node; the first
---     left-leaf, left-cleared, left-exceeded     a leaf that moves: its step, and what is left when it has been stepped
---     left-room, left-pushed, left-carries, left-carried     a node that does not: pushed, or carried where marked
+--     MovesLeft, moves_first               what holds at a node; the first
+--     left_leaf, left_cleared, left_exceeded     a leaf that moves: its step, and what is left when it has been stepped
+--     left_room, left_pushed, left_carries, left_carried     a node that does not: pushed, or carried where marked
 --     left_end                             no leaf is left
 -- Assumes nothing.
 use Rattle.std.specs.Prelude.{ℕ, suc, ◌+◌, ◌-◌, ◌*◌, ◌/◌, ◌%◌, ◌<◌, ◌≤◌, ◌≡◌, refl, List, ◌∷◌, ◌++◌, length, get_or}

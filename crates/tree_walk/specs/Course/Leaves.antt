@@ -1,8 +1,8 @@
 -- A leaf that takes the event: one law per way out of `walk_leaf`, where the modes are rest * 2 + 1.
---     leaf-start, leaf-end, leaf-few     its loop begins and ends
---     go-resolves, go-place              a result, and the place after it
---     go-back                            its nodes are popped again
---     go-next, go-exceeded               what is left after that
+--     leaf_start, leaf_end, leaf_few     its loop begins and ends
+--     go_resolves, go_place              a result, and the place after it
+--     go_back                            its nodes are popped again
+--     go_next, go_exceeded               what is left after that
 -- Assumes nothing.
 use Rattle.std.specs.Prelude.{ℕ, ◌+◌, ◌-◌, ◌*◌, ◌<◌, ◌≤◌, ◌≡◌, refl, Bool, true, false, length, drop, eqb}
 use Rattle.std.proofs.Common.{arith, add-one, ◌∙◌, drop_of_length-le, drop-cons, eqb-true}

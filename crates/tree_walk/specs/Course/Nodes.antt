@@ -1,5 +1,5 @@
 -- The node words in a store.
---     nodes-none, nodes-cons, nodes-skip     from a node on: none, the next one, those after some
+--     nodes_none, nodes_cons, nodes_skip     from a node on: none, the next one, those after some
 -- Assumes nothing.
 use Rattle.std.specs.Prelude.{ℕ, suc, ◌+◌, ◌-◌, ◌<◌, ◌≤◌, ◌≡◌, List, [], ◌∷◌, ◌++◌, length, get_or}
 use Rattle.std.proofs.Common.{arith, sym, ◌∙◌}

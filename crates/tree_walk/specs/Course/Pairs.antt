@@ -1,8 +1,8 @@
 -- A pair that is to take the event: one law per way out of `walk_pair`, where the modes are rest * 2 + 1.
 --     pair_stuck                             it cannot
 --     pair_place                             it can: the place after its node
---     pair-both                              both sides take the event
---     pair_then, pair-room, pair-exceeded    one after the other
+--     pair_both                              both sides take the event
+--     pair_then, pair_room, pair_exceeded    one after the other
 -- Assumes nothing.
 use Rattle.std.specs.Prelude.{ℕ, ◌+◌, ◌*◌, ◌/◌, ◌≤◌, ◌≡◌, true, false, length, get_or}
 use native.Mathlib.Omega.{arith}

@@ -1,9 +1,9 @@
 -- A place in the walk over one residual, and the next one: one law per way out of `walk`.
---     split, known, pair-here, leaf-here            the node at a place, and the first tree there
---     next_place, next-kept, next-leaf              the next place, and its trees
---     walk_end, walk-kept-pair, walk-kept-leaf      `walk`
+--     split, known, pair_here, leaf_here            the node at a place, and the first tree there
+--     next_place, next_kept, next_leaf              the next place, and its trees
+--     walk_end, walk_kept_pair, walk_kept_leaf      `walk`
 --     kept-..                                       `walk_kept`: a word is pushed, the walk goes on, the word is popped
---     pop-room                                      a place's slot can be popped
+--     pop_room                                      a place's slot can be popped
 -- Assumes nothing.
 use Rattle.std.specs.Prelude.{ℕ, ◌+◌, ◌-◌, ◌*◌, ◌/◌, ◌%◌, ◌<◌, ◌≤◌, max, ◌^◌, ◌≡◌, List, ◌∷◌, map, length, get_or}
 use Rattle.std.proofs.Common.{arith, add-one, pow-suc, ap, ◌∙◌, pow_mono}

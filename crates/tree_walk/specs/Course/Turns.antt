@@ -1,7 +1,7 @@
 -- The first tree at a place, and the place after its first node.
---     PairTurn, LeafTurn, pair_turn, leaf-turn     a pair and a leaf at a place
---     node-known                                   the first node is a known term
---     next-sides                                   the place after a pair's node
+--     PairTurn, LeafTurn, pair_turn, leaf_turn     a pair and a leaf at a place
+--     node_known                                   the first node is a known term
+--     next_sides                                   the place after a pair's node
 -- Assumes nothing.
 use Prim.Native.Nat.{ℕ, suc, ◌+◌, ◌*◌, ◌/◌, ◌%◌}
 use Rattle.std.proofs.Common.{arith, sym, ◌∙◌}

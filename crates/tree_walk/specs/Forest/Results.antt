@@ -1,6 +1,6 @@
 -- The results of a walk over a tree that is kept, and over one that takes the event.
---     results-kept, results-moved     the walk over that tree, and then over the others
---     kept-both, kept_either          afterKept of a pair
+--     results_kept, results_moved     the walk over that tree, and then over the others
+--     kept_both, kept_either          after_kept of a pair
 -- Assumes nothing.
 use Rattle.std.specs.Prelude.{ℕ, ◌+◌, ◌*◌, ◌/◌, ◌≡◌, refl, Bool, List, [], ◌∷◌, ◌++◌, map}
 use native.Mathlib.Omega.{arith}

@@ -1,7 +1,7 @@
 -- Node words, and lists of words that are put together.
---     kind-of-node, holds-of-node, known-node     a node's word
---     nodes-positive                              a residual has words
---     joins-joins, grouped, nodes-pairs, ..       each of the heads before each of the tails
+--     kind_of_node, holds_of_node, known_node     a node's word
+--     nodes_positive                              a residual has words
+--     joins_joins, grouped, nodes_pairs, ..       each of the heads before each of the tails
 -- Assumes nothing.
 use Rattle.std.specs.Prelude.{ℕ, ◌+◌, ◌<◌, ◌≡◌, length}
 use Rattle.std.proofs.Common.{arith, ap, sym, ◌∙◌}

@@ -1,7 +1,7 @@
 -- The results of a leaf, by its kind and its set.
---     results-yes, kept-yes, kept-not-kind, kept-not-held     the residuals after the event, the indices that are kept
---     leaf-length, leaf-below                                 these indices are few, and are of residuals
---     options-length, option-at, option-short                 their words
+--     results_yes, kept_yes, kept_not_kind, kept_not_held     the residuals after the event, the indices that are kept
+--     leaf_length, leaf_below                                 these indices are few, and are of residuals
+--     options_length, option_at, option_short                 their words
 -- Assumes nothing.
 use Rattle.std.specs.Prelude.{ℕ, zero, suc, ◌+◌, ◌<◌, ◌≤◌, ◌≡◌, refl, Bool, true, false, List, [], ◌∷◌, map, length, get_or, eqb}
 use Rattle.std.proofs.Common.{arith, eqb-true}

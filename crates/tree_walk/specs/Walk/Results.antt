@@ -1,6 +1,6 @@
 -- The results of a walk by mode and kind, and slots followed by each result.
---     onto-before, onto-head, onto-append                           slots
---     kept_pair, kept-leaf, both-sides, one_side, moved-leaf        results
+--     onto_before, onto_head, onto_append                           slots
+--     kept_pair, kept_leaf, both_sides, one_side, moved_leaf        results
 -- Assumes nothing.
 use Rattle.std.specs.Prelude.{ℕ, ◌+◌, ◌*◌, ◌/◌, ◌%◌, ◌≡◌, refl, true, false, List, [], ◌∷◌, ◌++◌, map}
 use Rattle.std.proofs.Common.{arith, ap}

@@ -1,9 +1,9 @@
 -- The word of a pair is made of those of its sides.
---     parts_in, below-many, not_none    the word of moves
+--     parts_in, below_many, not_none    the word of moves
 --     both-.., either-..                both sides move
 --     bits_at                           the bits of a pair at its place
---     code-small, code-pair             a way's word is below the bound; the word of a pair
---     marks-one, marks-fit              the marks of a residual and of a pair's sides have sixteen bits
+--     code_small, code_pair             a way's word is below the bound; the word of a pair
+--     marks_one, marks_fit              the marks of a residual and of a pair's sides have sixteen bits
 -- Assumes nothing.
 use Rattle.std.specs.Prelude.{ℕ, suc, ◌+◌, ◌*◌, ◌<◌, ◌≤◌, ◌^◌, ◌≡◌, refl, Bool, true, false, length}
 use Rattle.std.proofs.Common.{arith, add-one, pow-suc, mul_assoc, mul_comm, mul-le-mul_left, mul-le-mul_right, suc-mul, add-mul, sym, ◌∙◌, pow-add, pow_mono, pow_pos, eq-eqb, ne_eqb}

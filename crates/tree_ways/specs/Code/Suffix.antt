@@ -1,6 +1,6 @@
 -- The words of a residual from each node on are those of trees, one after the other.
---     forest-tail, forest-known, none-spelt    such words without the first; the first; where there are none
---     root-inside, whole, node, words-from     the residual's words; the first of those from a node on; they are such
+--     forest_tail, forest_known, none_spelt    such words without the first; the first; where there are none
+--     root_inside, whole, node, words_from     the residual's words; the first of those from a node on; they are such
 -- Assumes nothing.
 use Rattle.std.specs.Prelude.{ℕ, zero, suc, ◌+◌, ◌-◌, ◌<◌, ◌≤◌, ◌≡◌, refl, length, get_or, drop}
 use native.Mathlib.Omega.{arith}

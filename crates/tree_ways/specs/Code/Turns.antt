@@ -1,7 +1,7 @@
 -- The loop of `root_code`, from the last node to the first, and the way that its word says.
---     stacked-kept, stacked-more       a word above those of trees; the word of one tree more
+--     stacked_kept, stacked_more       a word above those of trees; the word of one tree more
 --     codes-..                         the loop, at a node
---     leaf-told, way-told              the word of one leaf; the way that a word says
+--     leaf_told, way_told              the word of one leaf; the way that a word says
 -- Assumes nothing.
 use Prim.Native.Nat.{ℕ, suc, ◌+◌, ◌-◌, ◌*◌, ◌<◌, ◌≤◌, ◌^◌}
 use native.Mathlib.Omega.{arith}

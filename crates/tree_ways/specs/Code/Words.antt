@@ -1,6 +1,6 @@
 -- The word of a leaf, and the way that a word says: one law per way out of `leaf_code` and `decode`.
---     leaf-still, leaf-none, leaf-lone, leaf-several    `leaf_code`
---     decode-still, decode-many, decode-moving          `decode`
+--     leaf_still, leaf_none, leaf_lone, leaf_several    `leaf_code`
+--     decode_still, decode_many, decode_moving          `decode`
 -- Assumes nothing.
 use Rattle.std.specs.Prelude.{ℕ, zero, suc, ◌+◌, ◌*◌, ◌%◌, ◌<◌, ◌≤◌, ◌^◌, ◌≡◌, refl, Bool, true, false, ltb}
 use Rattle.std.proofs.Common.{arith, mod-eq_of_lt, ap, sym, ◌∙◌, pow_mono, lt-ltb, le-ltb}

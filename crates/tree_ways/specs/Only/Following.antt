@@ -1,6 +1,6 @@
 -- What a node comes to, written into a slot.
---     carry-room, carry-keep           one that is kept
---     carry-resolves, carry-moved      a leaf that takes the event: its follower's only residual
+--     carry_room, carry_keep           one that is kept
+--     carry_resolves, carry_moved      a leaf that takes the event: its follower's only residual
 -- Assumes nothing.
 use Rattle.std.specs.Prelude.{ℕ, ◌+◌, ◌%◌, ◌<◌, ◌≡◌, List, get_or}
 use Rattle.std.proofs.Common.{arith, ◌∙◌}

@@ -1,7 +1,7 @@
 -- The residuals after the event, by way; a leaf.
 --     MovedBy, Became                          what a way says of the residuals after the event
---     way-not-kind, way-not-held, way-held     the way of a leaf
---     leaf-became                              what it says
+--     way_not_kind, way_not_held, way_held     the way of a leaf
+--     leaf_became                              what it says
 -- Pairs are in `Pair.antt`. Assumes nothing.
 use Rattle.std.specs.Prelude.{ℕ, zero, suc, ◌+◌, ◌<◌, ◌≡◌, refl, Bool, true, false, length}
 use Rattle.std.proofs.Common.{arith, ap, ap₂, subst, ◌∙◌, eq-eqb, ne_eqb}

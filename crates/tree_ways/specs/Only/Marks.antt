@@ -1,7 +1,7 @@
 -- Marks, and the node words rebuilt by them.
---     grown-kept, grown-moved                     one word
---     rebuilt-none, rebuilt-append, marked-.., movable-..     the words of two trees; where nothing is marked
---     combined, marks-small                       a pair's marks, from those of its sides; a residual's marks
+--     grown_kept, grown_moved                     one word
+--     rebuilt_none, rebuilt_append, marked-.., movable-..     the words of two trees; where nothing is marked
+--     combined, marks_small                       a pair's marks, from those of its sides; a residual's marks
 -- Assumes nothing.
 use Rattle.std.specs.Prelude.{ℕ, zero, suc, ◌+◌, ◌*◌, ◌/◌, ◌%◌, ◌<◌, ◌≤◌, ◌^◌, ◌≡◌, Bool, true, false, length, eqb}
 use native.Mathlib.Omega.{arith}

@@ -1,7 +1,7 @@
 -- The words of the results that moves say.
---     joins-one-right, joins-one-left     each before some words, some words before each
---     tried-none, tried-some              one leaf
---     moved_none, moved-append, moved-node      where no leaf moves; the words of two trees; a node that is kept
+--     joins_one_right, joins_one_left     each before some words, some words before each
+--     tried_none, tried_some              one leaf
+--     moved_none, moved_append, moved_node      where no leaf moves; the words of two trees; a node that is kept
 -- Assumes nothing.
 use Prim.Native.Nat.{ℕ, ◌+◌, ◌*◌, ◌/◌, ◌%◌, ◌<◌, ◌^◌}
 use native.Mathlib.Omega.{arith}

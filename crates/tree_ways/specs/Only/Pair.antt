@@ -1,6 +1,6 @@
 -- The residuals after the event, of a pair, by the ways of its sides; of any residual.
---     moved-pair, rebuilt-pair, build     the words and the moves of a pair
---     pair-became, became                 what the way of a pair, of any residual says
+--     moved_pair, rebuilt_pair, build     the words and the moves of a pair
+--     pair_became, became                 what the way of a pair, of any residual says
 -- Assumes nothing.
 use Rattle.std.specs.Prelude.{ℕ, zero, suc, ◌+◌, ◌*◌, ◌/◌, ◌%◌, ◌<◌, ◌^◌, Bool, length, eqb}
 use native.Mathlib.Omega.{arith}

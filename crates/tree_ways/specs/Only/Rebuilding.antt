@@ -1,7 +1,7 @@
 -- The words of a residual, rebuilt: one law per way out of its functions.
 --     Rebuilding, rebuild-..     the loop of `rebuild`
---     rest-carries, rest-grown   one node
---     rest-fits                  all nodes: they fit the slot
+--     rest_carries, rest_grown   one node
+--     rest_fits                  all nodes: they fit the slot
 -- Assumes nothing.
 use Prim.Native.Nat.{ℕ, suc, ◌+◌, ◌-◌, ◌/◌, ◌%◌, ◌<◌, ◌≤◌}
 use native.Mathlib.Omega.{arith}

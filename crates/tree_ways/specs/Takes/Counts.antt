@@ -1,7 +1,7 @@
 -- How many residuals stand after an event, and whether there are any.
---     leaf-not-kind, leaf-not-held, leaf-held, pair-both, pair-either     how many, of a leaf and of a pair
---     any-product, no-product, any-capped, none_of                        whether a number is above 0
---     leaf-kept, kept-length                                              no more without a leaf's repeats
+--     leaf_not_kind, leaf_not_held, leaf_held, pair_both, pair_either     how many, of a leaf and of a pair
+--     any_product, no_product, any_capped, none_of                        whether a number is above 0
+--     leaf_kept_lem, kept_length                                          no more without a leaf's repeats
 -- Assumes nothing.
 use Rattle.std.specs.Prelude.{ℕ, zero, suc, ◌+◌, ◌*◌, ◌<◌, ◌≤◌, ◌≡◌, refl, Bool, true, false, [], ◌∷◌, length, eqb, ltb}
 use Rattle.std.proofs.Common.{arith, mul-zero, zero-mul, suc-mul, mul-le-mul, ap, sym, ◌∙◌, length-append, lt-ltb, ltb-false}

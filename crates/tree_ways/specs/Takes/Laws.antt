@@ -1,7 +1,7 @@
 -- Whether a residual may take an event: one law per way out of `takes_at`.
---     tree-in, tree-known, tree-left, tree-right     where the words of a tree and of its sides stand
---     leaf-yes, leaf-no                              of a prefix's word, by its set
---     takes-not-kind, takes-prefix, takes-pair       a tree, by the kind of its first node
+--     tree_in, tree_known, tree_left, tree_right     where the words of a tree and of its sides stand
+--     leaf_yes, leaf_no                              of a prefix's word, by its set
+--     takes_not_kind, takes_prefix, takes_pair       a tree, by the kind of its first node
 -- Assumes nothing.
 use Prim.Native.Nat.{ℕ, suc, ◌+◌, ◌<◌}
 use Rattle.std.proofs.Common.{arith, add-one, sym, ◌∙◌, length-drop, drop-cons, drop-drop, drop_at, lt-ltb, ltb-true}

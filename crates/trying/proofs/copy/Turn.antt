@@ -1,6 +1,6 @@
 -- The loop of `copy_words`: before word i both areas begin with the same i words.
---     turn-next     one word more
---     turn-done     after the last they are the same
+--     turn_next     one word more
+--     turn_done     after the last they are the same
 -- Assumes nothing.
 use Prim.Native.Nat.{ℕ, ◌+◌, ◌<◌, ◌≤◌}
 use native.Mathlib.Omega.{arith}

@@ -1,7 +1,7 @@
 -- The outcomes of Try, by the further areas' lengths and by what stands before the events.
---     try-first, try-second      1, for the one and the other
---     try-declined, try-fed      refusals 1 to 10; the events
---     copy-stands, copy-ends     what `take_all` asks for, of the copy, and what it leaves
+--     try_first, try_second      1, for the one and the other
+--     try_declined, try_fed      refusals 1 to 10; the events
+--     copy_stands, copy_ends     what `take_all` asks for, of the copy, and what it leaves
 -- Assumes nothing.
 use Prim.Native.Nat.{ℕ}
 use mathlib.Core.Path.{◌≡◌, ap, sym, ◌∙◌}

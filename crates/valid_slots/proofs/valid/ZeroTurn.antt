@@ -1,6 +1,6 @@
 -- A turn of `all_zero` and of `past_zeros`: whether the words from i on are zero.
---     zero-next, zero-not, zero-done    a word that is zero, and one that is not; no word is left
---     or-none, zero-eight               no bit of two words is set; none of eight
+--     zero_next, zero_not, zero_done    a word that is zero, and one that is not; no word is left
+--     or_none, zero_eight               no bit of two words is set; none of eight
 -- Assumes nothing.
 use Prim.Native.Nat.{ℕ, suc, ◌+◌, ◌≤◌, ◌<◌}
 use native.Mathlib.Omega.{arith}

@@ -1,6 +1,6 @@
 -- A walk over node words keeps the number of the trees that they spell and the sum of their reach, and is lost where
 -- they spell none or a memory does not fit.
---     kept, plantedAll-forest    what is kept of trees; the walk is what is kept of `forest`
+--     kept, planted_all_forest   what is kept of trees; the walk is what is kept of `forest`
 -- Assumes nothing.
 use Prim.Native.Nat.{ℕ, suc, ◌+◌, ◌-◌, ◌≤◌, ◌<◌}
 use native.Mathlib.Omega.{arith}

@@ -1,6 +1,6 @@
 -- A slot is valid exactly when its count is 1 to 15, its other words are zero, and the walk over its node words ends
 -- with one tree whose reach is not too large.
---     slot-empty, slot-large, slot-rest, slot-walk    a slot, by its first word, its last words and the walk
+--     slot_empty, slot_large, slot_rest, slot_walk    a slot, by its first word, its last words and the walk
 -- Assumes nothing.
 use Rattle.std.specs.Prelude.{ℕ, suc, ◌+◌, ◌-◌, ◌≤◌, ◌<◌, ◌≡◌, Bool, ◌&&◌, get_or, take, drop}
 use native.Mathlib.Omega.{arith}

@@ -1,5 +1,5 @@
 -- The words of the trees that node words spell are these words.
---     spelled, one-words    of trees; of one tree
+--     spelled, one_words    of trees; of one tree
 -- Assumes nothing.
 use Rattle.std.specs.Prelude.{ℕ, ◌≡◌}
 use Rattle.std.proofs.Math.Path.{refl, ap, ap₂, sym}

@@ -1,6 +1,6 @@
 -- The clock and the start that is due, by the state.
---     back_none, back_below, back-bound     `clock_back`
---     due-none, due-changes                 `start_due`
+--     back_none, back_below, back_bound     `clock_back`
+--     due_none, due_changes                 `start_due`
 -- Assumes nothing.
 use Prim.Native.Nat.{ℕ, ◌≤◌, ◌<◌}
 use mathlib.Core.Path.{◌≡◌}

@@ -1,7 +1,7 @@
 -- Whether state and areas agree, on the table in force at the last event's minute.
---     agreed-wash, agreed-everyday     `agrees_at`
---     agreed-none, agreed-started      `agrees`: before the first event, and after it
---     agreed-stands                    where they agree, all stands for the events
+--     agreed_wash, agreed_everyday     `agrees_at`
+--     agreed_none, agreed_started      `agrees`: before the first event, and after it
+--     agreed_stands                    where they agree, all stands for the events
 -- Assumes nothing.
 use Prim.Native.Nat.{ℕ}
 use native.Mathlib.Omega.{arith}

@@ -1,8 +1,8 @@
 -- What stands before the first event: `schedule`, `enter_wash`, `enter_timed`.
---     scheduled-bad, scheduled-no, scheduled-yes    16; 10; neither
---     wash-declined, wash-accepted                  the table for wash hours
---     lent-right                                    lent lengths
---     timed-declined, timed-accepted                the everyday table
+--     scheduled_bad, scheduled_no, scheduled_yes    16; 10; neither
+--     wash_declined, wash_accepted                  the table for wash hours
+--     lent_right                                    lent lengths
+--     timed_declined, timed_accepted                the everyday table
 -- Assumes nothing.
 use Prim.Native.Nat.{ℕ}
 use mathlib.Core.Path.{◌≡◌, refl, ap, sym, subst, ◌∙◌}

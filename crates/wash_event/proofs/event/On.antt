@@ -1,6 +1,6 @@
 -- An event on one table: `take_on`.
---     on-first, on-due, on-taken     before the first event; where a start is due; where none is
---     ready-free                     the test of the code says which area is zero
+--     on_first, on_due, on_taken     before the first event; where a start is due; where none is
+--     ready_free                     the test of the code says which area is zero
 -- Assumes nothing.
 use Prim.Native.Nat.{ℕ, ◌%◌}
 use mathlib.Core.Path.{◌≡◌, ◌∙◌}

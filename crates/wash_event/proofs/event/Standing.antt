@@ -1,6 +1,6 @@
 -- What stands before and after an event.
---     standing-free    a monitor that is laid out of residuals has an area of zeros
---     on-standing      what an event leaves is laid out of residuals
+--     standing_free    a monitor that is laid out of residuals has an area of zeros
+--     on_standing      what an event leaves is laid out of residuals
 -- Assumes nothing.
 use Prim.Native.Nat.{ℕ}
 use native.Mathlib.Omega.{arith}

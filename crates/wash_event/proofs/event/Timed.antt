@@ -1,7 +1,7 @@
 -- An event with its minute: `take_timed`.
---     timed-back                  17
---     timed-ready                 what `take_on` asks for, on the table in force
---     timed-taken                 what it leaves
+--     timed_back                  17
+--     timed_ready                 what `take_on` asks for, on the table in force
+--     timed_taken                 what it leaves
 -- Assumes nothing.
 use Prim.Native.Nat.{ℕ, ◌≤◌}
 use native.Mathlib.Omega.{arith}

@@ -1,6 +1,6 @@
 -- An event on a fresh start; one fold over a list's events, on one table.
---     take-exceeded, take-first      an event on a fresh start
---     Runs, runs-first, runs-next    the fold
+--     take_exceeded, take_first      an event on a fresh start
+--     Runs, runs_first, runs_next    the fold
 -- Assumes nothing.
 use Rattle.std.specs.Prelude.{ℕ, ◌≡◌, refl, true, false, List, [], ◌∷◌, ◌++◌, length, ltb}
 use Rattle.std.proofs.Math.Path.{ap}

@@ -1,7 +1,7 @@
 -- A call by what stands before its events, and what the events' end answers.
---     timed-shut, timed-admits                a refusal before the first event; or the events
---     none-given, some-stopped                what an ending answers
---     pairs-back, events-back, minutes-back   events with their minutes, and back
+--     timed_shut, timed_admits                a refusal before the first event; or the events
+--     none_given, some_stopped                what an ending answers
+--     pairs_back, events_back, minutes_back   events with their minutes, and back
 -- Assumes nothing.
 use Rattle.std.specs.Prelude.{ℕ, ◌≡◌, refl, List, [], ◌∷◌, length}
 use Rattle.std.proofs.Common.{arith}

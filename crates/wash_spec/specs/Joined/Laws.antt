@@ -1,8 +1,8 @@
 -- The joined list, by its tests.
---     stretch-snoc         the stretch of a list with one event more
---     held-due, held_on    the events since the start that an event counts from: a start is due, or none
+--     stretch_snoc         the stretch of a list with one event more
+--     held_due, held_on    the events since the start that an event counts from: a start is due, or none
 --     looked, unlooked     the events that a call looks at
---     halts-back, halts-exceeded, halts-room, halts-on    where it stops;  in_order: where not, minutes do not descend
+--     halts_back, halts_exceeded, halts_room, halts_on    where it stops;  in_order: where not, minutes do not descend
 -- Assumes nothing.
 use Rattle.std.specs.Prelude.{ℕ, ◌≤◌, ◌≡◌, refl, Bool, true, false, ◌&&◌, ◌||◌, List, [], ◌∷◌, ◌++◌, length, eqb, ltb}
 use Rattle.std.proofs.Math.Option.{none, some}

@@ -1,6 +1,6 @@
 -- On a consistent monitor one event is taken or refused by the conditions. A list of them is in `Lists.antt`.
---     takes-went, meets-stops, takes-laid    what an event comes to, from its condition
---     Onward, onward-one                     it comes to one of these
+--     takes_went, meets_stops, takes_laid    what an event comes to, from its condition
+--     Onward, onward_one                     it comes to one of these
 -- Assumes nothing.
 use Rattle.std.specs.Prelude.{ℕ, ◌≤◌, ◌≡◌, Bool, true, false, length, T, ltb}
 use Rattle.std.proofs.Math.Path.{refl, ap, subst}

@@ -1,5 +1,5 @@
 -- On a consistent monitor a list of events is taken whole, or up to the first that is refused, by the conditions.
---     runs-ends, stops-ends    a fold, from its conditions
+--     runs_ends, stops_ends    a fold, from its conditions
 --     Passed, passed           it comes to one of these
 -- Assumes nothing.
 use Rattle.std.specs.Prelude.{ℕ, suc, ◌+◌, ◌≡◌, refl, T}

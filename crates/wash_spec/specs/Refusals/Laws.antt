@@ -1,5 +1,5 @@
 -- The conditions of 1, 16 and 10, and the tests that the definitions make of them. Assumes nothing.
---     timed-in, timed-out, untimed-in, untimed-out    lent lengths
+--     timed_in, timed_out, untimed_in, untimed_out    lent lengths
 --     laid_in, laid_out                               the monitor
 use Rattle.std.specs.Prelude.{ℕ, ◌≡◌, refl, Bool, true, false, List, length, eqb}
 use Rattle.std.proofs.Common.{ap, ◌∙◌}

@@ -1,8 +1,8 @@
 -- One event with its minute, by the tests.
---     drawing-regular, drawing-same          the table in force keeps the rules too; without a change it is the same
---     fresh-crowded, fresh-room              an event on a fresh start
---     take_back, take-afresh, take-onward    17; a fresh start; none
---     timed-range                            an event is refused with 11, 12, 13 or 17
+--     drawing_regular, drawing_same          the table in force keeps the rules too; without a change it is the same
+--     fresh_crowded, fresh_room              an event on a fresh start
+--     take_back, take_afresh, take_onward    17; a fresh start; none
+--     timed_range                            an event is refused with 11, 12, 13 or 17
 -- Assumes nothing.
 use Rattle.std.specs.Prelude.{ℕ, ◌≤◌, ◌≡◌, Bool, true, false, List, [], ◌⊎◌, length, T, ltb}
 use Rattle.std.proofs.Common.{arith, sym, subst, ◌∙◌, inl, inr}

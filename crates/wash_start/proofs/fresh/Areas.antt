@@ -1,9 +1,9 @@
 -- Which area the first event of a fresh start is taken into, by which one is zero.
---     measured-first, measured-other       areas of the right lengths: so of each beside itself
---     measured-most                        it has at most 4,096 words
---     other-went, other-stopped            `start_in_other`: area 1 is zero
---     first-went, first-stopped            `start_in_first`: area 0 is
---     free_other, free-first               which is said by a test
+--     measured_first, measured_other       areas of the right lengths: so of each beside itself
+--     measured_most                        it has at most 4,096 words
+--     other_went, other_stopped            `start_in_other`: area 1 is zero
+--     first_went, first_stopped            `start_in_first`: area 0 is
+--     free_other, free_first               which is said by a test
 -- Assumes nothing.
 use Prim.Native.Nat.{ℕ, ◌%◌, ◌≤◌}
 use mathlib.Core.Path.{◌≡◌, ap, ap₂, sym, ◌∙◌}

@@ -1,8 +1,8 @@
 -- The residuals of the last definition in a room, and the first event from there.
---     indexed-again                     a table that was judged is accepted again
---     went-taking                       what a monitor becomes by an event that is taken
---     settled-first, settled-crowded    the promise of `take_settled`, of what `resolve_last` answered and left
---     room-measured                     a part of an array as long as an area
+--     indexed_again                     a table that was judged is accepted again
+--     went_taking                       what a monitor becomes by an event that is taken
+--     settled_first, settled_crowded    the promise of `take_settled`, of what `resolve_last` answered and left
+--     room_measured                     a part of an array as long as an area
 -- Assumes nothing.
 use Prim.Native.Nat.{ℕ, ◌≤◌}
 use native.Mathlib.Omega.{arith}

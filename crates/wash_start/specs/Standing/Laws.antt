@@ -1,6 +1,6 @@
 -- What stands between two events.
---     list-wash, list-everyday     the number list in force;  list-drawing: its table is the drawing in force
---     measured-same                areas of the right lengths have as many slots
+--     list_wash, list_everyday     the number list in force;  list_drawing: its table is the drawing in force
+--     measured_same                areas of the right lengths have as many slots
 -- Assumes nothing.
 use Rattle.std.specs.Prelude.{ℕ, ◌≡◌, true, false, List}
 use Rattle.table_index.specs.Index.{table_in}

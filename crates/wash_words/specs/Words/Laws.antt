@@ -12,7 +12,7 @@ use Rattle.words_spec.specs.Words.Laws.{read_back}
 use Rattle.wash_spec.specs.Timed.{TimedState, not_started, started}
 use Rattle.wash_words.specs.Words.{timed_in, timed_words}
 
--- ---- the equations of timedIn
+-- ---- the equations of timed_in
 
 pub not_started_in : (r : List ℕ) → get_or r 5 0 ≡ 0 → timed_in r ≡ not_started
 unfolding timed_in

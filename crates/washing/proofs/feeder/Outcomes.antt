@@ -1,6 +1,6 @@
 -- A whole call, by what stands before its events: `timed_feed`.
---     fed-declined, fed-given     refused before the first event; the events
---     fed-ready, fed-pairs        what `take_all_timed` asks for
+--     fed_declined, fed_given     refused before the first event; the events
+--     fed_ready, fed_pairs        what `take_all_timed` asks for
 -- Assumes nothing.
 use Prim.Native.Nat.{ℕ}
 use native.Mathlib.Omega.{arith}

@@ -1,10 +1,10 @@
 -- The events one after the other, each with its minute: `take_all_timed`. At event i the fold over all events is the
 -- fold over those left, from the monitor reached.
---     pairs-drop, pairs-cons         the events left, with their minutes
---     measured-kept                  lengths stay right
+--     pairs_drop, pairs_cons         the events left, with their minutes
+--     measured_kept                  lengths stay right
 --     Head                           the invariant
---     head_first, head-next          it holds at first, and after an event that is taken
---     head-stopped, head_done        the outcome where an event is refused, and after the last
+--     head_first, head_next          it holds at first, and after an event that is taken
+--     head_stopped, head_done        the outcome where an event is refused, and after the last
 -- Assumes nothing.
 use Prim.Native.Nat.{ℕ, zero, suc, ◌+◌, ◌<◌, ◌≤◌}
 use native.Mathlib.Omega.{arith}

@@ -1,4 +1,4 @@
--- Each call goes one of its ways: open-call-way, feed-way, try-way, offer-way, view-way, read-way, write-way. Assumes
+-- Each call goes one of its ways: open_call_way, feed_way, try_way, offer_way, view_way, read_way, write_way. Assumes
 -- nothing.
 use Rattle.std.specs.Prelude.{ℕ, zero, suc, ◌%◌, ◌<◌, ◌≡◌, Bool, List, length}
 use Rattle.std.proofs.Common.{arith, sym, ap, ◌∙◌, eqb-true}

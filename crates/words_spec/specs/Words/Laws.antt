@@ -8,7 +8,7 @@ use Rattle.state.specs.Record.{verdict_of, state_of}
 use Rattle.monitor_spec.specs.State.{Verdict, running, failed_at, State}
 use Rattle.words_spec.specs.Words.{verdict_in, state_in, failure_words, words_of}
 
--- ---- the equations of verdictIn
+-- ---- the equations of verdict_in
 
 pub verdict_running : (w p : ℕ) → w ≡ 0 → running ≡ verdict_in w p
 unfolding verdict_in

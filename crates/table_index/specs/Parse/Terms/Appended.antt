@@ -1,8 +1,8 @@
 -- Definitions with one appended: their numbers, terms, levels and where their bodies stand.
---     sizes-snoc                     how many terms they have
---     numbers-snoc, nodes-snoc       how many numbers they are written in; their nodes
---     levels-old, levels-new         the levels of the others, and of the one
---     roots-old                      the terms before the body of another
+--     sizes_snoc                     how many terms they have
+--     numbers_snoc, nodes_snoc       how many numbers they are written in; their nodes
+--     levels_old, levels_new         the levels of the others, and of the one
+--     roots_old                      the terms before the body of another
 -- Assumes nothing.
 use Rattle.std.specs.Prelude.{ℕ, suc, ◌+◌, ◌<◌, ◌≤◌, ◌≡◌, length, take}
 use Rattle.std.proofs.Common.{arith, sym, ap, ◌∙◌, length-append}

@@ -1,7 +1,7 @@
 -- How definitions are read one after another.
 --     Defined                        some definitions, and where reading stands after them
---     defined-first, defined-next, defined-done, defined-stop    the turns of a loop over them
---     defined-ready                  the sets stay where they are
+--     defined_first, defined_next, defined_done, defined_stop    the turns of a loop over them
+--     defined_ready                  the sets stay where they are
 -- Assumes nothing.
 use Rattle.std.specs.Prelude.{ℕ, suc, ◌+◌, ◌-◌, ◌<◌, ◌≤◌, ◌≡◌, length, get_or, take}
 use Rattle.std.proofs.Common.{arith, sym, ap, ◌∙◌, subst, length-append}

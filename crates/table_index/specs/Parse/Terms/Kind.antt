@@ -1,9 +1,9 @@
 -- How a term is read by its kind, and terms without terms in them.
---     read-then, read-then-stop      a parser in two parts, at places of a list
---     term-short, term-deep, term-many, term-unknown    why there is no term
---     term-kind                      a term, from what stands after its kind
---     head-fits, head-word           a term's own word
---     term-stop, term-fail, term-call, call-read, call-short    terms without terms in them
+--     read_then, read_then_stop      a parser in two parts, at places of a list
+--     term_short, term_deep, term_many, term_unknown    why there is no term
+--     term_kind                      a term, from what stands after its kind
+--     head_fits, head_word           a term's own word
+--     term_stop, term_fail, term_call, call_read, call_short    terms without terms in them
 -- Assumes nothing.
 use Prim.Native.Nat.{ℕ, zero, suc, ◌+◌, ◌-◌, ◌<◌, ◌≤◌}
 use native.Mathlib.Omega.{arith}

@@ -1,6 +1,6 @@
 -- How one definition is read.
---     marked, marks-same, marks-ready    its body's number and its level are stored
---     definition-short, definition-high, definition-read    one law for each way out
+--     marked, marks_same, marks_ready    its body's number and its level are stored
+--     definition_short, definition_high, definition_read    one law for each way out
 -- Assumes nothing.
 use Rattle.std.specs.Prelude.{ℕ, ◌+◌, ◌<◌, ◌≤◌, ◌≡◌, refl, List, length, get_or, set}
 use native.Mathlib.Omega.{arith}

@@ -1,9 +1,9 @@
 -- How a set reference is read, one law for each way out of the function that reads it.
---     follows-place                  the place after numbers that were read
---     ref-short, ref-high            there is no number; there is no such set
---     ref-fixed                      a set of kind 0
---     ref-param-short, ref-param-high, ref-family    a set of kind 1, by its parameter
---     ref-place                      the place after a set reference
+--     follows_place                  the place after numbers that were read
+--     ref_short, ref_high            there is no number; there is no such set
+--     ref_fixed                      a set of kind 0
+--     ref_param_short, ref_param_high, ref_family    a set of kind 1, by its parameter
+--     ref_place                      the place after a set reference
 -- Assumes nothing.
 use Rattle.std.specs.Prelude.{ℕ, zero, suc, ◌+◌, ◌/◌, ◌%◌, ◌<◌, ◌≤◌, ◌≡◌, refl, leb}
 use native.Mathlib.Omega.{arith}

@@ -1,8 +1,8 @@
 -- How terms with terms in them are read.
---     follower-read, follower-stop   a prefix, by what its follower gave
---     sides-read, sides-stop         a choice or a parallel, by what its sides gave
---     term-prefix, term-choice, term-par, term-no-ref    a term, from these
---     follower-fits, side-fits, beside-fits, sides-ready    what is asked at the calls
+--     follower_read, follower_stop   a prefix, by what its follower gave
+--     sides_read, sides_stop         a choice or a parallel, by what its sides gave
+--     term_prefix, term_choice, term_par, term_no_ref    a term, from these
+--     follower_fits, side_fits, beside_fits, sides_ready    what is asked at the calls
 -- Assumes nothing.
 use Prim.Native.Nat.{ℕ, suc, ◌+◌, ◌-◌, ◌<◌, ◌≤◌}
 use native.Mathlib.Omega.{arith}

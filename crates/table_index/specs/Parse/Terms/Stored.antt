@@ -1,8 +1,8 @@
 -- Storing nodes one after another: what stands where, and what is kept.
 --     Stored                     the words of nodes, from number n on, and nothing else, were stored
---     stored_one, stored-front, stored-append    one; one before others; some after others
---     stored-in, stored-out      of a term's nodes it is TermStored
---     ready-kept, ready-stored   the sets stay where they are
+--     stored_one, stored_front, stored_append    one; one before others; some after others
+--     stored_in, stored_out      of a term's nodes it is TermStored
+--     ready_kept, ready_stored   the sets stay where they are
 -- Assumes nothing.
 use Rattle.std.specs.Prelude.{ℕ, zero, suc, ◌+◌, ◌-◌, ◌<◌, ◌≤◌, ◌≡◌, List, [], ◌∷◌, ◌++◌, length, get_or}
 use Rattle.std.proofs.Common.{arith, sym, ap, ◌∙◌, length-append, length-set, get_or-append-add, get_or-set_same, get_or-set_other}
