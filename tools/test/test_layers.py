@@ -20,7 +20,9 @@ FILES = {
     "crates/shop/src/lib.rt": "// purse::spare\nmod till;\nuse purse::count;\nuse till::ring;\n",
     "crates/shop/src/till.rt": "pub fn ring() { coins::toss() }\n",
     "crates/shop/specs/Shop.antt": "-- Rattle.till.specs.Till\nuse Rattle.coins.specs.Heap.{Heaped as Full}\n",
-    "crates/shop/proofs/sell/Proof.antt": "use Rattle.std.proofs.Common.{both}\nuse Rattle.purse.specs.Count.{count_of}\n",
+    "crates/shop/proofs/sell/Proof.antt": (
+        "use Rattle.std.proofs.Common.{both}\nuse Rattle.purse.specs.Count.{count_of}\n"
+    ),
     "crates/till/src/main.rt": "use io::print;\n",
 }
 
@@ -49,7 +51,7 @@ FAULTS = {
     "cited and not there": (SHOP, "Rattle.coins.specs", "Rattle.coin.specs", "there is no crate coin"),
     "another crate's proof": (PROOF, "specs.Count.{count_of}", "proofs.count.Goals", "is no definition of purse"),
     "another crate's theorem": (PROOF, "specs.Count", "proofs.Theorems", "purse.proofs.Theorems is no definition of"),
-    "another crate's proof, renamed": (PROOF, "specs.Count.{count_of}", "proofs.Low as low", "is no definition of purse"),
+    "another crate's proof, renamed": (PROOF, "specs.Count.{count_of}", "proofs.Low as low", "is no definition of"),
     "a whole crate": (PROOF, ".specs.Count.{count_of}", "", "Rattle.purse is no definition of purse"),
     "an inner definition": (SHOP, "Heaped as Full", "Heaped, heap", "specs.Heap: heap is inner to layer low"),
     "an inner module": (SHOP, ".{Heaped as Full}", " as heap", "all of it is inner to layer low"),

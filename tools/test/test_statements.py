@@ -11,25 +11,25 @@ check = tool("check-statements")
 PAGE = """\
 # Statements
 
-In crate `coins`, with `countOf`; `tools/weigh` weighs them.
+In crate `coins`, with `count_of`; `tools/weigh` weighs them.
 
 - "A coin is .."
-  - says: `count` is `countOf`,
+  - says: `count` is `count_of`,
     on every input
-  - stated: coins/src/lib: count; coins/specs/Coin: Coin, countOf, heads,
+  - stated: coins/src/lib: count; coins/specs/Coin: Coin, count_of, heads,
     tails
-  - proved: coins/proofs/count
+  - proved: coins/proofs/count; coins/specs/Laws: same; coins/specs/Coin: flips
   - tried: coins/must-fail: count_loses_one; coins_test; tools/weigh; coins/specs/Coin: rows (K1)
 - "twice is the same", and "`heads` or not"
   - says: counting twice
   - stated: coins/Claims: CountTwice, CountsAll; docs/DECISIONS: "A coin, and no more"
-  - proved: coins/Theorems: count-twice, counts-all
+  - proved: coins/Theorems: count_twice, counts_all
 """
 
 LIB = """\
 // Coins.
 pub fn count(a: &[u8]) -> u64
-    ensures { λ r. ⌜ r ≡ countOf a ⌝ }
+    ensures { result ≡ count_of a.now }
 { 0 }
 
 fn inner(a: u64) -> u64
@@ -42,8 +42,8 @@ COIN = """\
 pub data Coin : Type 0 where
   heads tails : Coin
 
-unfoldable pub countOf : List Coin → ℕ
-countOf l = let spare : ℕ = 0 in spare
+unfoldable pub count_of : List Coin → ℕ
+count_of l = let spare : ℕ = 0 in spare
 
 -- "(K1)"
 abbrev pub rows : List Coin
@@ -62,12 +62,15 @@ abbrev pub helper : ℕ
 FILES = {
     "docs/STATEMENTS.md": PAGE,
     "docs/DECISIONS.md": "# Decisions\n\n## A coin, and no more\nSo.\n",
-    "crates.txt": "# the crates\ncoins:\ncoins_test: coins\n",
+    "crates.txt": "# the crates\ncoins:\ncoins_c staticlib: coins\ncoins_test: coins\n",
     "crates/coins/src/lib.rt": LIB,
+    "crates/coins/src/purse.rt": "pub fn toss() {}\npub fn weigh() {}\n",
     "crates/coins/specs/Coin.antt": COIN,
     "crates/coins/specs/Claims.antt": CLAIMS,
-    "crates/coins/proofs/Theorems.antt": "pub count-twice : CountTwice\npub counts-all : CountsAll\nlemma : ℕ\n",
+    "crates/coins/proofs/Theorems.antt": "pub count_twice : CountTwice\npub counts_all : CountsAll\nlemma : ℕ\n",
     "crates/coins/proofs/count/Proof.antt": "",
+    "crates/coins/proofs/Laws.antt": "pub same : ℕ\n",
+    "crates/coins/proofs/Coin.antt": "pub flips : ℕ\n",
     "crates/coins/must-fail/count_loses_one.edit": "",
     "crates/coins_test/stdout": "ok\n",
     "tools/weigh": "",
@@ -81,16 +84,18 @@ ON_PAGE = {
     "a definition": ("tails", "tail", "tail: no such definition"),
     "a definition of a comment": ("tails", "lost", "lost: no such definition"),
     "a definition within another": ("tails", "spare", "spare: no such definition"),
+    "a law that moved": ("Laws: same", "Laws: other", "other: no such definition"),
+    "a law of another file": ("Coin: flips", "Coin: same", "same: no such definition"),
     "a function": ("lib: count;", "lib: counts;", "counts: no such function"),
     "a function without a contract": ("lib: count;", "lib: count, inner;", "inner: it has no ensures"),
     "an edit": ("count_loses_one", "count_loses_two", "count_loses_two: no such edit"),
     "a claim": ("CountTwice,", "CountThrice,", "CountThrice: no such definition"),
-    "a theorem": ("count-twice,", "count-thrice,", "count-thrice: no such definition"),
+    "a theorem": ("count_twice,", "count_thrice,", "count_thrice: no such definition"),
     "a heading": ("no more", "more", "no such heading"),
     "a row": ("(K1)", "(K2)", "has no K2"),
     "a tool": ("coins_test; tools/weigh", "coins_test; tools/weighs", "there is no tools/weighs"),
     "a word in backticks": ("`count` is", "`counted` is", "`counted` is the name of nothing"),
-    "a word of a paragraph": ("with `countOf`", "with `countsOf`", "`countsOf` is the name of nothing"),
+    "a word of a paragraph": ("with `count_of`", "with `counts_of`", "`counts_of` is the name of nothing"),
     "a name without backticks": ("counting twice", "CountTwice", "CountTwice stands without backticks"),
     "a folder without names": ("must-fail: count_loses_one", "must-fail", "must-fail needs names"),
     "a glob": ("count_loses_one", "count_*", "count_*: no such edit"),
@@ -103,7 +108,7 @@ ON_PAGE = {
     "a long line": ("counting twice", "counting " * 20, "over 120"),
     "a table": ("In crate", "| In crate", "not understood: | In crate"),
     "a claim left out": ("CountTwice, CountsAll;", "CountTwice;", "no block states claim CountsAll"),
-    "a claim without its proof": ("count-twice, counts-all", "count-twice", "has its proof, counts-all"),
+    "a claim without its proof": ("count_twice, counts_all", "count_twice", "has its proof, counts_all"),
     "an edit left out": ("coins/must-fail: count_loses_one; ", "", "no block names edit count_loses_one"),
 }
 
@@ -111,18 +116,19 @@ SOURCE, THEOREMS = "crates/coins/src/lib.rt", "crates/coins/proofs/Theorems.antt
 
 # in the tree: the file too
 IN_TREE = {
-    "a file that is gone": ("crates/coins/specs/Coin.antt", None, None, "there is no coins/specs/Coin"),
+    "a file that is gone": ("crates/coins/proofs/Laws.antt", None, None, "there is no coins/specs/Laws"),
     "a new claim": (
         "crates/coins/specs/Claims.antt",
         "abbrev",
         "unfoldable pub More : ℕ →\n    Type 1\nabbrev",
         "no block states claim More",
     ),
-    "a theorem of another claim": (THEOREMS, ": CountsAll", ": CountTwice", "has no `pub counts-all : CountsAll`"),
+    "several exports": (SOURCE, "// Coins.", "pub use purse::{toss, weigh};", "no block states coins/src/purse: weigh"),
+    "a theorem of another claim": (THEOREMS, ": CountsAll", ": CountTwice", "has no `pub counts_all : CountsAll`"),
     "a new theorem": (THEOREMS, "lemma", "pub lemma", "no block names theorem lemma"),
     "a new public function": (SOURCE, "fn inner", "pub fn inner", "no block states coins/src/lib: inner"),
     "a public function that asks": (SOURCE, "    ensures", "    requires { a }\n    ensures", "has a requires"),
-    "an export of another form": (SOURCE, "pub fn", "pub use coins::{a, b};\npub fn", "not understood: pub use"),
+    "an export of another form": (SOURCE, "pub fn", "pub use coins::*;\npub fn", "not understood: pub use"),
 }
 
 
@@ -139,7 +145,7 @@ class SmallTree(unittest.TestCase):
         return told(check, self.root)
 
     def test_right(self):
-        self.assertEqual(self.run_on(FILES), (0, "check-statements: ok, 2 blocks, 12 names\n"))
+        self.assertEqual(self.run_on(FILES), (0, "check-statements: ok, 2 blocks, 14 names\n"))
 
     def test_no_page(self):
         self.assertEqual(self.run_on({"crates.txt": "coins:\n"})[0], 2)

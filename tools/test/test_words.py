@@ -10,7 +10,9 @@ check = tool("check-words")
 NAME = "state/src/lib.rt"
 CODE = """// a / b in a comment
 pub fn half(n: u64) -> u64
-    ensures { λ r. ⌜ r ≡ n / 2 ⌝ }
+    requires small { n / 2 < 2 ^ 8 }
+    ensures { Halved record { half = n / 2;
+        whole = n } }
 {
     n / 2
 }
@@ -30,17 +32,17 @@ class Small(unittest.TestCase):
     def test_not_listed(self):
         found = self.faults(CODE.replace("n / 2\n}", "n % 64\n}"), {})
         self.assertEqual(len(found), 1)
-        self.assertIn(f"crates/{NAME}:5: `n % 64` divides", found[0])
+        self.assertIn(f"crates/{NAME}:7: `n % 64` divides", found[0])
 
     def test_once_more(self):
         found = self.faults(CODE + "pub fn also(n: u64) -> u64 {\n    n / 2\n}\n", {"n / 2": (1, "a number")})
         self.assertEqual(len(found), 1)
-        self.assertIn(f"crates/{NAME}:8: `n / 2` divides", found[0])
+        self.assertIn(f"crates/{NAME}:10: `n / 2` divides", found[0])
 
     def test_new_crate(self):
         with tempfile.TemporaryDirectory() as folder:
             root = Path(folder)
-            write(root, {"crates.txt": "fresh:\n", "crates/fresh/src/lib.rt": CODE})
+            write(root, {"crates.txt": "fresh staticlib:\n", "crates/fresh/src/lib.rt": CODE})
             self.assertEqual(len(list(check.faults(root, {}))), 1)
 
     def test_gone(self):
