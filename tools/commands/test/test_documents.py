@@ -57,7 +57,7 @@ class Documents(unittest.TestCase):
         self.assertEqual(met, set(RUN) | set(GATE), "what no document mentions any more")
         for command, file in GATE.items():
             if command.startswith("tools/check-") or file == "tools/check-cspe":
-                word = "rt check" if command.startswith("rt check") else command
+                word = "tools/build" if command.startswith("tools/build") else command
                 self.assertIn(word, (ROOT / file).read_text(encoding="utf-8"))
             self.assertTrue((ROOT / file).is_file(), file)
         for command in RUN:
@@ -132,6 +132,7 @@ RUN = {
     "tools/cspe step DRAWING": "tools/cspe step table_b </dev/null",
     "tools/cspe explain": "tools/cspe explain table_b",
     "tools/cspe explain packing_line stamp left crack right": "! tools/cspe explain packing_line 0 3 1 4",
+    "rt version": None,
     "tools/try --list": None,
     "python3 tools/drawing": "python3 tools/drawing --help",
     "python3 tools/drawing --help": None,
@@ -148,7 +149,8 @@ RUN = {
 # a command that proves or takes longer, and the file that runs it
 GATE = {
     ".ci/run": ".ci/run",
-    "rt check NAME": "tools/check-cspe",
+    "rt ci": ".ci/run",
+    "tools/build": "tools/check-cspe",
     "tools/build line_monitor": "tools/check-cspe",
     "tools/build lot_sheet": "tools/check-cspe",
     "tools/build trace_monitor": "tools/check-cspe",
