@@ -9,13 +9,13 @@ use borrow.Author.Rules.{rules}
 use Rattle.picking.proofs.picker.pick_area.Statement.{statement}
 use Rattle.picking.proofs.picker.pick_area.Tie as tie
 
-mul_words : tie.Need-overflow-mul-words
+mul_words : tie.Need-overflow_mul-words
 mul_words c = search rules
 
 find-requires : tie.Need-find-requires
 find-requires c κs = search rules
 
-clear-first-requires : tie.Need-clear-first-requires
+clear-first-requires : tie.Need-clear_first-requires
 clear-first-requires c κs = search rules
 
 same_length : tie.Need-same-length
@@ -44,7 +44,7 @@ mul-has-room c = search rules
 slice-read-has-room : tie.Need-slice-read-has-room
 slice-read-has-room c = search rules
 
-has-room-requires : tie.Need-has-room-requires
+has-room-requires : tie.Need-has_room-requires
 has-room-requires c κs =
     let p = c.before.before.before.before.before.before.before.before.before.before.before.requires in
     (p.0.rows, p.0.room _ (omega arith))
@@ -58,7 +58,7 @@ keep-requires c κs =
 clear-first-requires-2 : tie.Need-clear-first-requires-2
 clear-first-requires-2 c κs = search rules
 
-add-more : tie.Need-overflow-add-more
+add-more : tie.Need-overflow_add-more
 add-more c = search rules
 
 same-length-5 : tie.Need-same-length-5

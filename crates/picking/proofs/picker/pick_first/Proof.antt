@@ -9,7 +9,7 @@ use Rattle.picking.proofs.picker.pick_first.Tie as tie
 slice-write-starts : tie.Need-slice-write-starts
 slice-write-starts c = search rules
 
-pick-up-requires : tie.Need-pick-up-requires
+pick-up-requires : tie.Need-pick_up-requires
 pick-up-requires c κs =
     let at-slice-known2 = c.before.before.before.before.before.before.before.before in
     let at-start = at-slice-known2.before.before in (

@@ -6,7 +6,7 @@ use borrow.Author.Rules.{rules}
 use Rattle.picking.proofs.picker.pick_up.Statement.{statement}
 use Rattle.picking.proofs.picker.pick_up.Tie as tie
 
-pick-area-requires : tie.Need-pick-area-requires
+pick-area-requires : tie.Need-pick_area-requires
 pick-area-requires c κs = search rules
 
 same_length : tie.Need-same-length
@@ -31,7 +31,7 @@ returns c t regular e cap met l =
     picked_even regular a.state a.area0.now a.area1.now l _ _ _ _ _ met e at-pick.pick-area.result
     _ _ _ _ at-if1.if1.true at-pick.pick-area.ensures
 
-pick-area-requires-2 : tie.Need-pick-area-requires-2
+pick-area-requires-2 : tie.Need-pick_area-requires-2
 pick-area-requires-2 c κs = search rules
 
 same-length-5 : tie.Need-same-length-5
