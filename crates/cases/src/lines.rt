@@ -9,6 +9,8 @@ use crate::buffer::move_front;
 use crate::tally;
 use crate::tally::{Outcome, Tally};
 use crate::text::line_end;
+use std::fs::File;
+use std::io::{Read, Result, Stderr, Stdout};
 
 // Where the line that was given begins and ends, and how much of the buffer is filled; how many
 // lines may still be given, this one counted, or 0 where none was; whether a line did not fit the
@@ -62,18 +64,26 @@ fn last_line(n: usize, left: u64) -> Lines
 }
 
 // Reads on until the line at the buffer's start has its line feed; `kept` bytes of it stand there.
-fn read_line(fd: i32, path: &[u8], buffer: &mut [u8], kept: usize, left: u64) -> Lines
+fn read_line(
+    file: &mut File,
+    path: &str,
+    messages: Stderr,
+    buffer: &mut [u8],
+    kept: usize,
+    left: u64,
+) -> Lines
     requires { kept ≤ length buffer.old }
     ensures { InBuffer (length buffer.new) result × (result.left ≤ left) }
 {
     let mut filled = kept;
     while filled < buffer.len() {
-        let got = libc::read(fd, &mut buffer[filled..]);
-        if got < 0 {
-            os::fail(path);
-            return no_line(false, false);
-        }
-        let n = io::count(got, &buffer[filled..]);
+        let n = match file.read(&mut buffer[filled..]) {
+            Ok(n) => n,
+            Err(error) => {
+                let _ = eprintln!(messages; "{path}: {error}");
+                return no_line(false, false);
+            }
+        };
         if n == 0 {
             return last_line(filled, left);
         }
@@ -86,10 +96,10 @@ fn read_line(fd: i32, path: &[u8], buffer: &mut [u8], kept: usize, left: u64) ->
     no_line(true, true)
 }
 
-pub fn first_line(fd: i32, path: &[u8], buffer: &mut [u8]) -> Lines
+pub fn first_line(file: &mut File, path: &str, messages: Stderr, buffer: &mut [u8]) -> Lines
     ensures { InBuffer (length buffer.new) result }
 {
-    read_line(fd, path, buffer, 0, u64::MAX)
+    read_line(file, path, messages, buffer, 0, u64::MAX)
 }
 
 // The place past a line and its line feed; where it has none, its end.
@@ -101,7 +111,14 @@ fn after_line(to: usize, filled: usize) -> usize
 }
 
 // The line after l's, if l's, the last that t counts, was not malformed.
-pub fn next_line(fd: i32, path: &[u8], buffer: &mut [u8], l: Lines, t: Tally) -> Lines
+pub fn next_line(
+    file: &mut File,
+    path: &str,
+    messages: Stderr,
+    buffer: &mut [u8],
+    l: Lines,
+    t: Tally,
+) -> Lines
     requires { InBuffer (length buffer.old) l × (0 < l.left) }
     ensures { InBuffer (length buffer.new) result × (result.left < l.left) }
 {
@@ -117,14 +134,14 @@ pub fn next_line(fd: i32, path: &[u8], buffer: &mut [u8], l: Lines, t: Tally) ->
     }
     let kept = filled - from;
     move_front(buffer, from, kept);
-    read_line(fd, path, buffer, kept, left)
+    read_line(file, path, messages, buffer, kept, left)
 }
 
 // What is printed where no line is left; one that did not fit the buffer counts as malformed.
-pub fn finish(t: Tally, l: Lines) {
+pub fn finish(out: Stdout, t: Tally, l: Lines) -> Result<()> {
     if l.long {
-        tally::finish(tally::count_line(t, Outcome::Malformed), l.read);
+        tally::finish(out, tally::count_line(t, Outcome::Malformed), l.read)
     } else {
-        tally::finish(t, l.read);
+        tally::finish(out, t, l.read)
     }
 }

@@ -12,7 +12,7 @@ ghost use Rattle.cases.specs.Tally.{found_at, right_after, judged_as, case_count
 ghost use Rattle.cases.specs.Tally.{counted_open, counted, ok_at};
 
 use crate::text::starts_with;
-use libc::STDOUT_FILENO;
+use std::io::{Result, Stdout};
 
 // What came of a line: a part of a case, a case that is right or wrong, or neither.
 #[derive(Drop)]
@@ -36,7 +36,7 @@ pub fn outcome_of(right: bool) -> Outcome
 // answers are wrong on purpose; how many cases it had, how many of them were wrong, and the first
 // of these, or 0; whether all came out as their groups say so far; whether the last line was
 // malformed.
-#[derive(Drop)]
+#[derive(Clone, Copy)]
 pub struct Tally {
     lines: u64,
     begun: bool,
@@ -174,43 +174,40 @@ pub fn count_line(before: Tally, outcome: Outcome) -> Tally
 }
 
 // The rest of the group's line.
-fn close(t: Tally) {
+fn close(out: Stdout, t: Tally) -> Result<()> {
     if !t.begun {
-        return;
+        return Ok(());
     }
-    io::write_all(STDOUT_FILENO, b" ");
-    if t.found == 0 {
-        io::print_decimal(STDOUT_FILENO, t.cases);
+    let cases = t.cases;
+    let found = t.found;
+    let first = t.first;
+    if found == 0 {
+        println!(out; " {cases}")
     } else {
-        io::print_decimal(STDOUT_FILENO, t.found);
-        io::write_all(STDOUT_FILENO, b" of ");
-        io::print_decimal(STDOUT_FILENO, t.cases);
-        io::write_all(STDOUT_FILENO, b" wrong, first ");
-        io::print_decimal(STDOUT_FILENO, t.first);
+        println!(out; " {found} of {cases} wrong, first {first}")
     }
-    io::write_all(STDOUT_FILENO, b"\n");
 }
 
 // Closes a group, and opens the one that a line names.
-fn open_next(line: &[u8], t: Tally, wrong: bool) -> Tally {
-    close(t);
+fn open_next(out: Stdout, line: &[u8], t: Tally, wrong: bool) -> Result<Tally> {
+    close(out, t)?;
     let from = 8;
     if from < line.len() {
-        io::write_all(STDOUT_FILENO, &line[from..]);
+        out.write_all(&line[from..])?;
     }
-    begin(t, wrong)
+    Ok(begin(t, wrong))
 }
 
 // A comment: `# group NAME` or `# wrong NAME`, or another.
-pub fn take_comment(line: &[u8], before: Tally) -> Tally {
+pub fn take_comment(out: Stdout, line: &[u8], before: Tally) -> Result<Tally> {
     let t = next_line(before);
     if starts_with(line, b"# group ") {
-        return open_next(line, t, false);
+        return open_next(out, line, t, false);
     }
     if starts_with(line, b"# wrong ") {
-        return open_next(line, t, true);
+        return open_next(out, line, t, true);
     }
-    t
+    Ok(t)
 }
 
 // Whether every case came out as its group says; `read` says whether the file was read to its end.
@@ -230,14 +227,14 @@ fn is_ok(t: Tally, read: bool) -> bool
 }
 
 // The last lines.
-pub fn finish(t: Tally, read: bool) {
-    close(t);
+pub fn finish(out: Stdout, t: Tally, read: bool) -> Result<()> {
+    close(out, t)?;
     if t.malformed {
-        io::write_all(STDOUT_FILENO, b"malformed: line ");
-        io::print_decimal(STDOUT_FILENO, t.lines);
-        io::write_all(STDOUT_FILENO, b"\n");
+        let lines = t.lines;
+        println!(out; "malformed: line {lines}")?;
     }
     if is_ok(t, read) {
-        io::write_all(STDOUT_FILENO, b"ok\n");
+        println!(out; "ok")?;
     }
+    Ok(())
 }

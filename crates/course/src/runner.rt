@@ -13,8 +13,10 @@ ghost use Rattle.course_spec.specs.Course.{Rooms, Followed, Says};
 use arrivals::after_arrived;
 use course_spec::{Course, Told};
 use feeding::STORE_WORDS;
+use input::Source;
 use saying::{Said, Saying, none, say};
 use state::{EventBits, State};
+use std::io::Stdout;
 use trace::Opened;
 use tracing::TraceLine;
 use turning::say_refusal;
@@ -22,6 +24,7 @@ use turning::say_refusal;
 // Reads what arrives, and judges it, until the input ends or a refusal is said. Each read brings an
 // event at least, and no more than 2^64-1 events are taken: so the loop ends.
 fn follow(
+    source: &mut Source,
     list: &[u16],
     work: &[u64],
     state: State,
@@ -40,7 +43,7 @@ fn follow(
     let mut last = state;
     let mut spoken = said;
     loop {
-        let arrived = input::arrive(piece);
+        let arrived = input::arrive(source, piece);
         match after_arrived(
             list, work, last, spoken, area0, area1, piece, arrived, store, text,
         ) {
@@ -55,6 +58,8 @@ fn follow(
 
 // The line at the start, and then the events.
 fn begin(
+    source: &mut Source,
+    out: Stdout,
     list: &[u16],
     work: &[u64],
     state: State,
@@ -69,12 +74,12 @@ fn begin(
         (monitor_of state area0.old area1.old)
         (first_said (trace_line_said (Starts state permitted))) result }
 {
-    match say(TraceLine::Starts(state, permitted), none(), text) {
+    match say(TraceLine::Starts(state, permitted), none(out), text) {
         Saying::Written(said) => {
             let mut store = [0u64; STORE_WORDS];
             let mut piece = [0u8; 4096];
             follow(
-                list, work, state, said, area0, area1, &mut piece, &mut store, text,
+                source, list, work, state, said, area0, area1, &mut piece, &mut store, text,
             )
         }
         Saying::Failed(unsaid) => Told::Unwritten(unsaid),
@@ -83,6 +88,8 @@ fn begin(
 
 // An input by its front, in which no event stands.
 fn open_front(
+    source: &mut Source,
+    out: Stdout,
     front: &[u8],
     list: &mut [u16],
     area0: &mut [u64],
@@ -101,6 +108,8 @@ fn open_front(
             count,
             next: _,
         } => begin(
+            source,
+            out,
             &list[..count],
             work,
             state,
@@ -110,13 +119,13 @@ fn open_front(
             &mut text,
         ),
         Opened::Refused(refusal) => {
-            say_refusal(refusal.number, refusal.place as u64, none(), &mut text)
+            say_refusal(refusal.number, refusal.place as u64, none(out), &mut text)
         }
     }
 }
 
 // What is told of an input by its front, in which no event stands.
-pub fn run(front: &[u8]) -> Told
+pub fn run(source: &mut Source, out: Stdout, front: &[u8]) -> Told
     requires { Fronts front.now }
     ensures { Says front.now result }
 {
@@ -124,5 +133,7 @@ pub fn run(front: &[u8]) -> Told
     let mut area0 = [0u64; 4096];
     let mut area1 = [0u64; 4096];
     let mut work = [0u64; 8192];
-    open_front(front, &mut list, &mut area0, &mut area1, &mut work)
+    open_front(
+        source, out, front, &mut list, &mut area0, &mut area1, &mut work,
+    )
 }

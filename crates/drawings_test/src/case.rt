@@ -6,7 +6,7 @@ use crate::trial::{OpenKept, Stored, StoredLine, line_right};
 use cases::{Outcome, after, byte_at, outcome_of, put_bytes, take_numbers};
 
 // How many bytes the input has; the lengths of what is lent; the slots, where they are not 256.
-#[derive(Drop)]
+#[derive(Clone, Copy)]
 pub struct Lent {
     pub size: usize,
     pub list: usize,

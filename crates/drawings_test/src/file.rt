@@ -3,6 +3,8 @@
 use crate::case;
 use crate::case::Lent;
 use cases::{Tally, byte_at, first_line, next_line};
+use std::fs::File;
+use std::io::{Result, Stderr, Stdout};
 
 // What the lines came to so far, and what is lent to the next case.
 #[derive(Drop)]
@@ -11,35 +13,42 @@ struct Progress {
     lent: Lent,
 }
 
-fn take_line(line: &[u8], input: &mut [u8], r: Progress) -> Progress {
+fn take_line(out: Stdout, line: &[u8], input: &mut [u8], r: Progress) -> Result<Progress> {
     let tally = r.tally;
     let lent = r.lent;
     if byte_at(line, 0) == b'#' {
-        return Progress {
-            tally: cases::take_comment(line, tally),
+        return Ok(Progress {
+            tally: cases::take_comment(out, line, tally)?,
             lent,
-        };
+        });
     }
     let done = case::take_line(line, input, lent);
     let outcome = done.outcome;
     let lent = done.lent;
-    Progress {
+    Ok(Progress {
         tally: cases::count_line(tally, outcome),
         lent,
-    }
+    })
 }
 
-pub fn run(fd: i32, path: &[u8], buffer: &mut [u8], input: &mut [u8]) {
+pub fn run(
+    file: &mut File,
+    path: &str,
+    out: Stdout,
+    messages: Stderr,
+    buffer: &mut [u8],
+    input: &mut [u8],
+) -> Result<()> {
     let mut r = Progress {
         tally: cases::new(),
         lent: case::new(),
     };
-    let mut l = first_line(fd, path, buffer);
+    let mut l = first_line(file, path, messages, buffer);
     while l.left > 0 {
         let from = l.from;
         let to = l.to;
-        r = take_line(&buffer[from..to], input, r);
-        l = next_line(fd, path, buffer, l, r.tally);
+        r = take_line(out, &buffer[from..to], input, r)?;
+        l = next_line(file, path, messages, buffer, l, r.tally);
     }
-    cases::finish(r.tally, l);
+    cases::finish(out, r.tally, l)
 }

@@ -10,15 +10,23 @@ mod file;
 mod slots;
 mod trial;
 
-fn main() {
-    let path = b"lines.txt";
-    let fd = os::open_read(path);
-    if fd < 0 {
-        os::fail(path);
-        return;
-    }
-    let mut buffer = io::large_buffer();
+use std::fs::File;
+use std::io::Result;
+
+fn main(rt: HostRuntime) -> Result<()> {
+    let path = "lines.txt";
+    let mut opened = match File::open(&rt, path) {
+        Ok(opened) => opened,
+        Err(error) => return eprintln!(rt; "{path}: {error}"),
+    };
+    let mut buffer = [0u8; 65536];
     let mut input = [0u8; 100000];
-    file::run(fd, path, &mut buffer, &mut input);
-    libc::close(fd);
+    file::run(
+        &mut opened,
+        path,
+        rt.stdout(),
+        rt.stderr(),
+        &mut buffer,
+        &mut input,
+    )
 }

@@ -1,5 +1,6 @@
 -- What one read leaves of a buffer that is being filled, and what it then holds (ours; docs/DECISIONS.md, "An input
 -- that cannot be read gets no line").
+--     Came          what `read` may answer: a failure, or how many bytes came
 --     afterRead     from where to read on, or what the buffer holds; by what `read` answered
 --     Parts         a part of a buffer: all of it, or less where the input ended
 --     Fills         the promise of `fill`
@@ -11,6 +12,11 @@ use Rattle.input.specs.declared.reading.Filled.TheVariants.{Bytes, Broken}
 use Rattle.input.specs.declared.reading.Read.{Read}
 use Rattle.input.specs.declared.reading.Read.TheVariants.{More, Done}
 pub mod Laws
+
+-- -1, or at most the n bytes that it was lent room for
+abbrev pub Came : ℕ → ℤ → Type 0
+Came n (pos k) = k ≤ n
+Came n (negsuc k) = k ≡ 0
 
 -- n bytes stood in a buffer of that size, and `read` answered an integer. Negative: it failed, whatever stands there
 -- already. Else so many bytes more stand: the buffer is full; or there were none, and the input ended; or it goes on

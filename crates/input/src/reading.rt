@@ -9,7 +9,7 @@ ghost use Rattle.input.specs.Arrival.{after_arrival};
 
 // The first `count` bytes of a buffer are the input's. They are its last, or the buffer is full.
 // Only `after_read` makes one: no other code can say that an input ended.
-#[derive(Drop)]
+#[derive(Clone, Copy)]
 pub struct Part {
     count: usize,
     last: bool,

@@ -9,17 +9,19 @@
 mod pieces;
 mod print;
 
-use input::Filled;
+use input::{Filled, Source};
 use pieces::Report;
+use std::io::Result;
 
-fn main() {
+fn main(rt: HostRuntime) -> Result<()> {
+    let mut source = Source::new(rt.stdin());
     let mut front = [0u8; 16387];
-    let part = match input::fill(&mut front) {
+    let part = match input::fill(&mut source, &mut front) {
         Filled::Bytes(part) => part,
-        Filled::Broken(failure) => return input::fail(failure),
+        Filled::Broken(failure) => return input::fail(&source, rt.stderr(), failure),
     };
-    match pieces::run(&front, part) {
-        Report::Line(line) => print::say(line),
-        Report::Broken(failure) => input::fail(failure),
+    match pieces::run(&mut source, &front, part) {
+        Report::Line(line) => print::say(rt.stdout(), rt.stderr(), line),
+        Report::Broken(failure) => input::fail(&source, rt.stderr(), failure),
     }
 }

@@ -13,7 +13,7 @@ ghost use Rattle.input.specs.Reading.{Parts};
 ghost use Rattle.line_monitor.specs.Report.{Says, Followed, FrontFed};
 
 use format::Line;
-use input::{Failure, Filled, Part};
+use input::{Failure, Filled, Part, Source};
 use line::{Course, Opened};
 use state::State;
 
@@ -49,6 +49,7 @@ fn turn(
 // Reads and feeds the pieces that follow, until the input ends or a line stands. Each turn that
 // goes on takes a whole piece, and no more than 2^64-1 events are taken: so the loop ends.
 fn follow(
+    source: &mut Source,
     list: &[u16],
     state: State,
     area0: &mut [u64],
@@ -63,7 +64,7 @@ fn follow(
 {
     let mut last = state;
     loop {
-        let part = match input::fill(piece) {
+        let part = match input::fill(source, piece) {
             Filled::Bytes(part) => part,
             Filled::Broken(failure) => return Report::Broken(failure),
         };
@@ -76,6 +77,7 @@ fn follow(
 
 // The events of the front, with which the input ended or did not, and then the pieces.
 fn feed_front(
+    source: &mut Source,
     list: &[u16],
     state: State,
     area0: &mut [u64],
@@ -91,7 +93,7 @@ fn feed_front(
     match line::take_piece(list, state, area0, area1, events, last, work) {
         Course::Going(next) => {
             let mut piece = io::large_buffer();
-            follow(list, next, area0, area1, &mut piece, work)
+            follow(source, list, next, area0, area1, &mut piece, work)
         }
         Course::Over(line) => Report::Line(line),
     }
@@ -99,6 +101,7 @@ fn feed_front(
 
 // An input by its front, which is full where the input did not end with it.
 fn open_front(
+    source: &mut Source,
     front: &[u8],
     last: bool,
     list: &mut [u16],
@@ -112,6 +115,7 @@ fn open_front(
 {
     match line::open(front, list, area0, area1, work) {
         Opened::Started { state, count, next } => feed_front(
+            source,
             &list[..count],
             state,
             area0,
@@ -125,7 +129,7 @@ fn open_front(
 }
 
 // What is said of an input whose front was filled so.
-pub fn run(front: &[u8], part: Part) -> Report
+pub fn run(source: &mut Source, front: &[u8], part: Part) -> Report
     requires { (length front.now ≡ 16387) × Parts (length front.now) part }
     ensures { Says part.last (take part.count front.now) result }
 {
@@ -135,6 +139,7 @@ pub fn run(front: &[u8], part: Part) -> Report
     let mut work = [0u64; 8192];
     let n = part.count();
     open_front(
+        source,
         &front[..n],
         part.last(),
         &mut list,

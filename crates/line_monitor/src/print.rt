@@ -1,12 +1,13 @@
 // The line, on standard output. Its bytes are those of crate `format`.
 use format::Line;
-use libc::STDOUT_FILENO;
+use std::io::{Result, Stderr, Stdout};
 
-pub fn say(line: Line) {
+pub fn say(out: Stdout, messages: Stderr, line: Line) -> Result<()> {
     let text = format::text_of(line);
     let bytes = text.bytes;
     let n = text.count;
-    if !io::write_all(STDOUT_FILENO, &bytes[..n]) {
-        os::fail(b"standard output");
+    match out.write_all(&bytes[..n]) {
+        Ok(()) => Ok(()),
+        Err(error) => eprintln!(messages; "standard output: {error}"),
     }
 }

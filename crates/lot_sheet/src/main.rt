@@ -13,21 +13,23 @@ mod print;
 ghost use Rattle.std.specs.Prelude.{◌≡◌, length};
 ghost use Rattle.input.specs.Reading.{Parts};
 
-use input::{Filled, Part};
+use input::{Filled, Part, Source};
+use std::io::{Result, Stderr, Stdout};
 
 // Prints the sheet of a book that was read so, or a message.
-fn answer(book: &[u8], part: Part)
+fn answer(out: Stdout, messages: Stderr, book: &[u8], part: Part) -> Result<()>
     requires { (length book.now ≡ 65537) × Parts (length book.now) part }
 {
     let mut text = [0u8; 802865];
     let told = office::tell(book, part, &mut text);
-    print::say(told, &text);
+    print::say(out, messages, told, &text)
 }
 
-fn main() {
+fn main(rt: HostRuntime) -> Result<()> {
+    let mut source = Source::new(rt.stdin());
     let mut book = [0u8; 65537];
-    match input::fill(&mut book) {
-        Filled::Bytes(part) => answer(&book, part),
-        Filled::Broken(failure) => input::fail(failure),
+    match input::fill(&mut source, &mut book) {
+        Filled::Bytes(part) => answer(rt.stdout(), rt.stderr(), &book, part),
+        Filled::Broken(failure) => input::fail(&source, rt.stderr(), failure),
     }
 }

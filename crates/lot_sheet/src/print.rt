@@ -2,41 +2,34 @@
 ghost use Rattle.lot_sheet.specs.Reply.{Fits};
 
 use crate::office::Reply;
-use libc::{STDERR_FILENO, STDOUT_FILENO};
+use std::io::{Result, Stderr, Stdout};
 
-fn say_sheet(sheet: &[u8]) {
-    if !io::write_all(STDOUT_FILENO, sheet) {
-        os::fail(b"standard output");
+fn say_sheet(out: Stdout, messages: Stderr, sheet: &[u8]) -> Result<()> {
+    match out.write_all(sheet) {
+        Ok(()) => Ok(()),
+        Err(error) => eprintln!(messages; "standard output: {error}"),
     }
 }
 
-fn say_bad_record(index: usize) {
-    io::write_all(STDERR_FILENO, b"lot_sheet: refused 14, bad book: record ");
-    io::print_decimal(STDERR_FILENO, index as u64);
-    io::write_all(STDERR_FILENO, b", counted from 0\n");
+fn say_bad_record(messages: Stderr, index: usize) -> Result<()> {
+    eprintln!(messages; "lot_sheet: refused 14, bad book: record {index}, counted from 0")
 }
 
-fn say_total_over() {
-    io::write_all(
-        STDERR_FILENO,
-        b"lot_sheet: refused 15: the total is above 2^64-1\n",
-    );
+fn say_total_over(messages: Stderr) -> Result<()> {
+    eprintln!(messages; "lot_sheet: refused 15: the total is above 2^64-1")
 }
 
-fn say_too_long() {
-    io::write_all(
-        STDERR_FILENO,
-        b"lot_sheet: the book is longer than 65536 bytes\n",
-    );
+fn say_too_long(messages: Stderr) -> Result<()> {
+    eprintln!(messages; "lot_sheet: the book is longer than 65536 bytes")
 }
 
-pub fn say(told: Reply, text: &[u8])
+pub fn say(out: Stdout, messages: Stderr, told: Reply, text: &[u8]) -> Result<()>
     requires { Fits told text.now }
 {
     match told {
-        Reply::Sheet(n) => say_sheet(&text[..n]),
-        Reply::BadRecord(index) => say_bad_record(index),
-        Reply::TotalOver => say_total_over(),
-        Reply::TooLong => say_too_long(),
+        Reply::Sheet(n) => say_sheet(out, messages, &text[..n]),
+        Reply::BadRecord(index) => say_bad_record(messages, index),
+        Reply::TotalOver => say_total_over(messages),
+        Reply::TooLong => say_too_long(messages),
     }
 }

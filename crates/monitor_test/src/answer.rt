@@ -10,7 +10,7 @@ use cases::{Outcome, digest_words, outcome_of};
 use monitor::{Answer, Offered};
 
 // An answer as the file has it: `has` is 1 if there is a record.
-#[derive(Drop)]
+#[derive(Clone, Copy)]
 struct Fields {
     number: u64,
     place: u64,

@@ -8,7 +8,7 @@ use cases::Outcome;
 use monitor::{State, Verdict};
 
 // A record as the file has it: `failed` is 0 and `at` is 0, or `failed` is 1.
-#[derive(Drop)]
+#[derive(Clone, Copy)]
 pub struct Record {
     pub taken: u64,
     pub count: u64,
@@ -17,7 +17,7 @@ pub struct Record {
     pub at: u64,
 }
 
-#[derive(Drop)]
+#[derive(Clone, Copy)]
 pub struct Lent {
     pub numbers: usize,
     pub length0: usize,

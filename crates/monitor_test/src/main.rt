@@ -15,13 +15,14 @@ mod lent;
 mod line;
 mod trial;
 
-fn main() {
-    let path = b"histories.txt";
-    let fd = os::open_read(path);
-    if fd < 0 {
-        os::fail(path);
-        return;
-    }
-    file::run(fd, path);
-    libc::close(fd);
+use std::fs::File;
+use std::io::Result;
+
+fn main(rt: HostRuntime) -> Result<()> {
+    let path = "histories.txt";
+    let mut opened = match File::open(&rt, path) {
+        Ok(opened) => opened,
+        Err(error) => return eprintln!(rt; "{path}: {error}"),
+    };
+    file::run(&mut opened, path, rt.stdout(), rt.stderr())
 }

@@ -1,5 +1,5 @@
 // A line, on standard output. Its bytes are those of crate `trace_text`.
-//     Count            how many lines were said, one after the other
+//     Count            how many lines were said, one after the other, and on what
 //     Said, Unsaid     a line that was written, with the count; that one could not be
 //     say              writes a line
 //     write_line       writes the bytes of one
@@ -12,13 +12,14 @@ ghost use Rattle.tracing.specs.Answers.{trace_line_said};
 ghost use Rattle.trace_text.specs.TraceText.{trace_text_of};
 ghost use Rattle.saying.specs.Spoken.{Counted, Spoken, TextStands};
 
-use libc::STDOUT_FILENO;
+use std::io::{Error, Stdout};
 use tracing::TraceLine;
 
-// So many lines were said, or more than 2^64-1.
+// So many lines were said, or more than 2^64-1, on an output that takes the next as well.
 #[derive(Drop)]
 pub struct Count {
     lines: u64,
+    out: Stdout,
 }
 
 // A line that was written, and how many were with it.
@@ -36,10 +37,18 @@ impl Said {
     }
 }
 
-// A line could not be written.
+// A line could not be written, and why.
 #[derive(Drop)]
 pub struct Unsaid {
-    failed: bool,
+    error: Error,
+}
+
+impl Unsaid {
+    pub fn error(self) -> Error
+        ensures { result ≡ self.error }
+    {
+        self.error
+    }
 }
 
 // One or the other.
@@ -50,10 +59,10 @@ pub enum Saying {
 }
 
 // Before the first line.
-pub fn none() -> Count
+pub fn none(out: Stdout) -> Count
     ensures { result.lines ≡ 0 }
 {
-    Count { lines: 0 }
+    Count { lines: 0, out }
 }
 
 // With one line more.
@@ -65,6 +74,7 @@ fn one_more(count: Count) -> Count
     }
     Count {
         lines: count.lines + 1,
+        out: count.out,
     }
 }
 
@@ -86,11 +96,13 @@ fn write_line(line: TraceLine, before: Count, bytes: &[u8]) -> Saying
     requires { bytes.now ≡ trace_text_of (trace_line_said line) }
     ensures { Spoken line before result }
 {
-    if io::write_all(STDOUT_FILENO, bytes) {
-        let count = one_more(before);
-        return Saying::Written(Said { line, count });
+    match before.out.write_all(bytes) {
+        Ok(()) => {
+            let count = one_more(before);
+            Saying::Written(Said { line, count })
+        }
+        Err(error) => Saying::Failed(Unsaid { error }),
     }
-    Saying::Failed(Unsaid { failed: true })
 }
 
 // Writes a line after those that were said, or answers that it could not be written. The buffer is

@@ -5,7 +5,7 @@ use sheet::Sheet;
 use table::Refusal;
 
 // What is stored: 0 and a count, or a refusal's number and place; the output's digest.
-#[derive(Drop)]
+#[derive(Clone, Copy)]
 pub struct Stored {
     pub number: u64,
     pub value: u64,

@@ -12,7 +12,7 @@ pub enum Answer {
 }
 
 // A bit for each event (document 02, W6): bit e of the first word is event e, of the second 64 + e.
-#[derive(Drop)]
+#[derive(Clone, Copy)]
 pub struct EventBits {
     pub first: u64,
     pub second: u64,

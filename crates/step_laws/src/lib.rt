@@ -2,4 +2,3 @@
 // cite; no code. What a step asks holds of an area of proper residuals' slots, and what it leaves
 // is such an area. `specs/Lib.antt` lists them.
 #![tactic(auto)]
-

@@ -8,7 +8,7 @@ use table::{Answer, Judged, Refusal};
 
 // What is stored: 0 and a count, or a refusal's number and place; the output's digest, but for the
 // check; how the work area stands.
-#[derive(Drop)]
+#[derive(Clone, Copy)]
 pub struct Stored {
     pub number: u64,
     pub place: u64,

@@ -3,7 +3,7 @@ ghost use Rattle.std.specs.Prelude.{◌≡◌, length};
 ghost use Rattle.trace_front.specs.Front.{FrontRead};
 
 use crate::measure::wanted;
-use input::{Arrived, End, Failure};
+use input::{Arrived, End, Failure, Source};
 
 // So many bytes, that need no more; so many, with which the input ended; or that it could not be
 // read.
@@ -15,7 +15,7 @@ pub enum Front {
 }
 
 // Reads what the front needs, into a buffer that has room for the longest.
-pub fn read_front(front: &mut [u8]) -> Front
+pub fn read_front(source: &mut Source, front: &mut [u8]) -> Front
     requires { length front.old ≡ 16387 }
     ensures { FrontRead front.new result }
 {
@@ -26,7 +26,7 @@ pub fn read_front(front: &mut [u8]) -> Front
             return Front::Whole(n);
         }
         let end = n + want;
-        match input::arrive(&mut front[n..end]) {
+        match input::arrive(source, &mut front[n..end]) {
             Arrived::Bytes(more) => n += more,
             Arrived::Ended(over) => return Front::Ended(n, over),
             Arrived::Broken(failure) => return Front::Broken(failure),

@@ -11,27 +11,33 @@ ghost use Rattle.trace_front.specs.Front.{FrontRead};
 ghost use Rattle.trace_monitor.specs.FrontTold.{FrontTold};
 
 use course::Told;
+use input::Source;
+use std::io::{Result, Stdout};
 use trace_front::Front;
 
 // What is told of an input by its front.
-fn told_by(front: &[u8], read: Front) -> Told
+fn told_by(source: &mut Source, out: Stdout, front: &[u8], read: Front) -> Told
     requires { FrontRead front.now read }
     ensures { FrontTold front.now read result }
 {
     match read {
-        Front::Whole(n) => course::run(&front[..n]),
-        Front::Ended(n, _) => course::run(&front[..n]),
+        Front::Whole(n) => course::run(source, out, &front[..n]),
+        Front::Ended(n, _) => course::run(source, out, &front[..n]),
         Front::Broken(failure) => Told::Unread(failure),
     }
 }
 
-fn main() {
+fn main(rt: HostRuntime) -> Result<()> {
+    let mut source = Source::new(rt.stdin());
     let mut front = [0u8; 16387];
-    let read = trace_front::read_front(&mut front);
-    match told_by(&front, read) {
-        Told::Ended(_, _) => {}
-        Told::Refused(_) => {}
-        Told::Unread(failure) => input::fail(failure),
-        Told::Unwritten(_) => os::fail(b"standard output"),
+    let read = trace_front::read_front(&mut source, &mut front);
+    match told_by(&mut source, rt.stdout(), &front, read) {
+        Told::Ended(_, _) => Ok(()),
+        Told::Refused(_) => Ok(()),
+        Told::Unread(failure) => input::fail(&source, rt.stderr(), failure),
+        Told::Unwritten(unsaid) => {
+            let error = unsaid.error();
+            eprintln!(rt; "standard output: {error}")
+        }
     }
 }

@@ -4,7 +4,7 @@ use state::{EventBits, State};
 
 // A line of a trace: the record and the events permitted next, at the start or after an event; or
 // a refusal by number and place.
-#[derive(Drop)]
+#[derive(Clone, Copy)]
 pub enum TraceLine {
     Starts(State, EventBits),
     Takes(u8, State, EventBits),

@@ -14,14 +14,15 @@ mod file;
 mod lists;
 mod trial;
 
-fn main() {
-    let path = b"washes.txt";
-    let fd = os::open_read(path);
-    if fd < 0 {
-        os::fail(path);
-        return;
-    }
-    let mut buffer = io::large_buffer();
-    file::run(fd, path, &mut buffer);
-    libc::close(fd);
+use std::fs::File;
+use std::io::Result;
+
+fn main(rt: HostRuntime) -> Result<()> {
+    let path = "washes.txt";
+    let mut opened = match File::open(&rt, path) {
+        Ok(opened) => opened,
+        Err(error) => return eprintln!(rt; "{path}: {error}"),
+    };
+    let mut buffer = [0u8; 65536];
+    file::run(&mut opened, path, rt.stdout(), rt.stderr(), &mut buffer)
 }

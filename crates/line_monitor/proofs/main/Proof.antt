@@ -32,7 +32,7 @@ run-requires : tie.Need-run-requires
 run-requires c κs =
     let at_part = c.before.before in
     let fill = at_part.before.before.before.fill in
-    (fill.auto.0 ∙ length-replicate {A = ℕ} 16387 0, fills_part _ _ fill.ensures _ at_part.part.given.1)
+    (fill.auto.1.0 ∙ length-replicate {A = ℕ} 16387 0, fills_part _ _ fill.ensures _ at_part.part.given.1)
 
 enum-known-line : tie.Need-enum-known-line
 enum-known-line c = search rules

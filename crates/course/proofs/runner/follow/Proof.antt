@@ -16,7 +16,7 @@ use Rattle.course.proofs.runner.follow.Statement.{statement}
 use Rattle.course.proofs.runner.follow.Tie as tie
 
 abbrev invariant_loop : tie.invariant_loop
-invariant_loop list work area0₀ area1₀ piece₀ store₀ text₀ last₀ spoken₀ area0 area1 piece store text last spoken =
+invariant_loop source₀ list work area0₀ area1₀ piece₀ store₀ text₀ last₀ spoken₀ source area0 area1 piece store text last spoken =
     (length area0 ≡ length area0₀) × (length area1 ≡ length area1₀) × (length piece ≡ length piece₀)
     × (length store ≡ length store₀) × (length text ≡ length text₀) × Rooms store₀ text₀ × (0 < length piece₀)
     × (last.taken ≤ 18446744073709551615)
@@ -25,7 +25,7 @@ invariant_loop list work area0₀ area1₀ piece₀ store₀ text₀ last₀ spo
     × Tracing list work (monitor_of last area0 area1)
 
 abbrev decreases_loop : tie.decreases_loop
-decreases_loop list work area0₀ area1₀ piece₀ store₀ text₀ last₀ spoken₀ area0 area1 piece store text last spoken =
+decreases_loop source₀ list work area0₀ area1₀ piece₀ store₀ text₀ last₀ spoken₀ source area0 area1 piece store text last spoken =
     18446744073709551615 - last.taken
 
 loop-holds : tie.Need-loop-init invariant_loop decreases_loop
@@ -73,9 +73,9 @@ loop-less c =
     let at-after-arrived = at_next.before.before.before.before.before.before.before.before.before.before in
     let at-arrive = at-after-arrived.before.before.before.before.before.before.before.before in
     let at-loop = at-arrive.before.before in
-    let room : 0 < length at-arrive.arrive.new.0 = omega (
+    let room : 0 < length at-arrive.arrive.new.1.0 = omega (
       arith,
-      at-arrive.arrive.auto.0,
+      at-arrive.arrive.auto.1.0,
       at-loop.loop.invariant.2,
       at-loop.loop.invariant.6,
     ) in
@@ -89,9 +89,9 @@ loop-again c =
     let at-after-arrived = at_next.before.before.before.before.before.before.before.before.before.before in
     let at-arrive = at-after-arrived.before.before.before.before.before.before.before.before in
     let at-loop = at-arrive.before.before in
-    let room : 0 < length at-arrive.arrive.new.0 = omega (
+    let room : 0 < length at-arrive.arrive.new.1.0 = omega (
       arith,
-      at-arrive.arrive.auto.0,
+      at-arrive.arrive.auto.1.0,
       at-loop.loop.invariant.2,
       at-loop.loop.invariant.6,
     ) in
@@ -99,7 +99,7 @@ loop-again c =
     _ _ at_next.next.given.1 in (
       at-after-arrived.after-arrived.auto.1.1.1.1.0 ∙ at-loop.loop.invariant.0,
       at-after-arrived.after-arrived.auto.1.1.1.1.1.0 ∙ at-loop.loop.invariant.1,
-      at-arrive.arrive.auto.0 ∙
+      at-arrive.arrive.auto.1.0 ∙
           at-loop.loop.invariant.2,
       at-after-arrived.after-arrived.auto.1.1.1.1.1.1.1.1.0 ∙ at-loop.loop.invariant.3,
       at-after-arrived.after-arrived.auto.1.1.1.1.1.1.1.1.1.0 ∙ at-loop.loop.invariant.4,
@@ -135,9 +135,9 @@ returns c =
     let at-after-arrived = at_told.before.before.before.before.before.before.before.before.before.before in
     let at-arrive = at-after-arrived.before.before.before.before.before.before.before.before in
     let at-loop = at-arrive.before.before in
-    let room : 0 < length at-arrive.arrive.new.0 = omega (
+    let room : 0 < length at-arrive.arrive.new.1.0 = omega (
       arith,
-      at-arrive.arrive.auto.0,
+      at-arrive.arrive.auto.1.0,
       at-loop.loop.invariant.2,
       at-loop.loop.invariant.6,
     ) in

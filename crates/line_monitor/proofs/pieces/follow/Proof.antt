@@ -16,14 +16,14 @@ use Rattle.line_monitor.proofs.pieces.follow.Statement.{statement}
 use Rattle.line_monitor.proofs.pieces.follow.Tie as tie
 
 abbrev invariant_loop : tie.invariant_loop
-invariant_loop list area0₀ area1₀ piece₀ work₀ last₀ area0 area1 piece work last =
+invariant_loop source₀ list area0₀ area1₀ piece₀ work₀ last₀ source area0 area1 piece work last =
     (length area0 ≡ length area0₀) × (length area1 ≡ length area1₀) × (length piece ≡ length piece₀)
     × (length work ≡ length work₀) × (last.taken ≤ 18446744073709551615)
     × Goes (length piece₀) (resume_said list (Going last₀) area0₀ area1₀ work₀)
     (resume_said list (Going last) area0 area1 work)
 
 abbrev decreases_loop : tie.decreases_loop
-decreases_loop list area0₀ area1₀ piece₀ work₀ last₀ area0 area1 piece work last = 18446744073709551615 - last.taken
+decreases_loop source₀ list area0₀ area1₀ piece₀ work₀ last₀ source area0 area1 piece work last = 18446744073709551615 - last.taken
 
 loop-holds : tie.Need-loop-init invariant_loop decreases_loop
 loop-holds c = (refl, refl, refl, refl, search rules, goes_first _ _)
@@ -69,7 +69,7 @@ loop-less c =
     let at-loop = at_fill_lem.before.before in
     let loop = at-loop.loop in
     let args = at-loop.before.before.before.before.before.before.args in
-    let size = at_fill_lem.fill.auto.0 ∙ loop.invariant.2 in
+    let size = at_fill_lem.fill.auto.1.0 ∙ loop.invariant.2 in
     let fits = fills_part _ _ at_fill_lem.fill.ensures _ at_part.part.given.1 in
     let took = turn_took (length args.piece.now) _ size _ fits args.list.now loop.last loop.area0
     loop.area1 loop.work at_turn.turn.result _ _ _ at_turn.turn.ensures _ c.before.next.given.1 in
@@ -83,7 +83,7 @@ loop-again c =
     let at-loop = at_fill_lem.before.before in
     let loop = at-loop.loop in
     let args = at-loop.before.before.before.before.before.before.args in
-    let size = at_fill_lem.fill.auto.0 ∙ loop.invariant.2 in
+    let size = at_fill_lem.fill.auto.1.0 ∙ loop.invariant.2 in
     let fits = fills_part _ _ at_fill_lem.fill.ensures _ at_part.part.given.1 in
     let took = turn_took (length args.piece.now) _ size _ fits args.list.now loop.last loop.area0
     loop.area1 loop.work at_turn.turn.result _ _ _ at_turn.turn.ensures _ c.before.next.given.1 in
@@ -121,7 +121,7 @@ returns_2 c =
     let at-loop = at_fill_lem.before.before in
     let loop = at-loop.loop in
     let args = at-loop.before.before.before.before.before.before.args in
-    let size = at_fill_lem.fill.auto.0 ∙ loop.invariant.2 in
+    let size = at_fill_lem.fill.auto.1.0 ∙ loop.invariant.2 in
     let fits = fills_part _ _ at_fill_lem.fill.ensures _ at_part.part.given.1 in
     turn_over (length args.piece.now) _ size _ fits args.list.now loop.last loop.area0 loop.area1
     loop.work at_turn.turn.result _ _ _ at_turn.turn.ensures _ loop.invariant.5 _ c.before.line.given.1

@@ -88,7 +88,7 @@ loop-i-preserved c =
       simp length-set k.invariant.10,
       head_new _ _ _ _ _ _ _ _ _ k.invariant.11 _
           c.resolve_at-slot.ensures _
-          c.found.ensures c.if-found.left (omega arith) (omega arith) k.invariant.7 (search rules)
+          c.found.ensures c.if-found.false (omega arith) (omega arith) k.invariant.7 (search rules)
           (omega (arith, k.invariant.1)) _ c.key_of.ensures _
           c.hold.ensures,
     )

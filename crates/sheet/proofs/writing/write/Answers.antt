@@ -42,7 +42,7 @@ loop-at-smaller c =
 pub loop-at-preserved : goal.loop-at-preserved
 loop-at-preserved c =
     write_next _ _ _ _ _ _ c.loop-at.invariant _ _ (sym c.in-Record.is ∙ c.lot_at.ensures) _
-    (omega (arith, c.known_told-1.given))
+    (omega (arith, c.type_inv))
     c.lot_line.ensures
 
 pub overflow_add-e-2 : goal.overflow_add-e-2
