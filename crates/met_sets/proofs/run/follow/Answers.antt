@@ -1,6 +1,5 @@
 -- `met_sets::run::follow` meets its contract. The invariant: the set reached is kept, and the promise holds of the
 -- events taken so far. The measure is what is left of them. Assumes nothing.
-use Prim.Native.Nat.{◌-◌}
 use native.Mathlib.Omega.{arith}
 use mathlib.Core.Path.{refl, ap, ◌∙◌}
 use lib.ListN.{get_or}

@@ -1,6 +1,5 @@
 -- `met_sets::sets::find` meets its contract: a set is given only where count and words agree. The measure is what is
 -- left of the sets. Assumes nothing.
-use Prim.Native.Nat.{◌-◌}
 use native.Mathlib.Omega.{arith}
 use mathlib.Core.Path.{sym, ◌∙◌}
 use Rattle.met_sets.specs.Sets.Laws.{shape_stands, words_inside, found_slots}

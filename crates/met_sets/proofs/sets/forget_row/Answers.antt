@@ -1,6 +1,6 @@
 -- `met_sets::sets::forget_row` meets its contract. The invariant: the first e bytes of the row are zero. The measure is
 -- what is left of the row. Assumes nothing.
-use Prim.Native.Nat.{◌+◌, ◌-◌, ◌*◌}
+use Prim.Native.Nat.{◌+◌, ◌*◌}
 use native.Mathlib.Omega.{arith}
 use mathlib.Core.Path.{◌≡◌, refl}
 use lib.ListN.{length-set}

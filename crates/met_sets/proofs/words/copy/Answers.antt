@@ -1,6 +1,6 @@
 -- `met_sets::words::copy` meets its contract. The invariant: the first i words are copied. The measure is what is left
 -- of n. Assumes nothing.
-use Prim.Native.Nat.{◌+◌, ◌-◌}
+use Prim.Native.Nat.{◌+◌}
 use native.Mathlib.Omega.{arith}
 use mathlib.Core.Path.{◌≡◌, refl}
 use lib.ListN.{length-set}
