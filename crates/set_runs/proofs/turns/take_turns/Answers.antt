@@ -22,12 +22,6 @@ small : {m j n : ℕ} → m ≤ j → j ≤ n → n < 2 ^ 64 → m < 2 ^ 64
 small l w s = omega arith
 
 -- ---- places of the code, each from a later one
-abbrev Turned : Type 0
-Turned = tie.After-take-turn invariant_loop decreases_loop
-
-abbrev head : Turned → tie.At-loop invariant_loop decreases_loop
-head c = c.before.before.before.before.before.before.before
-
 -- ---- the loop
 pub loop-answer-init : goal.loop-answer-init
 loop-answer-init c = (
@@ -54,81 +48,81 @@ take_turn-requires c = record {
 }
 
 pub shape_of-sets-in-Ended : goal.shape_of-sets-in-Ended
-shape_of-sets-in-Ended c = c.take_turn.auto.sets ∙ (head c.before.before.before.before.before.before.before.before.before.before.before.before.before.before.before).loop.inv.3
+shape_of-sets-in-Ended c = c.take_turn.auto.sets ∙ c.loop-answer.invariant.3
 
 pub shape_of-starts-in-Ended : goal.shape_of-starts-in-Ended
-shape_of-starts-in-Ended c = c.take_turn.auto.starts ∙ (head c.before.before.before.before.before.before.before.before.before.before.before.before.before.before.before).loop.inv.4
+shape_of-starts-in-Ended c = c.take_turn.auto.starts ∙ c.loop-answer.invariant.4
 
 pub shape_of-next-in-Ended : goal.shape_of-next-in-Ended
-shape_of-next-in-Ended c = c.take_turn.auto.next ∙ (head c.before.before.before.before.before.before.before.before.before.before.before.before.before.before.before).loop.inv.5
+shape_of-next-in-Ended c = c.take_turn.auto.next ∙ c.loop-answer.invariant.5
 
 pub shape_of-area0-in-Ended : goal.shape_of-area0-in-Ended
-shape_of-area0-in-Ended c = c.take_turn.auto.area0 ∙ (head c.before.before.before.before.before.before.before.before.before.before.before.before.before.before.before).loop.inv.6
+shape_of-area0-in-Ended c = c.take_turn.auto.area0 ∙ c.loop-answer.invariant.6
 
 pub shape_of-area1-in-Ended : goal.shape_of-area1-in-Ended
-shape_of-area1-in-Ended c = c.take_turn.auto.area1 ∙ (head c.before.before.before.before.before.before.before.before.before.before.before.before.before.before.before).loop.inv.7
+shape_of-area1-in-Ended c = c.take_turn.auto.area1 ∙ c.loop-answer.invariant.7
 
 pub shape_of-store-in-Ended : goal.shape_of-store-in-Ended
-shape_of-store-in-Ended c = c.take_turn.ensures.1.size ∙ sym (start (head c.before.before.before.before.before.before.before.before.before.before.before.before.before.before.before)).pre.1.1.1.1.size
+shape_of-store-in-Ended c = c.take_turn.ensures.1.size ∙ sym c.requires.store_of.size
 
 pub returns-in-Ended : goal.returns-in-Ended
 returns-in-Ended c = (
-  since_ended (head c.before.before.before.before.before.before.before.before.before.before.before.before.before.before.before).loop.inv.9 c.take_turn.ensures.0 c.in-Ended.is,
+  since_ended c.loop-answer.invariant.9 c.take_turn.ensures.0 c.in-Ended.is,
   c.take_turn.ensures.1,
 )
 
 pub shape_of-sets-in-Left : goal.shape_of-sets-in-Left
-shape_of-sets-in-Left c = c.take_turn.auto.sets ∙ (head c.before.before.before.before.before.before.before.before.before.before.before.before.before.before.before).loop.inv.3
+shape_of-sets-in-Left c = c.take_turn.auto.sets ∙ c.loop-answer.invariant.3
 
 pub shape_of-starts-in-Left : goal.shape_of-starts-in-Left
-shape_of-starts-in-Left c = c.take_turn.auto.starts ∙ (head c.before.before.before.before.before.before.before.before.before.before.before.before.before.before.before).loop.inv.4
+shape_of-starts-in-Left c = c.take_turn.auto.starts ∙ c.loop-answer.invariant.4
 
 pub shape_of-next-in-Left : goal.shape_of-next-in-Left
-shape_of-next-in-Left c = c.take_turn.auto.next ∙ (head c.before.before.before.before.before.before.before.before.before.before.before.before.before.before.before).loop.inv.5
+shape_of-next-in-Left c = c.take_turn.auto.next ∙ c.loop-answer.invariant.5
 
 pub shape_of-area0-in-Left : goal.shape_of-area0-in-Left
-shape_of-area0-in-Left c = c.take_turn.auto.area0 ∙ (head c.before.before.before.before.before.before.before.before.before.before.before.before.before.before.before).loop.inv.6
+shape_of-area0-in-Left c = c.take_turn.auto.area0 ∙ c.loop-answer.invariant.6
 
 pub shape_of-area1-in-Left : goal.shape_of-area1-in-Left
-shape_of-area1-in-Left c = c.take_turn.auto.area1 ∙ (head c.before.before.before.before.before.before.before.before.before.before.before.before.before.before.before).loop.inv.7
+shape_of-area1-in-Left c = c.take_turn.auto.area1 ∙ c.loop-answer.invariant.7
 
 pub shape_of-store-in-Left : goal.shape_of-store-in-Left
-shape_of-store-in-Left c = c.take_turn.ensures.1.size ∙ sym (start (head c.before.before.before.before.before.before.before.before.before.before.before.before.before.before.before)).pre.1.1.1.1.size
+shape_of-store-in-Left c = c.take_turn.ensures.1.size ∙ sym c.requires.store_of.size
 
 pub returns-in-Left : goal.returns-in-Left
 returns-in-Left c = (
-  since_left (head c.before.before.before.before.before.before.before.before.before.before.before.before.before.before.before).loop.inv.9 c.take_turn.ensures.0 c.in-Left.is
-      (head c.before.before.before.before.before.before.before.before.before.before.before.before.before.before.before).loop.inv.0,
+  since_left c.loop-answer.invariant.9 c.take_turn.ensures.0 c.in-Left.is
+      c.loop-answer.invariant.0,
   c.take_turn.ensures.1,
 )
 
 -- ---- a turn that ends at a set kept
 pub overflow_add-learnt : goal.overflow_add-learnt
 overflow_add-learnt c = record {
-  fits = small ((more (head c.before.before.before.before.before.before.before.before.before.before.before.before.before.before.before).loop.inv.10 ((turn_onward c.take_turn.ensures.0 c.in-Kept.is
-      (since_goes (head c.before.before.before.before.before.before.before.before.before.before.before.before.before.before.before).loop.inv.9 ((start (head c.before.before.before.before.before.before.before.before.before.before.before.before.before.before.before))).requires.1.1.1.0))).0)) ((turn_onward c.take_turn.ensures.0 c.in-Kept.is
-      (since_goes (head c.before.before.before.before.before.before.before.before.before.before.before.before.before.before.before).loop.inv.9 ((start (head c.before.before.before.before.before.before.before.before.before.before.before.before.before.before.before))).requires.1.1.1.0))).1 (head c.before.before.before.before.before.before.before.before.before.before.before.before.before.before.before).loop.inv.2;
+  fits = small ((more c.loop-answer.invariant.10 ((turn_onward c.take_turn.ensures.0 c.in-Kept.is
+      (since_goes c.loop-answer.invariant.9 c.requires.goes))).0)) ((turn_onward c.take_turn.ensures.0 c.in-Kept.is
+      (since_goes c.loop-answer.invariant.9 c.requires.goes))).1 c.loop-answer.invariant.2;
 }
 
 pub loop-answer-smaller : goal.loop-answer-smaller
 loop-answer-smaller c = less ((turn_onward c.take_turn.ensures.0 c.in-Kept.is
-    (since_goes (head c.before.before.before.before.before.before.before.before.before.before.before.before.before.before.before).loop.inv.9 ((start (head c.before.before.before.before.before.before.before.before.before.before.before.before.before.before.before))).requires.1.1.1.0))).0 ((turn_onward c.take_turn.ensures.0 c.in-Kept.is
-    (since_goes (head c.before.before.before.before.before.before.before.before.before.before.before.before.before.before.before).loop.inv.9 ((start (head c.before.before.before.before.before.before.before.before.before.before.before.before.before.before.before))).requires.1.1.1.0))).1
+    (since_goes c.loop-answer.invariant.9 c.requires.goes))).0 ((turn_onward c.take_turn.ensures.0 c.in-Kept.is
+    (since_goes c.loop-answer.invariant.9 c.requires.goes))).1
 
 pub loop-answer-preserved : goal.loop-answer-preserved
 loop-answer-preserved c = (
-  later (head c.before.before.before.before.before.before.before.before.before.before.before.before.before.before.before).loop.inv.0 ((turn_onward c.take_turn.ensures.0 c.in-Kept.is
-      (since_goes (head c.before.before.before.before.before.before.before.before.before.before.before.before.before.before.before).loop.inv.9 ((start (head c.before.before.before.before.before.before.before.before.before.before.before.before.before.before.before))).requires.1.1.1.0))).0,
+  later c.loop-answer.invariant.0 ((turn_onward c.take_turn.ensures.0 c.in-Kept.is
+      (since_goes c.loop-answer.invariant.9 c.requires.goes))).0,
   ((turn_onward c.take_turn.ensures.0 c.in-Kept.is
-      (since_goes (head c.before.before.before.before.before.before.before.before.before.before.before.before.before.before.before).loop.inv.9 ((start (head c.before.before.before.before.before.before.before.before.before.before.before.before.before.before.before))).requires.1.1.1.0))).1,
-  (head c.before.before.before.before.before.before.before.before.before.before.before.before.before.before.before).loop.inv.2,
-  c.take_turn.auto.sets ∙ (head c.before.before.before.before.before.before.before.before.before.before.before.before.before.before.before).loop.inv.3,
-  c.take_turn.auto.starts ∙ (head c.before.before.before.before.before.before.before.before.before.before.before.before.before.before.before).loop.inv.4,
-  c.take_turn.auto.next ∙ (head c.before.before.before.before.before.before.before.before.before.before.before.before.before.before.before).loop.inv.5,
-  c.take_turn.auto.area0 ∙ (head c.before.before.before.before.before.before.before.before.before.before.before.before.before.before.before).loop.inv.6,
-  c.take_turn.auto.area1 ∙ (head c.before.before.before.before.before.before.before.before.before.before.before.before.before.before.before).loop.inv.7,
+      (since_goes c.loop-answer.invariant.9 c.requires.goes))).1,
+  c.loop-answer.invariant.2,
+  c.take_turn.auto.sets ∙ c.loop-answer.invariant.3,
+  c.take_turn.auto.starts ∙ c.loop-answer.invariant.4,
+  c.take_turn.auto.next ∙ c.loop-answer.invariant.5,
+  c.take_turn.auto.area0 ∙ c.loop-answer.invariant.6,
+  c.take_turn.auto.area1 ∙ c.loop-answer.invariant.7,
   c.take_turn.ensures.1,
-  (since_kept (head c.before.before.before.before.before.before.before.before.before.before.before.before.before.before.before).loop.inv.9 c.take_turn.ensures.0 c.in-Kept.is),
-  (more (head c.before.before.before.before.before.before.before.before.before.before.before.before.before.before.before).loop.inv.10 ((turn_onward c.take_turn.ensures.0 c.in-Kept.is
-      (since_goes (head c.before.before.before.before.before.before.before.before.before.before.before.before.before.before.before).loop.inv.9 ((start (head c.before.before.before.before.before.before.before.before.before.before.before.before.before.before.before))).requires.1.1.1.0))).0),
+  (since_kept c.loop-answer.invariant.9 c.take_turn.ensures.0 c.in-Kept.is),
+  (more c.loop-answer.invariant.10 ((turn_onward c.take_turn.ensures.0 c.in-Kept.is
+      (since_goes c.loop-answer.invariant.9 c.requires.goes))).0),
 )
