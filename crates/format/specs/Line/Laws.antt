@@ -1,5 +1,5 @@
 -- The line of a record, by its verdict: state_running, state_failed. Assumes nothing.
-use Rattle.std.specs.Prelude.{ℕ, ◌-◌, ◌≡◌}
+use Rattle.std.specs.Prelude.{ℕ, ◌≡◌}
 use Rattle.std.proofs.Common.{ap}
 use Rattle.std.proofs.Math.Path.{sym}
 use Rattle.monitor_spec.specs.State.{Verdict}
