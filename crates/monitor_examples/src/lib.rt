@@ -3,4 +3,3 @@
 // and `proofs/`; no code. They stand apart from the definitions, since computing them takes longer
 // than the definitions' proofs. K1 to K12 stand in `monitor_spec`.
 #![tactic(auto)]
-

@@ -24,7 +24,7 @@ use Rattle.monitor_spec.specs.Open.Laws.{open_unmeasured, open_declined, exceede
 use Rattle.monitor_spec.specs.Joined.{residual_count}
 use Rattle.monitor_spec.specs.History.Laws.{feed_goes}
 use Rattle.monitor_spec.specs.History.Begun.{fresh_after, fresh_fed, open_goes, slots_range}
-use Rattle.line_spec.specs.Line.{parts, head_of, refused, answer_line, fresh, monitor_left, started_by}
+use Rattle.line_spec.specs.Line.{parts, head_of, answer_line, fresh, monitor_left, started_by}
 use Rattle.line_spec.specs.Line.{started_line, read_line, head_line, line_of}
 
 module _ (l es : List ℕ) where

@@ -1,0 +1,24 @@
+-- `judge::checker::check_list` meets its contract: `judge` says all but 2, and the bytes of an accepted list are
+-- counted. Assumes nothing.
+use native.Mathlib.Omega.{arith}
+use Rattle.table.specs.Judge.Laws.{list_declined}
+use Rattle.table_index.specs.Judging.Laws.{listed_long, listed_short}
+use Rattle.judge.proofs.checker.check_list.Goals as goal
+
+-- too many bytes
+pub returns-then-byte_place-gt16384 : goal.returns-then-byte_place-gt16384
+returns-then-byte_place-gt16384 c =
+    let f = rw c.in-Accepted.is at c.judge.ensures in
+    (listed_long _ _ f (omega (arith, c.byte_place.ensures)), f.structure.whole)
+
+-- the list is a table
+pub returns-else-byte_place-gt16384 : goal.returns-else-byte_place-gt16384
+returns-else-byte_place-gt16384 c =
+    let f = rw c.in-Accepted.is at c.judge.ensures in
+    listed_short _ _ f (omega (arith, c.byte_place.ensures))
+
+-- `judge` refuses
+pub returns-in-Declined : goal.returns-in-Declined
+returns-in-Declined c =
+    let f = rw c.in-Declined.is at c.judge.ensures in
+    (list_declined _ _ _ f.0, f.1)
