@@ -6,8 +6,6 @@
 -- The laws are in `Decimal/Laws.antt` and `Decimal/Unique.antt`. Assumes nothing.
 use Rattle.std.specs.Prelude.{ℕ, zero, suc, ◌+◌, ◌-◌, ◌*◌, ◌/◌, ◌%◌, ◌≤◌, ◌<◌, ◌≡◌, true, false, List, [], ◌∷◌, ◌++◌, length, get_or, ltb}
 use Rattle.numbers.specs.Every.{All}
-pub mod Laws
-pub mod Unique
 
 -- of at most so many digits; `0` is 48
 unfoldable pub decimal_within : ℕ → ℕ → List ℕ

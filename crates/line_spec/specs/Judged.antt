@@ -15,8 +15,6 @@ use Rattle.line_spec.specs.Pieces.{over, conclude_of, after_piece}
 use Rattle.line_spec.specs.Opening.{OpenOutcome}
 use Rattle.line_spec.specs.Whole.{ResumeOutcome}
 use Rattle.line_spec.specs.Lent.{resume_first, front_events, resume_next, resume_all, with_course}
-pub mod Taken
-pub mod Laws
 
 abbrev pub Full : ℕ → List (List ℕ) → Type 0
 Full n [] = Unit

@@ -9,8 +9,6 @@ use Rattle.line_spec.specs.Line.{Line, refused, line_of}
 use Rattle.line_spec.specs.Pieces.{Course, going, over, conclude_of, after_piece}
 use Rattle.line_spec.specs.Opening.{lent, OpenAnswer, started, refuses, OpenOutcome, open_input_of, open_course}
 use Rattle.line_spec.specs.Whole.{ResumeOutcome, resume_of}
-pub mod Laws
-pub mod Ends
 
 unfoldable pub lent_line : List ℕ → List ℕ → List ℕ → List ℕ → List ℕ → Line
 lent_line s l a b w = cond (lent l a b w) (line_of s) (refused 1 0)

@@ -16,8 +16,6 @@ use Rattle.monitor_spec.specs.State as state
 use Rattle.monitor_spec.specs.Feed.{feed_of}
 use Rattle.monitor_spec.specs.Open.{open_of}
 pub mod Laws
-pub mod Heads
-pub mod Opened
 
 pub data Head : Type 0 where
   parts : List ℕ → List ℕ → Head

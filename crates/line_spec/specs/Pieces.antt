@@ -12,8 +12,6 @@ use Rattle.monitor_spec.specs.State.{Monitor, Answer, given, stopped, Outcome}
 use Rattle.monitor_spec.specs.State as state
 use Rattle.monitor_spec.specs.Feed.{feed_of}
 use Rattle.line_spec.specs.Line.{Head, parts, wrong, head_of, Line, refused, state_line, fresh, monitor_left}
-pub mod Laws
-pub mod Joined
 
 pub data Course : Type 0 where
   going : List ℕ → Monitor → Course

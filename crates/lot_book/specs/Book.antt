@@ -13,9 +13,6 @@ use Rattle.lot_book.specs.declared.judging.Total.TheVariants.{Within, Over}
 use Rattle.lot_book.specs.declared.judging.Judged.{Judged}
 use Rattle.lot_book.specs.declared.judging.Judged.TheVariants.{Lots, Bad}
 use Rattle.lot_book.specs.Lot.{LotScan, lot, unread, read_lot}
-pub mod Sound
-pub mod Laws
-pub mod Judging
 
 -- "lots not strictly ascending" (the lot is `floor` or more), "a number too wide for its columns" (ten for the lot,
 -- eight for the place), "a mark other than 0 or 1", "a place above taken or not 0 while running"

@@ -10,8 +10,6 @@ use Rattle.lot_book.specs.declared.entry.Lot.{Lot}
 use Rattle.lot_book.specs.declared.entry.Entry.{Entry}
 use Rattle.lot_book.specs.declared.entry.Entry.TheVariants.{Record, Unread}
 use Rattle.lot_book.specs.Number.{scan_number}
-pub mod Scans
-pub mod Laws
 
 -- lot: the record, how many bytes it takes, and the bytes after it
 pub data LotScan : Type 0 where

@@ -9,7 +9,6 @@ use Rattle.std.specs.Prelude.{ℕ, ◌+◌, ◌<◌, ◌≡◌, List, drop}
 use Rattle.numbers.specs.Number.{Scan, value, truncated, malformed, later, scan_with, limit_of}
 use Rattle.lot_book.specs.declared.number.Number.{Number}
 use Rattle.lot_book.specs.declared.number.Number.TheVariants.{Value, Unread}
-pub mod Laws
 
 -- "up to ten bytes", "or one above 2^64-1"
 abbrev pub scan_number : List ℕ → Scan

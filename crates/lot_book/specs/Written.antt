@@ -11,10 +11,6 @@ use Rattle.numbers.specs.Every.{All}
 use Rattle.numbers.specs.Number.{groups, IncompleteWith, IllWrittenWith}
 use Rattle.lot_book.specs.declared.entry.Lot.{Lot}
 use Rattle.lot_book.specs.Lot.{lot_bytes}
-pub mod Good
-pub mod Unsound
-pub mod Laws
-pub mod Faults
 
 -- "one record per lot"
 unfoldable pub book_bytes : List Lot → List ℕ

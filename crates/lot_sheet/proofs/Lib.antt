@@ -1,2 +1,4 @@
 -- The proofs of `specs/Claims.antt`. Assumes nothing.
 pub mod Theorems
+pub mod Reply
+pub mod Room

@@ -13,7 +13,6 @@ use Rattle.lot_book.specs.Book.{lots, bad, book_of, taken_sum}
 use Rattle.sheet_spec.specs.Sheet.{Outcome, given, refused, sheet_text, sheet_size, sheet_of}
 use Rattle.lot_sheet.specs.declared.office.Reply.{Reply}
 use Rattle.lot_sheet.specs.declared.office.Reply.TheVariants.{Sheet, BadRecord, TotalOver, TooLong}
-pub mod Laws
 
 pub record TellOutcome : Type 0 where
   pub told : Reply

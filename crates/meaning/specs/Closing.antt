@@ -8,7 +8,6 @@ use Rattle.table.specs.Table
 use Rattle.table.specs.Memory.{Memory, digit}
 use Rattle.meaning.specs.Figure1.{Arg, var, ev, SetRef, fixed, family}
 use Rattle.meaning.specs.Figure1.{Term, stop, fail, prefix, choice, par, call}
-pub mod Laws
 
 unfoldable pub close_arg : ℕ → Memory → ℕ → Arg
 close_arg c m k = elim (ltb k c) [ true ↦ var k | false ↦ ev (digit m (k - c)) ]

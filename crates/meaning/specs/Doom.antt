@@ -18,8 +18,6 @@ use Rattle.meaning.specs.Figure3.{par_left, par_right, par_both, doomed_left, do
 use Rattle.meaning.specs.Figure3.{fail_left, fail_right, call_step}
 use Rattle.meaning.specs.Figure3.Laws.{fail_stuck}
 use Rattle.meaning.specs.Holds.{Holds, h_left, h_right, h_par, h_call}
-pub mod Branches
-pub mod Falls
 
 module _ (t : Table) where
   pub doomed_silent : {P Q : Term} {e : ℕ} → Doomed t P → Step t P (event e) Q → ⊥

@@ -12,7 +12,6 @@ use Rattle.meaning.specs.Figure1 as F
 use Rattle.meaning.specs.Figure1.{last}
 use Rattle.meaning.specs.Figure2.{TraceSet, Model}
 use Rattle.meaning.specs.Figure3.{Viable, Chain}
-pub mod Laws
 
 -- A = 3; sets {0}, {1}, {}, {0, 1}, and the rows {1}, {0}, {} by parameter
 unfoldable pub table_of : List Definition → Table

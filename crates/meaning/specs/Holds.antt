@@ -6,7 +6,6 @@
 use Rattle.std.specs.Prelude.{ℕ, Bool, not, List, [], ◌∷◌, T}
 use Rattle.table.specs.Table.{Table}
 use Rattle.meaning.specs.Figure1.{SetRef, Term, stop, prefix, choice, par, call, body, member, sub}
-pub mod Alphabet
 
 -- u is a merge of r and s: an event of E is taken from both, any other from one.
 pub data Merge (E : ℕ → Bool) : List ℕ → List ℕ → List ℕ → Type 0 where

@@ -8,10 +8,8 @@ pub mod Closing
 pub mod FigureExamples
 pub mod Examples
 pub mod Claims
-pub mod Formed
 pub mod Holds
 pub mod Theorem3
 pub mod Doom
-pub mod Models
 pub mod ClosedResiduals
 pub mod ClosedResidualsHold

@@ -8,8 +8,6 @@ use Rattle.table.specs.Table.{Table}
 use Rattle.slots.specs.Canon.{compare_words}
 use Rattle.monitor_spec.specs.Valid.{valid_slot, is_below}
 use Rattle.monitor_spec.specs.State.{Verdict, running, failed_at, State, Monitor, slot_count, even, choose, chunks}
-pub mod Reading
-pub mod Laws
 
 unfoldable pub every : {A : Type 0} → (A → Bool) → List A → Bool
 every f [] = true

@@ -13,7 +13,6 @@ use Rattle.table.specs.Judge.{Judgement, accepted, declined, judge_list}
 use Rattle.table.specs.Operations.{zeros}
 use Rattle.monitor_spec.specs.State.{Monitor, refused, Outcome, areas_measured, work_measured}
 use Rattle.monitor_spec.specs.Consistent.{consistent}
-pub mod Laws
 
 pub data Entrance : Type 0 where
   shut : ℕ → ℕ → List ℕ → Entrance

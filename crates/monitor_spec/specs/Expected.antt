@@ -11,11 +11,6 @@ use Rattle.meaning.specs.Figure1.{body_count, last}
 use Rattle.residuals.specs.Residual.{Residual, resolve_def, after_all, run, residuals_of}
 use Rattle.residuals.specs.Slots.{slots_of}
 use Rattle.monitor_spec.specs.State.{Verdict, running, failed_at, State, fresh_state, Monitor, laid}
-pub mod Verdicts
-pub mod Peaks
-pub mod Records
-pub mod Laid
-pub mod Steps
 
 unfoldable pub if_none : List Residual → Verdict → Verdict → Verdict
 if_none [] v w = v

@@ -15,7 +15,6 @@ use Rattle.monitor_spec.specs.Fold.{StepEnd, went, stops, Ended, through}
 use Rattle.monitor_spec.specs.State.{state_after, Monitor, given, stopped, Outcome, slot_count, even, choose}
 use Rattle.monitor_spec.specs.State.{chunks, fill}
 use Rattle.monitor_spec.specs.Entering.{entrance_on, entering, refusing}
-pub mod Laws
 
 -- 2^64-1
 abbrev pub counter_most : ℕ

@@ -8,8 +8,6 @@
 -- nothing.
 use Rattle.std.specs.Prelude.{ℕ, suc, Bool, true, false, List, [], ◌∷◌, ◌++◌}
 use Rattle.std.proofs.Math.Option.{Option, none, some}
-pub mod Laws
-pub mod Joined
 
 module _ (C : Type 0) where
   pub data StepEnd : Type 0 where

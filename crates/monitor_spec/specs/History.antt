@@ -25,11 +25,6 @@ use Rattle.monitor_spec.specs.State.{work_measured, slot_count, even, choose, fi
 use Rattle.monitor_spec.specs.Feed.{feed_of}
 use Rattle.monitor_spec.specs.Open.{open_of}
 use Rattle.monitor_spec.specs.Joined.{Call, residual_count}
-pub mod Laws
-pub mod Begun
-pub mod Verdicts
-pub mod Peaks
-pub mod After
 
 -- "After a refusal without a record, the record that went in stands."
 unfoldable pub standing : State → Answer → State

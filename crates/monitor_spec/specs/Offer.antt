@@ -13,7 +13,6 @@ use Rattle.monitor_spec.specs.Valid.{held}
 use Rattle.monitor_spec.specs.State.{Verdict, running, failed_at, Monitor}
 use Rattle.monitor_spec.specs.Entering.{entrance_on, entering}
 use Rattle.monitor_spec.specs.Feed.{present_slots}
-pub mod Laws
 
 -- 02, W6: "Offer gives two words"
 pub record EventBits : Type 0 where

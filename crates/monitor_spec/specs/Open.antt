@@ -14,7 +14,6 @@ use Rattle.monitor_spec.specs.State.{slot_count, fill}
 use Rattle.monitor_spec.specs.Entering.{entrance, entering, refusing}
 use Rattle.monitor_spec.specs.Fold.{through}
 use Rattle.monitor_spec.specs.Feed.{take_event, ending_of}
-pub mod Laws
 
 -- 01: "settles the last definition into area 0, zeroes area 1, taken 0"; "An empty set means failed, at .. (0 at
 -- Start)"

@@ -17,7 +17,6 @@ use Rattle.monitor_spec.specs.Joined.{residual_count}
 use Rattle.monitor_spec.specs.Expected.{monitor_onward, monitor_after}
 use Rattle.monitor_spec.specs.Sensible.{Laid}
 use Rattle.monitor_spec.specs.Refusals.{Measured, IsTable}
-pub mod Laws
 
 -- with n slots, k events taken and the residuals rs held: "per event 11, 12, 13"
 pub data Meets (t : Table) (n k : ℕ) (rs : List Residual) (e : ℕ) : ℕ → Type 0 where

@@ -9,8 +9,6 @@ use Rattle.table.specs.Memory.{Memory, digit}
 use Rattle.residuals.specs.Residual.{Residual, leaf, pair}
 use Rattle.monitor_spec.specs.Meaning.{Sound}
 use Rattle.monitor_spec.specs.Valid.{reach_sum}
-pub mod Laws
-pub mod Nodes
 
 -- "memory is below A, zero beyond the term's enclosing prefixes": A is a, and c prefixes enclose
 abbrev pub Remembers : ℕ → ℕ → Memory → Type 0

@@ -24,7 +24,6 @@ use Rattle.monitor_spec.specs.Offer.{EventBits}
 use Rattle.monitor_spec.specs.Offers.{WordsJust}
 use Rattle.monitor_spec.specs.Expected.{if_none}
 use Rattle.monitor_spec.specs.Sensible.{Laid}
-pub mod Laws
 
 -- 01, "Operations": "Lent areas 0 and 1: u64 words, equal lengths, a multiple of 16 from 16 to 4,096. The work area,
 -- .., is 8,192 u64 words"

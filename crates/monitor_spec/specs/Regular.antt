@@ -7,8 +7,6 @@ use Rattle.meaning.specs.Figure1.{body_count, GuardedTable}
 use Rattle.meaning.specs.Closing.{Scoped}
 use Rattle.table.specs.References.{level_in}
 use Rattle.table.specs.Width.{level_width, reach}
-pub mod Least
-pub mod Laws
 
 pub record Regular (t : Table) : Type 0 where
   -- 02, W6: "A may be 1 to 128"

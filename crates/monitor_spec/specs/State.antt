@@ -10,8 +10,6 @@
 -- The laws are in `State/`: `Records`, `Areas`. Assumes nothing.
 use Rattle.std.specs.Prelude.{ℕ, zero, suc, max, ◌/◌, ◌%◌, Bool, true, false, ◌&&◌, List, [], ◌∷◌, length, take, drop, eqb, leb}
 unfoldable pub use Rattle.slots.specs.Canon.{fill}
-pub mod Records
-pub mod Areas
 
 -- "running or failed at a place"
 pub data Verdict : Type 0 where

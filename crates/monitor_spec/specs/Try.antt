@@ -8,7 +8,6 @@ use Rattle.std.specs.Prelude.{ℕ, Bool, true, false, ◌&&◌, List, length, eq
 use Rattle.monitor_spec.specs.State.{Monitor, Answer, given, refused, stopped, Outcome}
 use Rattle.monitor_spec.specs.Entering.{refusing}
 use Rattle.monitor_spec.specs.Feed.{feed_of}
-pub mod Laws
 
 -- "two further areas of the same length"
 unfoldable pub further_measured : Monitor → List ℕ → List ℕ → Bool

@@ -13,9 +13,6 @@ use Rattle.residuals.specs.Residual.{Residual, leaf, pair}
 use Rattle.node_word.specs.Word.{term_of_word, memory_of}
 use Rattle.slots.specs.Canon.{Order, below, same, above, compare_words}
 use Rattle.residuals.specs.Slots.{slot_of}
-pub mod Packing
-pub mod Laws
-pub mod Residuals
 
 -- a parallel takes the two trees after it
 unfoldable pub join_trees : ℕ → Memory → List Residual → Option (List Residual)

@@ -5,7 +5,6 @@
 -- The laws are in `View/Laws.antt`. Assumes nothing.
 use Rattle.std.specs.Prelude.{ℕ, ◌*◌, ◌%◌, true, false, List, length, take, eqb, ltb}
 use Rattle.monitor_spec.specs.State.{Verdict, running, failed_at, State, Monitor, even, choose}
-pub mod Laws
 
 -- which area, 0 or 1, and how many of its words from its beginning
 pub record Part : Type 0 where

@@ -5,7 +5,6 @@
 use Rattle.std.specs.Prelude.{ℕ, ◌*◌, ◌%◌, ◌≤◌, ◌<◌, ◌≡◌, List, [], length, take}
 use Rattle.monitor_spec.specs.State.{running, failed_at, Monitor}
 use Rattle.monitor_spec.specs.View.{Part}
-pub mod Laws
 
 -- "The present area is taken mod 2"
 pub data PartWay (m : Monitor) : Part → List ℕ → Type 0 where

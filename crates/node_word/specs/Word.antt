@@ -8,7 +8,6 @@
 -- nothing.
 use Rattle.std.specs.Prelude.{ℕ, ◌+◌, ◌*◌, ◌/◌, ◌%◌, ◌^◌, ◌<◌}
 use Rattle.table.specs.Memory.{Memory}
-pub mod Laws
 
 -- 02, W6: "memory digits take seven bits"
 unfoldable pub digit_bits : ℕ

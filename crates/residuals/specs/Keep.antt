@@ -3,7 +3,6 @@
 -- The laws are in `Keep/Laws.antt`. Assumes nothing.
 use Rattle.table.specs.Table.{Term}
 use Rattle.table.specs.Memory.{Memory}
-pub mod Laws
 
 unfoldable pub keep : Term → Memory → Memory
 keep p m = m

@@ -13,8 +13,6 @@ use Rattle.table.specs.Memory.{Memory, no_memory, remember}
 use Rattle.table.specs.Member.{member}
 use Rattle.meaning.specs.Figure1.{body_count, last}
 use Rattle.residuals.specs.Keep.{keep}
-pub mod Calls
-pub mod Counts
 
 -- "STOP and a prefix give themselves with their memory"; "parallel itself, with its memory, over every pair"
 pub data Residual : Type 0 where

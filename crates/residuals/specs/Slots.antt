@@ -6,7 +6,6 @@ use Rattle.std.specs.Prelude.{ℕ, ◌-◌, List, [], ◌∷◌, ◌++◌, map, 
 use Rattle.node_word.specs.Word.{pack}
 use Rattle.slots.specs.Canon.{canon}
 use Rattle.residuals.specs.Residual.{Residual, leaf, pair}
-pub mod Laws
 
 -- "nodes with each parallel before its sides"; ours: the left side first
 unfoldable pub nodes : Residual → List ℕ

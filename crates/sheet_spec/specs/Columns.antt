@@ -9,7 +9,6 @@ use Rattle.std.specs.Prelude.{ℕ, ◌+◌, ◌-◌, ◌≡◌, List, [], ◌∷
 use Rattle.decimal.specs.Decimal.{IsDecimal}
 use Rattle.lot_book.specs.declared.entry.Lot.{Lot}
 use Rattle.sheet_spec.specs.Line.{spaces}
-pub mod Laws
 
 abbrev pub columns : ℕ → ℕ → List ℕ → List ℕ
 columns first last l = take (last + 1 - first) (drop (first - 1) l)

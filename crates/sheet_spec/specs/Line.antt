@@ -7,8 +7,6 @@
 use Rattle.std.specs.Prelude.{ℕ, ◌-◌, ◌^◌, ◌≤◌, ◌<◌, ◌≡◌, cond, List, [], ◌∷◌, ◌++◌, length, replicate, eqb}
 use Rattle.decimal.specs.Decimal.{decimal}
 use Rattle.lot_book.specs.declared.entry.Lot.{Lot}
-pub mod Filling
-pub mod Laws
 
 -- "spaces elsewhere": so many
 abbrev pub spaces : ℕ → List ℕ

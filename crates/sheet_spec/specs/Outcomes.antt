@@ -8,7 +8,6 @@ use Rattle.lot_book.specs.Book.{taken_sum}
 use Rattle.lot_book.specs.Written.{book_bytes, GoodBook, BadAt}
 use Rattle.sheet_spec.specs.Sheet.{Outcome, given, refused}
 use Rattle.sheet_spec.specs.Columns.{Printed}
-pub mod Laws
 
 pub record GoodBytes (book : List ℕ) (rs : List Lot) : Type 0 where
   pub whole : book ≡ book_bytes rs

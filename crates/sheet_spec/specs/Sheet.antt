@@ -9,8 +9,6 @@ use Rattle.lot_book.specs.Book.{Book, lots, bad, book_of, taken_sum}
 use Rattle.sheet_spec.specs.declared.answer.Sheet.{Sheet}
 use Rattle.sheet_spec.specs.declared.answer.Sheet.TheVariants.{Given, Refused}
 use Rattle.sheet_spec.specs.Line.{lot_line, total_line}
-pub mod Laws
-pub mod Writing
 
 -- "prints each record on a line"
 unfoldable pub lines_of : List Lot → List ℕ

@@ -8,7 +8,6 @@ use Rattle.std.specs.Prelude.{ℕ, ◌≡◌, Bool, true, false, List}
 use Rattle.sheet_spec.specs.declared.answer.Sheet.{Sheet}
 use Rattle.sheet_spec.specs.declared.answer.Sheet.TheVariants.{Given, Refused}
 use Rattle.sheet_spec.specs.Sheet.{Outcome, given, refused, sheet_of}
-pub mod Laws
 
 pub record SheetCall : Type 0 where
   pub number : ℕ

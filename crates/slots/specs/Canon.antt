@@ -11,12 +11,6 @@ use Rattle.std.specs.Prelude.{ℕ, ◌-◌, ◌*◌, ◌<◌, ◌≡◌, true, f
 use mathlib.Core.List.{List, [], ◌∷◌, ◌++◌, flatten}
 use Rattle.numbers.specs.Every.{All}
 use Rattle.numbers.specs.Some.{Any}
-pub mod Comparison
-pub mod Canonical
-pub mod Members
-pub mod Areas
-pub mod Places
-pub mod Laws
 
 pub data Order : Type 0 where
   below same above : Order

@@ -10,7 +10,6 @@ use Rattle.slots.specs.declared.slots.Inserted.{Inserted}
 use Rattle.slots.specs.declared.slots.Inserted.TheVariants as ins
 use Rattle.slots.specs.declared.slots.Held.{Held}
 use Rattle.slots.specs.declared.slots.Held.TheVariants.{Count, Exceeded}
-pub mod Laws
 
 pub record Outcome : Type 0 where
   pub area : List ℕ

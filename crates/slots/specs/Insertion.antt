@@ -6,9 +6,6 @@
 --     gapped, stored                words moved on by sixteen; a slot over the words from a place on
 --     insertAnswer, insertWords     holding one slot more: what is said, and the words afterwards
 -- The laws are in `Insertion/Laws.antt`, `Insertion/Narrow.antt` and `Insertion/Gap.antt`. Assumes nothing.
-pub mod Laws
-pub mod Narrow
-pub mod Gap
 use Rattle.std.specs.Prelude.{ℕ, zero, suc, ◌+◌, ◌-◌, ◌*◌, ◌/◌, List, ◌++◌, Bool, true, false, cond, length, get_or, take, drop, ltb}
 use Rattle.std.proofs.Math.Seq.{slice, paste}
 use Rattle.slots.specs.Canon.{Order, below, same, above}

@@ -10,7 +10,6 @@ use Rattle.table.specs.declared.answer.Answer as code
 use Rattle.table.specs.declared.answer.Answer.TheVariants.{Count, Refused}
 use Rattle.table.specs.Judge.{judge_bytes, judge_list}
 use Rattle.table.specs.Operations.{Answer, done, refusal, Outcome, read_judged, write_judged}
-pub mod Laws
 
 -- "When the monitor declines": a refusal is its number and its place
 abbrev pub answer_of : code.Answer → Answer

@@ -10,7 +10,6 @@ use Rattle.table.specs.Tokens.{Tokens, token, ended, broken, list_tokens, byte_t
 use Rattle.table.specs.Parser.{Parser, number, pure, and_then, times}
 use Rattle.table.specs.Grammar.{set_of_kind, definitions_of}
 use Rattle.table.specs.Judge.{Judgement, declined, judge_read, sized}
-pub mod Laws
 
 -- 01, "Numbers and table": "A set is kind 0 and one row, or kind 1 and A rows"
 unfoldable pub event_set_before : ℕ → Parser SetDef

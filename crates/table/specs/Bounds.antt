@@ -8,7 +8,6 @@
 -- That every row holds is in `Bounds/Laws.antt`. Assumes nothing.
 use Rattle.std.specs.Prelude.{ℕ, Bool, List, [], ◌∷◌, ◌++◌, replicate}
 use Rattle.table.specs.Examples.{bytes_are, list_is, S0, beside, balanced, copies}
-pub mod Laws
 
 -- ---- bounds that one number breaks
 

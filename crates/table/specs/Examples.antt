@@ -8,7 +8,6 @@
 use Rattle.std.specs.Prelude.{ℕ, zero, suc, Bool, true, ◌&&◌, List, [], ◌∷◌, ◌++◌, length, eqb}
 use Rattle.numbers.specs.Number.{bytes_of}
 use Rattle.table.specs.Judge.{Judgement, accepted, declined, judge_bytes, judge_list}
-pub mod Laws
 
 -- a judgement as two numbers: refusal and place, or 0 and how many numbers the table has
 pub record InNumbers : Type 0 where

@@ -13,7 +13,6 @@ use Rattle.table.specs.Writing.{numbers_of}
 use Rattle.table.specs.References.{first_wrong}
 use Rattle.table.specs.Width.{too_wide}
 use Rattle.table.specs.Branches.{too_many_branches}
-pub mod Laws
 
 pub data Judgement : Type 0 where
   accepted : List ℕ → Table → Judgement

@@ -14,15 +14,6 @@ use Rattle.table.specs.Rows.{alphabet_most, rows_of, rows_fit}
 use Rattle.table.specs.Context.{Each}
 use Rattle.table.specs.Fields.{FamilyRows, IsOne, IsEach, OfRef}
 use Rattle.table.specs.Parser.Mark.{Mark, mark, numbers, Pass}
-pub mod Sequence
-pub mod Sets
-pub mod References
-pub mod TooDeep
-pub mod Terms
-pub mod Definitions
-pub mod Whole
-pub mod Written
-pub mod Exact
 
 -- "events are 0 to A-1", "strictly ascending"
 unfoldable pub event_marks : ℕ → ℕ → List ℕ → List Mark

@@ -4,7 +4,6 @@
 --     remember            a memory with one event more
 -- The laws are in `Memory/Laws.antt`. Assumes nothing.
 use Rattle.std.specs.Prelude.{ℕ, zero, suc}
-pub mod Laws
 
 -- "Memory is four events"
 pub record Memory : Type 0 where

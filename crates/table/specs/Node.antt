@@ -12,10 +12,6 @@ use Rattle.table.specs.declared.terms.Spot.{Spot}
 use Rattle.table.specs.Table.{SetRef, fixed, family, Term, stop, fail, prefix, choice, par, call}
 use Rattle.table.specs.Table.{Definition, Table, size}
 use Rattle.table.specs.Writing.{ref_numbers, term_numbers, definition_numbers, set_numbers}
-pub mod Parts
-pub mod Homes
-pub mod Laws
-pub mod Numbers
 
 -- A Spot says how many prefixes are around a term in its definition, whether a parallel is (1 or 0), whether the term
 -- is a body or a prefix's follower (1 or 0), and the number of its definition.

@@ -7,8 +7,6 @@ use Rattle.std.specs.Prelude.{ℕ, ◌-◌, ◌≤◌, ◌<◌, ◌≡◌, Bool,
 use Rattle.table.specs.Table.{Table}
 use Rattle.numbers.specs.Number.{list_bytes}
 use Rattle.table.specs.Judge.{Judgement, accepted, declined, judge_bytes, judge_list}
-pub mod Laws
-pub mod Ways
 
 pub data Answer : Type 0 where
   done : ℕ → Answer

@@ -23,13 +23,6 @@ use Rattle.table.specs.Width.{all_widths}
 use Rattle.table.specs.Branches.{branches_with, branches_at, all_branches}
 use Rattle.table.specs.Rules.{Rules}
 use Rattle.table.specs.Marks.{Open, Fits}
-pub mod Laws
-pub mod Judged
-pub mod Stops
-pub mod Exact
-pub mod AtNumbers
-pub mod Terms
-pub mod Lowest
 
 -- ---- tests, number by number, term by term and level by level
 

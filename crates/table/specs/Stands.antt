@@ -6,8 +6,6 @@
 use Rattle.std.specs.Prelude.{ℕ, suc, ◌+◌, ◌<◌, List, length, take}
 use Rattle.table.specs.Table.{SetRef, Term, prefix, choice, par, size, Definition, sizes}
 use Rattle.table.specs.Branches.{body_in}
-pub mod Laws
-pub mod Home
 
 pub data Stands (ds : List Definition) : ℕ → ℕ → ℕ → Term → Type 0 where
   body_stands : {h : ℕ} → h < length ds → Stands ds h 0 (sizes (take h ds)) (body_in ds h)

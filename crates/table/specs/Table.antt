@@ -7,7 +7,6 @@
 -- The laws are in `Table/Laws.antt`. Assumes nothing.
 use Rattle.std.specs.Prelude.{ℕ, suc, ◌+◌, ◌-◌, true, false, List, [], ◌∷◌, get_or, take, eqb, ltb}
 use Rattle.std.proofs.Math.Option.{Option, none, some}
-pub mod Laws
 
 -- "A set reference is a set number and, for a kind 1 set, a parameter k"
 pub data SetRef : Type 0 where

@@ -7,9 +7,6 @@
 --     changes                the same by one pass over the windows;  claim ChangesExactly says that they agree
 -- The laws are in `Timetable/`. Assumes nothing.
 use Rattle.std.specs.Prelude.{ℕ, ◌+◌, ◌-◌, ◌%◌, ◌≤◌, ◌<◌, Bool, true, false, cond, ◌&&◌, ◌||◌, List, [], ◌∷◌, ◌≢◌, ltb, leb}
-pub mod Laws
-pub mod Exact
-pub mod Pairs
 
 -- "remainder by 10,080"
 abbrev pub week : ℕ

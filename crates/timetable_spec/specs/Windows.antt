@@ -7,7 +7,6 @@
 -- The laws are in `Windows/Laws.antt`. Assumes nothing.
 use Rattle.std.specs.Prelude.{ℕ, ◌≤◌, ◌<◌, ◌≡◌, List, [], ◌∷◌, ◌⊎◌}
 use Rattle.numbers.specs.Every.{All}
-pub mod Laws
 
 -- "pairs, first minute, .. and last"
 pub record Window : Type 0 where

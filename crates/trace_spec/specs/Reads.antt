@@ -15,7 +15,6 @@ use Rattle.monitor_spec.specs.Feed.{take_event}
 use Rattle.line_spec.specs.Line.{parts, wrong, head_of}
 use Rattle.trace_spec.specs.TraceLine.{TraceLine}
 use Rattle.trace_spec.specs.Trace.{Beginning, begins, declines, beginning_of, event_lines, trace_of}
-pub mod Laws
 
 -- "A refusal is its last line"
 pub data Configuration : Type 0 where

@@ -19,9 +19,6 @@ use Rattle.monitor_spec.specs.Offer.{EventBits, offer_bits}
 use Rattle.line_spec.specs.Line.{Head, parts, wrong, head_of, Line, state_line, fresh, monitor_left}
 use Rattle.line_spec.specs.Line as line
 use Rattle.trace_spec.specs.TraceLine.{TraceLine, starts, takes, refuses}
-pub mod Begun
-pub mod Lines
-pub mod Last
 
 -- ---- before the first event
 

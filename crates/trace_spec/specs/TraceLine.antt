@@ -8,7 +8,6 @@
 use Rattle.std.specs.Prelude.{ℕ, zero, suc, ◌/◌, ◌%◌, ◌≡◌, true, false, List, [], ◌∷◌, ◌++◌, length, eqb}
 use Rattle.monitor_spec.specs.State.{State}
 use Rattle.monitor_spec.specs.Offer.{EventBits, word_bits}
-pub mod Laws
 
 -- the record has events taken, verdict with its place, residuals and peak; the two words are Offer's, of the events
 -- permitted next

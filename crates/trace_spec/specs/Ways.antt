@@ -13,8 +13,6 @@ use Rattle.monitor_spec.specs.Joined.{extend}
 use Rattle.line_spec.specs.Line.{parts, head_of, refused, line_of, monitor_left}
 use Rattle.trace_spec.specs.TraceLine.{TraceLine, starts, refuses, OneFor}
 use Rattle.trace_spec.specs.Trace.{Begins}
-pub mod Each
-pub mod Offers
 
 -- "prints a line at the start and after each event"; "A refusal is its last line": the events taken are 01's, "Every
 -- event before that goes to the list's end"

@@ -14,7 +14,6 @@ use Rattle.monitor_spec.specs.Entering.{judging, entrance, entering}
 use Rattle.timetable_spec.specs.Timetable.{good_timetable}
 use Rattle.wash_spec.specs.Timed.{TimedState, not_started, started, TimedMonitor, plain}
 use Rattle.wash_spec.specs.Taking.{drawing_at}
-pub mod Laws
 
 -- "Each event brings an absolute minute": as many minutes as events, else 1 (docs/DECISIONS.md)
 unfoldable pub timed_measured : TimedMonitor → List ℕ → List ℕ → List ℕ → Bool

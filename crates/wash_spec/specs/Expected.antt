@@ -9,8 +9,6 @@ use Rattle.wash_spec.specs.Timed.{TimedMonitor, stamped}
 use Rattle.wash_spec.specs.Taking.{drawing_at}
 use Rattle.wash_spec.specs.Joined.{Stretch, stretch}
 use Rattle.wash_spec.specs.History.{unstarted}
-pub mod Fresh
-pub mod Steps
 
 unfoldable pub after_minute : Table → Table → List ℕ → ℕ → Option ℕ → List ℕ → TimedMonitor
 after_minute everyday wash windows n none es = unstarted n

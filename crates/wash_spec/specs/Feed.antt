@@ -10,7 +10,6 @@ use Rattle.monitor_spec.specs.Fold.{Ended, through}
 use Rattle.wash_spec.specs.Timed.{TimedMonitor, given, refused, stopped, TimedOutcome}
 use Rattle.wash_spec.specs.Taking.{take_timed}
 use Rattle.wash_spec.specs.Entering.{TimedEntrance, shut, admits, timed_measured, timed_entrance}
-pub mod Laws
 
 -- "Each event brings an absolute minute"
 unfoldable pub timed_pairs : List ℕ → List ℕ → List (ℕ × ℕ)

@@ -14,7 +14,6 @@ use Rattle.monitor_spec.specs.Joined.{residual_count, halts}
 use Rattle.timetable_spec.specs.Timetable.{minute_bound, changes}
 use Rattle.wash_spec.specs.Taking.{drawing_at}
 use Rattle.wash_spec.specs.Feed.{timed_pairs}
-pub mod Laws
 
 -- 01: "Events and work area are each call's own, of any content and length."; "Each event brings an absolute minute"
 pub record TimedCall : Type 0 where

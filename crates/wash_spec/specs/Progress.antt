@@ -21,9 +21,6 @@ use Rattle.wash_spec.specs.Timed.{TimedOutcome}
 use Rattle.wash_spec.specs.Taking.{drawing_at}
 use Rattle.wash_spec.specs.Feed.{events_of, minutes_of}
 use Rattle.wash_spec.specs.Refusals.{TimedMeasured, TimedLaid}
-pub mod Tests
-pub mod Laws
-pub mod Lists
 
 -- "17 clock back, a minute below the last or 2^48 or more"
 abbrev pub ClockBack : TimedState → ℕ → Type 0

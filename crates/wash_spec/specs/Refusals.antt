@@ -14,7 +14,6 @@ use Rattle.monitor_spec.specs.Refusals.{Measured, IsTable}
 use Rattle.timetable_spec.specs.Windows.{Windows}
 use Rattle.wash_spec.specs.Timed.{TimedState, not_started, started, TimedMonitor, plain}
 use Rattle.wash_spec.specs.Taking.{drawing_at}
-pub mod Laws
 
 -- 01: "Lent areas 0 and 1 .."; "Each event brings an absolute minute"
 pub record TimedMeasured (m : TimedMonitor) (es ms w : List ℕ) : Type 0 where

@@ -14,7 +14,6 @@ use Rattle.monitor_spec.specs.Feed.{take_event}
 use Rattle.monitor_spec.specs.Open.{fresh_monitor}
 use Rattle.timetable_spec.specs.Timetable.{minute_bound, in_force, changes}
 use Rattle.wash_spec.specs.Timed.{TimedState, not_started, started, TimedMonitor, plain, stamped}
-pub mod Laws
 
 -- "In wash hours another drawing applies."
 unfoldable pub drawing_at : Table → Table → List ℕ → ℕ → Table

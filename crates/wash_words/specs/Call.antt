@@ -10,7 +10,6 @@ use Rattle.words_spec.specs.Calls.{MonitorCall, unmeasured}
 use Rattle.wash_spec.specs.Timed.{TimedState, TimedMonitor, TimedAnswer, given, refused, stopped, TimedOutcome}
 use Rattle.wash_spec.specs.Feed.{timed_of}
 use Rattle.wash_words.specs.Words.{timed_record_measured, timed_in, timed_words}
-pub mod Laws
 
 -- ---- an answer
 

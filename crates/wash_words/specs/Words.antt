@@ -7,7 +7,6 @@
 use Rattle.std.specs.Prelude.{ℕ, Bool, true, false, List, [], ◌∷◌, ◌++◌, length, get_or, replicate, eqb}
 use Rattle.words_spec.specs.Words.{state_in, words_of}
 use Rattle.wash_spec.specs.Timed.{TimedState, not_started, started}
-pub mod Laws
 
 -- a record slice that is not of seven words is refusal 1, "a lent length is not as above"
 unfoldable pub timed_record_measured : List ℕ → Bool

@@ -15,7 +15,6 @@ use Rattle.monitor_spec.specs.Offer.{Offered, offers, OfferOutcome, offer_of}
 use Rattle.monitor_spec.specs.Offer as operation
 use Rattle.monitor_spec.specs.View.{Part, view_part}
 use Rattle.words_spec.specs.Words.{record_measured, state_in, words_of}
-pub mod Laws
 
 -- ---- Open and Feed
 

@@ -6,7 +6,6 @@
 -- The laws are in `Tables/Laws.antt`. Assumes nothing.
 use Rattle.std.specs.Prelude.{ℕ, ◌≡◌, Bool, true, false, List}
 use Rattle.table.specs.Operations.{Answer, done, refusal, Outcome, read_of, write_of}
-pub mod Laws
 
 pub record TableCall : Type 0 where
   pub number : ℕ

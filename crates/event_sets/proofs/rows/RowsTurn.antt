@@ -13,7 +13,7 @@ use Rattle.table.specs.declared.rows.Row.{Row}
 use Rattle.table.specs.declared.rows.Row.TheVariants.{Mask, NoRow}
 use Rattle.table.specs.Tokens.{tokens_at}
 use Rattle.table.specs.Parser.{refused, got, times}
-use Rattle.table.specs.Parser.Steps.{ReadsPlain, none, reads_snoc, times_done, times_stop}
+use Rattle.table.proofs.Parser.Steps.{ReadsPlain, none, reads_snoc, times_done, times_stop}
 use Rattle.table.specs.Grammar.{row}
 use Rattle.table.specs.Rows.{RowsFit}
 use Rattle.table.specs.Rows.Laws.{fit_less}

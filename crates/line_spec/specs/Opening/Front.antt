@@ -14,11 +14,11 @@ use Rattle.std.proofs.Math.Seq.{take-append_seam}
 use Rattle.table.specs.Table.{Table}
 use Rattle.table.specs.Judge.{Judgement, accepted, declined, judge_bytes}
 use Rattle.table.specs.Operations.{zeros}
-use Rattle.table.specs.Operations.Laws.{length_zeros}
-use Rattle.monitor_spec.specs.Valid.Laws.{and_split}
+use Rattle.table.proofs.Operations.Laws.{length_zeros}
+use Rattle.monitor_spec.proofs.Valid.Laws.{and_split}
 use Rattle.monitor_spec.specs.State.{State, Answer, given, stopped, Outcome}
 use Rattle.monitor_spec.specs.State as state
-use Rattle.monitor_spec.specs.Open.Laws.{empty_never}
+use Rattle.monitor_spec.proofs.Open.Laws.{empty_never}
 use Rattle.line_spec.specs.Line.{Head, parts, wrong, head_of, fresh_on, fresh, monitor_left}
 use Rattle.line_spec.specs.Pieces.{Course, fed, fed_by, front_by, front_head, front_of}
 use Rattle.line_spec.specs.Line.Laws.{head_events}

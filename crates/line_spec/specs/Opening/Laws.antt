@@ -14,18 +14,18 @@ use Rattle.std.proofs.Math.Seq.{take-append_seam}
 use Rattle.table.specs.Table.{Table}
 use Rattle.table.specs.Judge.{Judgement, accepted, declined, judge_list, judge_bytes}
 use Rattle.table.specs.Operations.{zeros, measured, read_judged, read_of}
-use Rattle.table.specs.Operations.Laws.{length_zeros}
+use Rattle.table.proofs.Operations.Laws.{length_zeros}
 use Rattle.table.specs.Operations as read
 use Rattle.residuals.specs.Residual.{residuals_of}
 use Rattle.residuals.specs.Slots.{slots_of}
 use Rattle.monitor_spec.specs.State.{Outcome, areas_measured, work_measured, slot_count, fill}
 use Rattle.monitor_spec.specs.State as state
 use Rattle.monitor_spec.specs.Entering.{refusing}
-use Rattle.monitor_spec.specs.Entering.Laws.{entrance_accepted}
+use Rattle.monitor_spec.proofs.Entering.Laws.{entrance_accepted}
 use Rattle.monitor_spec.specs.Fold.{through}
 use Rattle.monitor_spec.specs.Feed.{take_event, ending_of}
 use Rattle.monitor_spec.specs.Open.{fresh_monitor, open_accepted}
-use Rattle.monitor_spec.specs.Open.Laws.{open_admits, open_declined}
+use Rattle.monitor_spec.proofs.Open.Laws.{open_admits, open_declined}
 use Rattle.line_spec.specs.Line.{fresh_on, fresh}
 use Rattle.line_spec.specs.Pieces.{fed, fed_by}
 use Rattle.line_spec.specs.Opening.{open_refused, started_on, read_then, open_table}

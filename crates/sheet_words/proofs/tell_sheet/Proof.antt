@@ -1,6 +1,6 @@
 -- `sheet_words::tell_sheet` meets its contract, by the cases of an answer. Assumes nothing.
 use borrow.Author.Rules.{rules}
-use Rattle.sheet_words.specs.Call.Laws.{tell_given, tell_refused}
+use Rattle.sheet_words.proofs.Call.Laws.{tell_given, tell_refused}
 use Rattle.sheet_words.proofs.tell_sheet.Statement.{statement}
 use Rattle.sheet_words.proofs.tell_sheet.Tie as tie
 

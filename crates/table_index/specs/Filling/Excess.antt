@@ -26,7 +26,7 @@ use Rattle.table.specs.Branches.{follower_above, body_above, too_many_branches}
 use Rattle.table.specs.Branches.Capped.{capped}
 use Rattle.table.specs.Node.{Node, node, nodes, definition_nodes, nodes_of, definitions_at, node_at, no_node, term_of}
 use Rattle.table.specs.Node.{body_spot, follower_spot, side_spot, beside_spot}
-use Rattle.table.specs.Node.Laws.{length_nodes, length_nodes_of}
+use Rattle.table.proofs.Node.Laws.{length_nodes, length_nodes_of}
 use Rattle.table_index.specs.Layout.{terms_at, term_count_at, entry_digit, branches_digit}
 use Rattle.table_index.specs.Index.{Reaching, table_in}
 use Rattle.table_index.specs.Index.Laws.{digits}

@@ -22,14 +22,14 @@ use Rattle.table.specs.Context.{Each}
 use Rattle.table.specs.Context.Laws.{each_imp}
 use Rattle.table.specs.Branches.{body_in}
 use Rattle.table.specs.Node.{term_of}
-use Rattle.table.specs.Node.Laws.{each_node}
+use Rattle.table.proofs.Node.Laws.{each_node}
 use Rattle.table.specs.Fields.{Fields}
 use Rattle.table.specs.References.{level_in, first_wrong}
 use Rattle.table_index.specs.References.Nodes.{node_links}
 use Rattle.table.specs.Width.{width_with, widest, call_width, next_width, all_widths, level_width}
 use Rattle.table.specs.Width.{reach, first_above, too_wide}
 use Rattle.table.specs.Width.Laws.{above_in}
-use Rattle.table.specs.Width.Reach.{bodies_all, reach_linked}
+use Rattle.table.proofs.Width.Reach.{bodies_all, reach_linked}
 use Rattle.table.specs.Equations.{widest_agree}
 use Rattle.table_index.specs.Layout.{terms_at, widths_at, term_count_at, structure_of, width_digit}
 use Rattle.table_index.specs.Layout.Laws.{reach_same}

@@ -29,9 +29,9 @@ use Rattle.table.specs.Branches.{too_many_branches}
 use Rattle.table.specs.Judge.{accepted, declined, unless_met, placed, judge_read, judge, sized}
 use Rattle.table.specs.Judge.{judge_list}
 use Rattle.table.specs.Refusals.{links}
-use Rattle.table.specs.Refusals.Laws.{length_links, wrong_first}
+use Rattle.table.proofs.Refusals.Laws.{length_links, wrong_first}
 use Rattle.table.specs.BytesRefused.{byte_place}
-use Rattle.table.specs.BytesRefused.Listed.{place_all}
+use Rattle.table.proofs.BytesRefused.Listed.{place_all}
 use Rattle.table_index.specs.Index.{Indexed, table_in}
 use Rattle.table_index.specs.Parse.{Parsed}
 use Rattle.table_index.specs.Judging.{Judging, first_of, Filled, CheckDone, Checked}

@@ -10,7 +10,7 @@ use Rattle.std.proofs.Math.ListN.{take}
 use Rattle.std.proofs.Math.Seq.{take-append_seam}
 use Rattle.table.specs.Judge.{Judgement, accepted, declined, judge_bytes}
 use Rattle.table.specs.Operations.{zeros, done, refusal, read_judged, read_of}
-use Rattle.table.specs.Operations.Laws.{length_zeros}
+use Rattle.table.proofs.Operations.Laws.{length_zeros}
 use Rattle.table.specs.Operations as read
 use Rattle.table.specs.Answers as tableAnswers
 use Rattle.table.specs.declared.answer.Refusal.{Refusal}

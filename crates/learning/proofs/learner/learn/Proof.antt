@@ -6,7 +6,7 @@ use lib.ListN.{length}
 use Rattle.table_index.specs.Index.{table_in}
 use Rattle.index.specs.Facts.{indexed_rules}
 use Rattle.monitor_spec.specs.Regular.{Regular}
-use Rattle.monitor_spec.specs.Regular.Laws.{regular}
+use Rattle.monitor_spec.proofs.Regular.Laws.{regular}
 use Rattle.met_sets.specs.Sets.{Shape}
 use Rattle.taking.specs.Runs.Laws.{ended_refused}
 use Rattle.learning.specs.OverSets.Laws.{out_reached, out_room, out_shape, learn_full, learn_link, learn_kept}

@@ -5,7 +5,7 @@ use native.Mathlib.Omega.{arith}
 use mathlib.Core.Path.{◌≡◌, refl}
 use lib.ListN.{length, drop, length-set}
 use Rattle.slots.specs.Insertion.{stored}
-use Rattle.slots.specs.Insertion.Gap.{stored_none}
+use Rattle.slots.proofs.Insertion.Gap.{stored_none}
 use Rattle.met_sets.specs.Sets.Words.{copy_step}
 use borrow.Author.Rules.{rules}
 use Rattle.met_sets.proofs.words.copy.Statement.{statement}

@@ -6,7 +6,7 @@ use Rattle.table_index.specs.Index.{table_in}
 use Rattle.index.specs.Facts.{indexed_rules, events_few}
 use Rattle.monitor_spec.specs.Regular.{Regular}
 use Rattle.monitor_spec.specs.State.{Monitor}
-use Rattle.monitor_spec.specs.Regular.Laws.{regular}
+use Rattle.monitor_spec.proofs.Regular.Laws.{regular}
 use Rattle.state.specs.Record.{monitor_of}
 use Rattle.met_sets.specs.Runs.Areas.{laid_room}
 use Rattle.taking.specs.Runs.{RunBy, ReachedAt}

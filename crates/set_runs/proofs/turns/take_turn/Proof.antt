@@ -5,7 +5,7 @@ use mathlib.Core.Path.{◌∙◌}
 use Rattle.table_index.specs.Index.{table_in}
 use Rattle.index.specs.Facts.{indexed_rules}
 use Rattle.monitor_spec.specs.Regular.{Regular}
-use Rattle.monitor_spec.specs.Regular.Laws.{regular}
+use Rattle.monitor_spec.proofs.Regular.Laws.{regular}
 use Rattle.set_runs.proofs.turns.Laws.{going_within, going_stands, going_room, going_out, turn_out, turn_learnt}
 use borrow.Author.Rules.{rules}
 use Rattle.set_runs.proofs.turns.take_turn.Statement.{statement}

@@ -6,7 +6,7 @@ use mathlib.Core.Path.{◌≡◌, refl, sym, ◌∙◌}
 use lib.ListN.{length}
 use Rattle.table_index.specs.Index.{table_in}
 use Rattle.index.specs.Facts.{indexed_rules}
-use Rattle.monitor_spec.specs.Regular.Laws.{regular}
+use Rattle.monitor_spec.proofs.Regular.Laws.{regular}
 use Rattle.leaf_memo.specs.Memo.{StoreOf}
 use Rattle.state.specs.Record.{monitor_of}
 use Rattle.taking.specs.Runs.{ReachedAt, RunBy}

@@ -1,6 +1,6 @@
 -- `wash_words::answers::tell_timed` meets its contract, by the cases of an answer. Assumes nothing.
 use borrow.Author.Rules.{rules}
-use Rattle.wash_words.specs.Call.Laws.{tell_given, tell_refused, tell_stopped}
+use Rattle.wash_words.proofs.Call.Laws.{tell_given, tell_refused, tell_stopped}
 use Rattle.wash_words.proofs.answers.tell_timed.Statement.{statement}
 use Rattle.wash_words.proofs.answers.tell_timed.Tie as tie
 

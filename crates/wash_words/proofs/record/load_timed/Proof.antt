@@ -1,7 +1,7 @@
 -- `wash_words::record::load_timed` meets its contract: the word that says whether there is a record is tried, and
 -- `timed_in` reads the same words. Assumes nothing.
 use borrow.Author.Rules.{rules}
-use Rattle.wash_words.specs.Words.Laws.{loaded_none, loaded}
+use Rattle.wash_words.proofs.Words.Laws.{loaded_none, loaded}
 use Rattle.wash_words.proofs.record.load_timed.Statement.{statement}
 use Rattle.wash_words.proofs.record.load_timed.Tie as tie
 

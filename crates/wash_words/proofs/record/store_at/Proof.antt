@@ -1,7 +1,7 @@
 -- `wash_words::record::store_at` meets its contract: five words by `store`, and two stores. Assumes nothing.
 use borrow.Author.Rules.{rules}
 use mathlib.Core.Path.{sym}
-use Rattle.wash_words.specs.Words.Laws.{five_taken, six_kept, stored_at}
+use Rattle.wash_words.proofs.Words.Laws.{five_taken, six_kept, stored_at}
 use Rattle.wash_words.proofs.record.store_at.Statement.{statement}
 use Rattle.wash_words.proofs.record.store_at.Tie as tie
 

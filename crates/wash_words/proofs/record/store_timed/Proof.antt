@@ -1,6 +1,6 @@
 -- `wash_words::record::store_timed` meets its contract, by the cases of a state. Assumes nothing.
 use borrow.Author.Rules.{rules}
-use Rattle.wash_words.specs.Words.Laws.{words_none, words_started}
+use Rattle.wash_words.proofs.Words.Laws.{words_none, words_started}
 use Rattle.wash_words.proofs.record.store_timed.Statement.{statement}
 use Rattle.wash_words.proofs.record.store_timed.Tie as tie
 

@@ -1,6 +1,6 @@
 -- `words::answers::has_record` meets its contract, by the cases of an answer. Assumes nothing.
 use borrow.Author.Rules.{rules}
-use Rattle.words_spec.specs.Calls.Laws.{has_given, has_refused, has_stopped}
+use Rattle.words_spec.proofs.Calls.Laws.{has_given, has_refused, has_stopped}
 use Rattle.words.proofs.answers.has_record.Statement.{statement}
 use Rattle.words.proofs.answers.has_record.Tie as tie
 

@@ -1,6 +1,6 @@
 -- `words::answers::tell` meets its contract, by the cases of an answer. Assumes nothing.
 use borrow.Author.Rules.{rules}
-use Rattle.words_spec.specs.Calls.Laws.{tell_given, tell_refused, tell_stopped}
+use Rattle.words_spec.proofs.Calls.Laws.{tell_given, tell_refused, tell_stopped}
 use Rattle.words.proofs.answers.tell.Statement.{statement}
 use Rattle.words.proofs.answers.tell.Tie as tie
 

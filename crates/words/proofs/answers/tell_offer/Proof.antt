@@ -1,6 +1,6 @@
 -- `words::answers::tell_offer` meets its contract, by the cases of an answer. Assumes nothing.
 use borrow.Author.Rules.{rules}
-use Rattle.words_spec.specs.Calls.Laws.{tell_offers, tell_declined}
+use Rattle.words_spec.proofs.Calls.Laws.{tell_offers, tell_declined}
 use Rattle.words.proofs.answers.tell_offer.Statement.{statement}
 use Rattle.words.proofs.answers.tell_offer.Tie as tie
 

@@ -1,6 +1,6 @@
 -- `words::record::load` meets its contract: `state_in` reads the same five words. Assumes nothing.
 use borrow.Author.Rules.{rules}
-use Rattle.words_spec.specs.Words.Laws.{loaded}
+use Rattle.words_spec.proofs.Words.Laws.{loaded}
 use Rattle.words.proofs.record.load.Statement.{statement}
 use Rattle.words.proofs.record.load.Tie as tie
 

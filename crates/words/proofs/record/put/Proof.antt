@@ -1,6 +1,6 @@
 -- `words::record::put` meets its contract: five stores fill a list of five. Assumes nothing.
 use borrow.Author.Rules.{rules}
-use Rattle.words_spec.specs.Words.Laws.{four_kept, five_stores}
+use Rattle.words_spec.proofs.Words.Laws.{four_kept, five_stores}
 use Rattle.words.proofs.record.put.Statement.{statement}
 use Rattle.words.proofs.record.put.Tie as tie
 

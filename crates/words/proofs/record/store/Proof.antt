@@ -1,6 +1,6 @@
 -- `words::record::store` meets its contract: the verdict says which words `words_of` has. Assumes nothing.
 use borrow.Author.Rules.{rules}
-use Rattle.words_spec.specs.Words.Laws.{words_running, words_failed}
+use Rattle.words_spec.proofs.Words.Laws.{words_running, words_failed}
 use Rattle.words.proofs.record.store.Statement.{statement}
 use Rattle.words.proofs.record.store.Tie as tie
 

@@ -1,6 +1,6 @@
 -- `words::tables::tell_table` meets its contract, by the cases of an answer. Assumes nothing.
 use borrow.Author.Rules.{rules}
-use Rattle.words_spec.specs.Tables.Laws.{tell_count, tell_refused}
+use Rattle.words_spec.proofs.Tables.Laws.{tell_count, tell_refused}
 use Rattle.words.proofs.tables.tell_table.Statement.{statement}
 use Rattle.words.proofs.tables.tell_table.Tie as tie
 

@@ -1,0 +1,5 @@
+-- The laws of `specs/Parser.antt`, a file each. Assumes nothing.
+pub mod Local
+pub mod Sees
+pub mod SeesThen
+pub mod Steps

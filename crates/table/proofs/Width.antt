@@ -1,0 +1,2 @@
+-- The laws of `specs/Width.antt`, a file each. Assumes nothing.
+pub mod Reach
