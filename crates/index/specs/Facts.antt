@@ -21,7 +21,7 @@ use Rattle.table.specs.Branches.{branches, body_in}
 use Rattle.table.specs.Branches.Capped.{capped}
 use Rattle.table.proofs.Width.Reach.{reach_most}
 use Rattle.table.specs.Rules.{Rules}
-use Rattle.table.specs.Rules.Laws.{no_wrong}
+use Rattle.table.proofs.Rules.Laws.{no_wrong}
 use Rattle.table.proofs.Judge.Laws.{list_out}
 use Rattle.table.specs.Node.{term_of, kind_of, left_size, ref_of, called_of, parameter_of}
 use Rattle.table.proofs.Node.Parts.{size_positive}

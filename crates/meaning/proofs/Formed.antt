@@ -18,9 +18,9 @@ use Rattle.table.specs.Branches.{body_in}
 use Rattle.table.specs.Stands.{Stands, body_stands, follower_stands, choice_left_stands, choice_right_stands}
 use Rattle.table.specs.Stands.{par_left_stands, par_right_stands}
 use Rattle.table.specs.References.{first_wrong}
-use Rattle.table.specs.References.Laws.{Linked, BodyLinked}
+use Rattle.table.proofs.References.Laws.{Linked, BodyLinked}
 use Rattle.table.specs.Rules.{Rules}
-use Rattle.table.specs.Rules.Laws.{links_out, no_wrong}
+use Rattle.table.proofs.Rules.Laws.{links_out, no_wrong}
 use Rattle.meaning.specs.Figure1.{plain, body, body_count, last, Guarded, WellFormed, GuardedTable}
 use Rattle.meaning.specs.Closing.{ScopedRef, Scoped}
 use Rattle.meaning.specs.Theorem3.{guarded_more}

@@ -16,7 +16,7 @@ use Rattle.table.specs.Fields.{OfCall, depth_of}
 use Rattle.table.specs.Branches.{branches, body_in}
 use Rattle.table.specs.References.{first_wrong}
 use Rattle.table.specs.Rules.{Rules}
-use Rattle.table.specs.Rules.Laws.{no_wrong}
+use Rattle.table.proofs.Rules.Laws.{no_wrong}
 use Rattle.table.specs.Node.{Node, term_of, kind_of}
 use Rattle.table.proofs.Node.Parts.{size_positive}
 use Rattle.table.proofs.Node.Laws.{follower_node, each_node}

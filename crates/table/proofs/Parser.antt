@@ -3,3 +3,5 @@ pub mod Local
 pub mod Sees
 pub mod SeesThen
 pub mod Steps
+pub mod Mark
+pub mod Laws

@@ -9,7 +9,6 @@ use Rattle.std.proofs.Math.Option.{Option, none}
 use Rattle.table.specs.Table.{Term, stop, fail, prefix, choice, par, call, Definition, Table, size}
 use Rattle.table.specs.First.{or_else, unless}
 use Rattle.table.specs.Grow.{grow}
-pub mod Laws
 pub mod Capped
 
 -- "STOP 1, FAIL 0, prefix 1, choice the sum, parallel the product"

@@ -8,7 +8,6 @@ use Rattle.table.specs.Table.{SetRef, fixed, family, Term, stop, fail, prefix, c
 use Rattle.table.specs.Table.{each, Table, term_count}
 use Rattle.table.specs.Rows.{alphabet_most, rows_in, RowsFit}
 use Rattle.table.specs.Context.{Each}
-pub mod Laws
 
 -- each event is below all that come after it
 abbrev pub Ascending : List ℕ → Type 0

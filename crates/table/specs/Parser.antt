@@ -6,7 +6,6 @@
 -- Assumes nothing.
 use Rattle.std.specs.Prelude.{ℕ, zero, suc, Bool, cond, List, [], ◌∷◌}
 use Rattle.table.specs.Tokens.{Tokens, token, ended, broken}
-pub mod Laws
 pub mod Mark
 
 pub data Result (A : Type 0) : Type 0 where

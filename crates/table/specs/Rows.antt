@@ -7,7 +7,6 @@
 -- The laws are in `Rows/Laws.antt`. Assumes nothing.
 use Rattle.std.specs.Prelude.{ℕ, zero, suc, ◌+◌, ◌<◌, ◌≤◌, Bool, ◌||◌, List, [], ◌∷◌, ◌++◌, leb}
 use Rattle.table.specs.Table.{SetDef, one, each}
-pub mod Laws
 
 -- 02, W6: "A may be 1 to 128"
 abbrev pub alphabet_most : ℕ

@@ -8,7 +8,6 @@
 use Rattle.std.specs.Prelude.{ℕ, zero, suc, ◌+◌, cond, List, [], ◌∷◌, length, drop, eqb}
 use Rattle.std.proofs.Math.Option.{Option, none, some}
 use Rattle.numbers.specs.Number.{Scan, value, truncated, malformed, read_number}
-pub mod Laws
 
 -- `ended at end`: from place `at` on there is no whole number, and the input is `end` long;
 -- `broken at`: at place `at` stands a number not written as it should be

@@ -9,7 +9,6 @@ use Rattle.table.specs.Table.{Term, stop, fail, prefix, choice, par, call, Defin
 use Rattle.table.specs.First.{or_else, unless}
 use Rattle.table.specs.References.{level_in}
 use Rattle.table.specs.Grow.{grow}
-pub mod Laws
 
 -- "STOP and FAIL 1; prefix those of its follower; choice the larger; parallel the sum"
 unfoldable pub width_with : (ℕ → ℕ) → Term → ℕ

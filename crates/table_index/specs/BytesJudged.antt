@@ -15,10 +15,10 @@ use Rattle.numbers.specs.Number.{list_bytes, Incomplete, IllWritten}
 use Rattle.table.specs.declared.answer.Refusal.{Refusal}
 use Rattle.table.specs.declared.answer.Judged.{Judged}
 use Rattle.table.specs.declared.answer.Judged.TheVariants.{Accepted, Declined}
-use Rattle.table.specs.First.Laws.{first_short}
+use Rattle.table.proofs.FirstLaws.{first_short}
 use Rattle.table.specs.Table.{Table}
 use Rattle.table.specs.Tokens.{ended, list_tokens}
-use Rattle.table.specs.Tokens.Laws.{Follows, whole_list, list_whole, nothing_left}
+use Rattle.table.proofs.Tokens.Laws.{Follows, whole_list, list_whole, nothing_left}
 use Rattle.table.specs.Writing.{numbers_of}
 use Rattle.table.specs.Fields.{Fields}
 use Rattle.table.specs.Judge.{Judgement, accepted, declined, judge, judge_bytes}

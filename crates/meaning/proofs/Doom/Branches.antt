@@ -13,8 +13,8 @@ use Rattle.table.specs.Table
 use Rattle.table.specs.Table.{Table, body_of}
 use Rattle.table.specs.Memory.{Memory, no_memory}
 use Rattle.table.specs.Branches.{branches_with, body_in, branches}
-use Rattle.table.specs.Rules.Laws.{no_wrong}
-use Rattle.table.specs.Equations.{branches_call}
+use Rattle.table.proofs.Rules.Laws.{no_wrong}
+use Rattle.table.proofs.Equations.{branches_call}
 use Rattle.table.specs.Rules.{Rules}
 use Rattle.meaning.specs.Figure1.{SetRef, Term, choice, par, call, plain, body, body_count, Guarded, WellFormed}
 use Rattle.meaning.specs.Figure3.{Doomed, d_fail, d_choice, d_left, d_right, d_call}

@@ -2,7 +2,7 @@
 use Rattle.std.specs.Prelude.{ℕ, ◌≤◌, ◌<◌, List, length}
 use Rattle.std.proofs.Common.{arith}
 use Rattle.table.specs.Table.{Table, Definition, body_of}
-use Rattle.table.specs.Context.Laws.{each_here}
+use Rattle.table.proofs.Context.Laws.{each_here}
 use Rattle.table.specs.References.{level_in}
 use Rattle.table.specs.Width.{level_width, reach}
 use Rattle.table.proofs.Width.Reach.{reach_body}

@@ -9,12 +9,13 @@ use Rattle.numbers.specs.Every.{from_at}
 use Rattle.table.specs.Table.{Table, Definition, Term, stop, fail, prefix, choice, par, call, body_of}
 use Rattle.table.specs.Context.{Context, outermost, under_prefix, under_parallel, Throughout}
 use Rattle.table.specs.References.{level_in}
-use Rattle.table.specs.References.Laws.{Linked}
+use Rattle.table.proofs.References.Laws.{Linked}
 use Rattle.table.specs.Width.{width_with, widest, level_width}
 use Rattle.table.proofs.Width.Reach.{widest_at, level_small}
-use Rattle.table.specs.Equations.{call_count, width_level}
+use Rattle.table.specs.Equations.{call_count}
+use Rattle.table.proofs.Equations.{width_level}
 use Rattle.table.specs.Rules.{Rules}
-use Rattle.table.specs.Rules.Laws.{linked, no_wrong}
+use Rattle.table.proofs.Rules.Laws.{linked, no_wrong}
 
 module _ (t : Table) (rules : Rules t) where
   abbrev ds : List Definition

@@ -17,9 +17,9 @@ use Rattle.table.specs.Table.{term_at}
 use Rattle.table.specs.Memory.{Memory, no_memory}
 use Rattle.table.specs.Branches.{branches_with, body_in, branches}
 use Rattle.table.specs.References.{first_wrong}
-use Rattle.table.specs.Equations.{branches_call}
+use Rattle.table.proofs.Equations.{branches_call}
 use Rattle.table.specs.Rules.{Rules}
-use Rattle.table.specs.Rules.Laws.{no_wrong}
+use Rattle.table.proofs.Rules.Laws.{no_wrong}
 use Rattle.table.proofs.Stands.Laws.{number_at}
 use Rattle.meaning.specs.Figure1.{body_count, last, body, plain, Guarded}
 use Rattle.meaning.proofs.Formed.{guarded_table, number_formed}

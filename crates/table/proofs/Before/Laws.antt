@@ -9,10 +9,10 @@ use Rattle.std.proofs.Math.Path.{refl, ap}
 use Rattle.std.proofs.Math.Dec.{leb}
 use Rattle.std.proofs.lemmas.Bool.{lt-leb}
 use Rattle.table.specs.Rows.{alphabet_most, large_above, row_count, rows_of}
-use Rattle.table.specs.Rows.Laws.{fits_small}
+use Rattle.table.proofs.RowLaws.{fits_small}
 use Rattle.table.specs.Tokens.{Tokens, token, ended, broken, place_of, list_tokens, byte_tokens}
 use Rattle.table.specs.Parser.{Result, got, refused, Parser, number, pure, next, and_then, times}
-use Rattle.table.specs.Parser.Laws.{number_out}
+use Rattle.table.proofs.Parser.Laws.{number_out}
 use Rattle.table.proofs.Parser.Steps.{then_stop}
 use Rattle.table.specs.Grammar.{set_of_kind, kind_fits, event_set, event_sets, table}
 use Rattle.table.specs.Judge.{declined, judge_read, judge, sized, judge_list, judge_bytes}

@@ -9,15 +9,15 @@ use Rattle.std.proofs.Math.Option.{Option, none, some}
 use Rattle.numbers.specs.Number.{Bytes, list_bytes, Incomplete, IllWritten}
 use Rattle.numbers.specs.Number.Unread.{read_truncated, read_malformed}
 use Rattle.numbers.specs.Every.{all_right}
-use Rattle.table.specs.First.Laws.{pass_out}
+use Rattle.table.proofs.FirstLaws.{pass_out}
 use Rattle.table.specs.Table.{Table}
 use Rattle.table.specs.Tokens.{list_tokens, byte_tokens}
-use Rattle.table.specs.Tokens.Laws.{follows_list}
+use Rattle.table.proofs.Tokens.Laws.{follows_list}
 use Rattle.table.specs.Parser.{Result, got, refused}
 use Rattle.table.specs.Grammar.{table}
-use Rattle.table.specs.Grammar.Whole.{table_ok_sound}
+use Rattle.table.proofs.Grammar.Whole.{table_ok_sound}
 use Rattle.table.specs.Fields.{Fields}
-use Rattle.table.specs.Fields.Laws.{fields_out}
+use Rattle.table.proofs.Fields.Laws.{fields_out}
 use Rattle.table.specs.Writing.{numbers_of}
 use Rattle.table.specs.References.{first_wrong}
 use Rattle.table.specs.Width.{too_wide}

@@ -13,7 +13,7 @@ use borrow.Author.Tests.{le-ltb, lt-ltb}
 use Rattle.numbers.specs.Number.{Bytes, truncated, malformed, read_number, list_bytes, Incomplete, IllWritten}
 use Rattle.numbers.specs.Number.Unread.{incomplete_read, ill_written_read}
 use Rattle.numbers.specs.Every.{all_right}
-use Rattle.table.specs.First.Laws.{pass_in, first_short}
+use Rattle.table.proofs.FirstLaws.{pass_in, first_short}
 use Rattle.table.specs.Table.{Table}
 use Rattle.table.specs.Tokens.{Tokens, token, ended, broken, list_tokens, byte_tokens_with, byte_tokens, trailing}
 use Rattle.table.specs.Tokens.{place_of}

@@ -12,15 +12,15 @@ use Rattle.std.proofs.Math.Option.{Option, some}
 use Rattle.std.proofs.Math.ListN.{length}
 use Rattle.table.specs.Table.{Table}
 use Rattle.table.specs.Tokens.{Tokens, token, ended, broken, list_tokens, trailing, place_of}
-use Rattle.table.specs.Tokens.Laws.{Follows}
+use Rattle.table.proofs.Tokens.Laws.{Follows}
 use Rattle.table.specs.Parser.{Result, got, refused}
 use Rattle.table.proofs.Parser.Local.{Placed, prepend, prepend_append, values, parted}
 use Rattle.table.proofs.Parser.Local.{Stuck, refusal_of, Ran, finished, stopped}
 use Rattle.table.specs.Grammar.{table}
-use Rattle.table.specs.Grammar.Whole.{table_ok_complete}
+use Rattle.table.proofs.Grammar.Whole.{table_ok_complete}
 use Rattle.table.proofs.Grammar.Local.{table_runs}
 use Rattle.table.specs.Fields.{Fields}
-use Rattle.table.specs.Fields.Laws.{fields_in}
+use Rattle.table.proofs.Fields.Laws.{fields_in}
 use Rattle.table.specs.Writing.{numbers_of}
 use Rattle.table.specs.References.{first_wrong}
 use Rattle.table.specs.Width.{too_wide}

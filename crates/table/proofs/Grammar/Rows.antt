@@ -13,16 +13,16 @@ use Rattle.numbers.specs.Choice.{both_in}
 use Rattle.numbers.specs.Every.{All}
 use Rattle.table.specs.Table.{SetDef, one, each, Table}
 use Rattle.table.specs.Rows.{alphabet_most, large_above, large_rows_most, row_count, rows_of, rows_in, all_rows, RowsFit}
-use Rattle.table.specs.Rows.Laws.{fits_no, fit_less}
+use Rattle.table.proofs.RowLaws.{fits_no, fit_less}
 use Rattle.table.specs.Fields.{FamilyRows, Fields}
-use Rattle.table.specs.Fields.Laws.{fields_in}
+use Rattle.table.proofs.Fields.Laws.{fields_in}
 use Rattle.table.specs.Tokens.{Tokens, token, list_tokens}
-use Rattle.table.specs.Tokens.Laws.{Follows, follows_split, list_follows}
+use Rattle.table.proofs.Tokens.Laws.{Follows, follows_split, list_follows}
 use Rattle.table.specs.Parser.{refused, number}
-use Rattle.table.specs.Parser.Laws.{then_in, number_in}
+use Rattle.table.proofs.Parser.Laws.{then_in, number_in}
 use Rattle.table.proofs.Parser.Steps.{then_stop}
 use Rattle.table.specs.Grammar.{kind_fits, event_set, event_sets, table}
-use Rattle.table.specs.Grammar.Sets.{SetOk, set_complete}
+use Rattle.table.proofs.Grammar.Sets.{SetOk, set_complete}
 use Rattle.table.specs.Writing.{set_numbers}
 use Rattle.table.specs.Judge.{declined, judge_read, judge, sized, judge_list}
 

@@ -10,18 +10,18 @@ use Rattle.table.specs.Table.{Table}
 use Rattle.numbers.specs.Number.{list_bytes}
 use Rattle.numbers.specs.Number.{Bytes}
 use Rattle.table.specs.Tokens.{Tokens, ended, byte_tokens_with, byte_tokens, list_tokens, trailing}
-use Rattle.table.specs.Tokens.Laws.{Follows, list_whole, whole_list, nothing_left, bytes_whole, whole_bytes}
+use Rattle.table.proofs.Tokens.Laws.{Follows, list_whole, whole_list, nothing_left, bytes_whole, whole_bytes}
 use Rattle.table.specs.Parser.{Result, got, refused}
 use Rattle.table.specs.Grammar.{table}
-use Rattle.table.specs.Grammar.Whole.{table_ok_sound, table_ok_complete}
-use Rattle.table.specs.Fields.Laws.{fields_in, fields_out}
+use Rattle.table.proofs.Grammar.Whole.{table_ok_sound, table_ok_complete}
+use Rattle.table.proofs.Fields.Laws.{fields_in, fields_out}
 use Rattle.table.specs.Writing.{numbers_of}
 use Rattle.table.proofs.Writing.Laws.{numbers_small}
 use Rattle.table.specs.References.{first_wrong}
 use Rattle.table.specs.Width.{too_wide}
 use Rattle.table.specs.Branches.{too_many_branches}
 use Rattle.table.specs.Rules.{Rules}
-use Rattle.table.specs.Rules.Laws.{rules_in, no_wrong, no_wide_level, no_many_branches}
+use Rattle.table.proofs.Rules.Laws.{rules_in, no_wrong, no_wide_level, no_many_branches}
 use Rattle.table.specs.Judge.{Judgement, accepted, declined, unless_met, placed, judge_read, judge, judge_bytes}
 use Rattle.table.specs.Judge.{sized, judge_list}
 

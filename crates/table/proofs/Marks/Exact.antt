@@ -5,14 +5,14 @@ use Rattle.std.specs.Prelude.{◌+◌, ◌≡◌, refl, [], ◌++◌, length}
 use Rattle.std.proofs.Common.{subst}
 use Rattle.table.specs.Table.{Table}
 use Rattle.table.specs.Tokens.{list_tokens}
-use Rattle.table.specs.Tokens.Laws.{list_follows}
+use Rattle.table.proofs.Tokens.Laws.{list_follows}
 use Rattle.table.specs.Parser.{got}
 use Rattle.table.specs.Parser.Mark.{Pass}
 use Rattle.table.specs.Grammar.{table}
-use Rattle.table.specs.Grammar.Whole.{table_ok_sound, table_ok_complete}
+use Rattle.table.proofs.Grammar.Whole.{table_ok_sound, table_ok_complete}
 use Rattle.table.specs.Writing.{numbers_of}
 use Rattle.table.specs.Fields.{Fields}
-use Rattle.table.specs.Fields.Laws.{fields_in, fields_out}
+use Rattle.table.proofs.Fields.Laws.{fields_in, fields_out}
 use Rattle.table.specs.Marks.{table_marks, Shape}
 use Rattle.table.proofs.Marks.Whole.{sees_table}
 

@@ -8,7 +8,8 @@ use Rattle.table.specs.Table.{SetRef, fixed, family, Term, stop, fail, prefix, c
 use Rattle.table.specs.Table.{each}
 use Rattle.table.specs.Table.{Definition, Table, size}
 use Rattle.table.specs.Writing.{row_numbers, set_numbers, ref_numbers, term_numbers, definition_numbers, numbers_of}
-use Rattle.table.specs.Parser.Mark.{Mark, mark, numbers, numbers_append}
+use Rattle.table.specs.Parser.Mark.{Mark, mark, numbers}
+use Rattle.table.proofs.Parser.Mark.{numbers_append}
 use Rattle.table.specs.Rows.{rows_of}
 use Rattle.table.specs.Marks.{event_marks, row_marks, set_marks, sets_marks, ref_marks, one_less, term_marks}
 use Rattle.table.specs.Marks.{definition_marks, definitions_marks, table_marks}

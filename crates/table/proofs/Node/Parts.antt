@@ -11,7 +11,7 @@ use Rattle.table.specs.declared.terms.Spot.{Spot}
 use Rattle.table.specs.Table.{SetRef, Term, stop, fail, prefix, choice, par, call, size}
 use Rattle.table.specs.Writing.{ref_numbers, term_numbers}
 use Rattle.table.specs.Context.{Each}
-use Rattle.table.specs.Context.Laws.{each_here}
+use Rattle.table.proofs.Context.Laws.{each_here}
 use Rattle.table.specs.Fields.{depth_of}
 pub use Rattle.table.proofs.Table.Laws.{size_positive}
 use Rattle.table.specs.Node.{Node, node, nodes, no_node, follower_spot, side_spot, beside_spot}

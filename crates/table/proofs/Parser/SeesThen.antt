@@ -11,8 +11,9 @@ use Rattle.std.proofs.Math.ListN.{length, length-append}
 use Rattle.numbers.specs.Every.{all_append}
 use Rattle.table.specs.Tokens.{Tokens, list_tokens}
 use Rattle.table.specs.Parser.{Result, got, refused, Parser, next, and_then}
-use Rattle.table.specs.Parser.Mark.{Mark, numbers, Pass, numbers_append, pass_left, pass_right}
-use Rattle.table.specs.Parser.Mark.{Cuts, in_front, in_back, cuts}
+use Rattle.table.specs.Parser.Mark.{Mark, numbers, Pass}
+use Rattle.table.proofs.Parser.Mark.{numbers_append, pass_left, pass_right}
+use Rattle.table.proofs.Parser.Mark.{Cuts, in_front, in_back, cuts}
 use Rattle.table.proofs.Parser.Sees.{Whole, Partial, Sees}
 
 module _ {A B : Type 0} (R : A → List Mark → Type 0) (S : A → B → List Mark → Type 0) where

@@ -11,7 +11,7 @@ use Rattle.std.proofs.Math.Path.{refl}
 use Rattle.std.proofs.Math.Seq.{drop-length}
 use Rattle.table.specs.Tokens.{Tokens, token, ended, list_tokens, tokens_at}
 use Rattle.table.specs.Parser.{Result, got, refused, Parser, number, pure, next, and_then, times}
-use Rattle.table.specs.Parser.Laws.{then_in}
+use Rattle.table.proofs.Parser.Laws.{then_in}
 
 -- ---- tokensAt
 

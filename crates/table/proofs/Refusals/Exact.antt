@@ -15,16 +15,16 @@ use Rattle.std.proofs.Math.Dec.{ltb}
 use borrow.Author.Tests.{lt-ltb, ltb-true}
 use Rattle.numbers.specs.Number.{list_bytes}
 use Rattle.table.specs.First.{first_false, FirstAt}
-use Rattle.table.specs.First.Laws.{first_in, first_out, pass_in, pass_out, first_short}
+use Rattle.table.proofs.FirstLaws.{first_in, first_out, pass_in, pass_out, first_short}
 use Rattle.table.specs.Table.{Table}
 use Rattle.table.specs.Tokens.{Tokens, ended, list_tokens, trailing, place_of}
-use Rattle.table.specs.Tokens.Laws.{Follows, list_follows, follows_list, whole_list, list_whole}
-use Rattle.table.specs.Tokens.Laws.{nothing_left}
+use Rattle.table.proofs.Tokens.Laws.{Follows, list_follows, follows_list, whole_list, list_whole}
+use Rattle.table.proofs.Tokens.Laws.{nothing_left}
 use Rattle.table.specs.Parser.{got, refused}
 use Rattle.table.specs.Grammar.{table}
-use Rattle.table.specs.Grammar.Whole.{table_ok_sound, table_ok_complete}
+use Rattle.table.proofs.Grammar.Whole.{table_ok_sound, table_ok_complete}
 use Rattle.table.specs.Fields.{Fields}
-use Rattle.table.specs.Fields.Laws.{fields_in, fields_out}
+use Rattle.table.proofs.Fields.Laws.{fields_in, fields_out}
 use Rattle.table.specs.Writing.{numbers_of}
 use Rattle.table.specs.Judge.{Judgement, accepted, declined, unless_met, placed, judge_read, judge, sized}
 use Rattle.table.specs.Judge.{judge_list}

@@ -13,7 +13,7 @@ use Rattle.std.proofs.Math.Option.{none}
 use Rattle.std.proofs.Math.ListN.{length, length-append}
 use Rattle.std.proofs.lemmas.List.{length-replicate}
 use Rattle.table.specs.First.{or_else, unless, first_false}
-use Rattle.table.specs.First.Laws.{first_false_append}
+use Rattle.table.proofs.FirstLaws.{first_false_append}
 use Rattle.table.specs.Table.{SetRef, fixed, family, Term, stop, fail, prefix, choice, par, call, Definition}
 use Rattle.table.specs.Table.{Table, size}
 use Rattle.table.specs.Context.{Context, outermost, under_prefix, under_parallel}

@@ -16,16 +16,16 @@ use Rattle.std.proofs.Math.ListN.{length}
 use Rattle.numbers.specs.Choice.{cond_cases}
 use Rattle.numbers.specs.Every.{All, AllFrom, from_at}
 use Rattle.table.specs.Grow.{grow}
-use Rattle.table.specs.Grow.Laws.{length_grow, get_d_grow, grow_stable}
+use Rattle.table.proofs.Grow.Laws.{length_grow, get_d_grow, grow_stable}
 use Rattle.table.specs.Table.{Term, stop, fail, prefix, choice, par, call, Definition, Table}
 use Rattle.table.specs.Context.{Context, outermost, under_prefix, under_parallel, Throughout, Each}
-use Rattle.table.specs.Context.Laws.{each_imp}
+use Rattle.table.proofs.Context.Laws.{each_imp}
 use Rattle.table.specs.References.{level_in}
-use Rattle.table.specs.References.Laws.{Linked}
+use Rattle.table.proofs.References.Laws.{Linked}
 use Rattle.table.specs.Width.{width_with, widest, call_width, next_width, all_widths, level_width, reach}
 use Rattle.table.specs.Branches.{body_in}
 use Rattle.table.specs.Rules.{Rules}
-use Rattle.table.specs.Rules.Laws.{linked}
+use Rattle.table.proofs.Rules.Laws.{linked}
 
 -- a level is at least as wide as each of its bodies
 pub widest_at : (f : Term → ℕ) (l : ℕ) (ds : List Definition) (z : Definition) (d : ℕ) → d < length ds

@@ -11,10 +11,10 @@ use Rattle.table.specs.Table.{each, Definition, Table}
 use Rattle.table.specs.Rows.{alphabet_most}
 use Rattle.table.specs.Context.{Context, outermost, under_prefix, under_parallel, Each, Throughout}
 use Rattle.table.specs.Fields.{OfRef, OfCall}
-use Rattle.table.specs.Fields.Laws.{fields_in, run_out}
-use Rattle.table.specs.Grammar.Sets.{RowOk, SetOk}
-use Rattle.table.specs.Grammar.Terms.{RefOk}
-use Rattle.table.specs.Grammar.Whole.{DefinitionOk}
+use Rattle.table.proofs.Fields.Laws.{fields_in, run_out}
+use Rattle.table.proofs.Grammar.Sets.{RowOk, SetOk}
+use Rattle.table.proofs.Grammar.Terms.{RefOk}
+use Rattle.table.proofs.Grammar.Whole.{DefinitionOk}
 use Rattle.table.specs.Writing.{row_numbers, set_numbers, ref_numbers, term_numbers, definition_numbers, numbers_of}
 use Rattle.table.specs.Rules.{Rules}
 

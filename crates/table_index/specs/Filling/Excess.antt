@@ -17,7 +17,7 @@ use borrow.Author.Tests.{eq-eqb, ne_eqb, le-leb, lt-leb, lt-ltb, le-ltb, not-tru
 use Rattle.table.specs.declared.answer.First.TheVariants.{Nowhere, Broken}
 use Rattle.table.specs.declared.terms.Spot.{Spot}
 use Rattle.table.specs.First.{or_else, unless, first_false}
-use Rattle.table.specs.First.Laws.{or_else_assoc, first_false_append, first_in, pass_in}
+use Rattle.table.proofs.FirstLaws.{or_else_assoc, first_false_append, first_in, pass_in}
 use Rattle.table.specs.Table.{Term, stop, fail, prefix, choice, par, call, Definition, Table, size, term_count}
 use Rattle.table.specs.Fields.{Fields}
 use Rattle.table.specs.Writing.{ref_numbers, term_numbers, definition_numbers}

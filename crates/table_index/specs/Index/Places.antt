@@ -10,10 +10,10 @@ use Rattle.table.specs.declared.terms.Spot.{Spot}
 use Rattle.table.specs.Table.{fixed, family, Term, stop, fail, prefix, choice, par, call}
 use Rattle.table.specs.Table.{Definition, Table, term_count}
 use Rattle.table.specs.Tokens.{list_tokens}
-use Rattle.table.specs.Tokens.Laws.{follows_list}
+use Rattle.table.proofs.Tokens.Laws.{follows_list}
 use Rattle.table.specs.Parser.{Result, got, refused}
 use Rattle.table.specs.Grammar.{table}
-use Rattle.table.specs.Grammar.Whole.{table_ok_sound}
+use Rattle.table.proofs.Grammar.Whole.{table_ok_sound}
 use Rattle.table.specs.Fields.{Fields}
 use Rattle.table.specs.Writing.{ref_numbers, term_numbers, definition_numbers, set_numbers, numbers_of}
 use Rattle.table.specs.Node.{Node, node_at, term_of, ref_of, parameter_of, definitions_at}

@@ -20,7 +20,7 @@ use Rattle.table.specs.Tokens.{tokens_at}
 use Rattle.table.specs.Parser.{pure}
 use Rattle.table.proofs.Parser.Steps.{then_got, then_stop}
 use Rattle.table.specs.Grammar.{set_ref, term_of_kind, term_with}
-use Rattle.table.specs.Grammar.Terms.{term_sound}
+use Rattle.table.proofs.Grammar.Terms.{term_sound}
 use Rattle.table.specs.Writing.{ref_numbers, term_numbers}
 use Rattle.table.specs.Node.{node, nodes, kind_of, left_size, ref_of, follower_spot, side_spot, beside_spot}
 use Rattle.table_index.specs.Layout.{terms_at}

@@ -12,7 +12,7 @@ use mathlib.Core.List.{List, [], ◌∷◌, flat_map}
 use Rattle.numbers.specs.Choice.{T_true, true_T}
 use Rattle.numbers.specs.Every.{All}
 use Rattle.table.specs.Tokens.{Tokens, token, ended, broken}
-use Rattle.table.specs.Tokens.Laws.{Follows, follows_split, follows_join}
+use Rattle.table.proofs.Tokens.Laws.{Follows, follows_split, follows_join}
 use Rattle.table.specs.Parser.{Result, got, refused, Parser, number, pure, next, and_then, times}
 
 -- ---- pure and and_then

@@ -10,12 +10,12 @@ use Rattle.numbers.specs.Every.{All, all_imp, all_and}
 use Rattle.table.specs.Table.{SetRef, Term, stop, fail, prefix, choice, par, call, SetDef, one}
 use Rattle.table.specs.Table.{each, Definition, Table}
 use Rattle.table.specs.Context.{Each}
-use Rattle.table.specs.Context.Laws.{each_imp, each_and}
+use Rattle.table.proofs.Context.Laws.{each_imp, each_and}
 use Rattle.table.specs.Fields.{RefExists, ParamSmall, OfRef, OfCall, depth_of, Ascending, EachRow, FamilyRows}
 use Rattle.table.specs.Fields.{Fields}
-use Rattle.table.specs.Grammar.Sets.{Run, RowOk, SetOk}
-use Rattle.table.specs.Grammar.Terms.{RefOk}
-use Rattle.table.specs.Grammar.Whole.{DefinitionOk, TableOk}
+use Rattle.table.proofs.Grammar.Sets.{Run, RowOk, SetOk}
+use Rattle.table.proofs.Grammar.Terms.{RefOk}
+use Rattle.table.proofs.Grammar.Whole.{DefinitionOk, TableOk}
 
 -- ---- references
 module _ (X Y : SetRef → Type 0) where

@@ -4,7 +4,7 @@
 use Rattle.std.specs.Prelude.{ℕ, zero, suc, ◌≤◌, ◌≡◌, refl, List, [], ◌∷◌, get_or, leb}
 use Rattle.std.proofs.Common.{arith, leb→le, le→leb}
 use Rattle.std.proofs.Math.Option.{none}
-use Rattle.table.specs.First.Laws.{or_else_out, or_else_in, unless_out, unless_in}
+use Rattle.table.proofs.FirstLaws.{or_else_out, or_else_in, unless_out, unless_in}
 use Rattle.table.specs.Width.{first_above}
 
 pub above_out : (bound i : ℕ) (l : List ℕ) → first_above bound i l ≡ none → (j : ℕ) → get_or l j 0 ≤ bound

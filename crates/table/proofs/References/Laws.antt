@@ -11,7 +11,7 @@ use Rattle.std.proofs.Math.ListN.{length}
 use Rattle.std.proofs.Math.Dec.{ltb, leb→le, ltb→lt}
 use Rattle.numbers.specs.Choice.{both, both_in, either, either_left, either_right}
 use Rattle.numbers.specs.Every.{AllFrom}
-use Rattle.table.specs.First.Laws.{or_else_out, or_else_in, unless_out, unless_in}
+use Rattle.table.proofs.FirstLaws.{or_else_out, or_else_in, unless_out, unless_in}
 use Rattle.table.specs.Table.{SetRef, fixed, family, Term, stop, fail, prefix, choice, par, call, Definition}
 use Rattle.table.specs.Context.{Context, outermost, under_prefix, under_parallel, Enclosed, Throughout}
 use Rattle.table.specs.Fields.{OfRef, OfCall}

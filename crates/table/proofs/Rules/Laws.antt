@@ -10,15 +10,15 @@ use Rattle.std.proofs.Math.Option.{none}
 use Rattle.numbers.specs.Every.{all_imp, all_and, from_imp, from_and}
 use Rattle.table.specs.Table.{Term, stop, fail, prefix, choice, par, call, Definition, Table}
 use Rattle.table.specs.Context.{Context, outermost, Enclosed, Throughout, Followers}
-use Rattle.table.specs.Context.Laws.{throughout_imp, throughout_and}
+use Rattle.table.proofs.Context.Laws.{throughout_imp, throughout_and}
 use Rattle.table.specs.Fields.{OfRef, OfCall, Fields}
-use Rattle.table.specs.Fields.Laws.{of_call_imp}
+use Rattle.table.proofs.Fields.Laws.{of_call_imp}
 use Rattle.table.specs.References.{level_in, first_wrong}
-use Rattle.table.specs.References.Laws.{CallOk, Linked, from_out, from_in}
+use Rattle.table.proofs.References.Laws.{CallOk, Linked, from_out, from_in}
 use Rattle.table.specs.Width.{all_widths, level_width, too_wide}
-use Rattle.table.specs.Width.Laws.{above_out, above_in}
+use Rattle.table.proofs.Width.Laws.{above_out, above_in}
 use Rattle.table.specs.Branches.{branches_at, all_branches, branches, too_many_branches}
-use Rattle.table.specs.Branches.Laws.{Few, bodies_out, bodies_in}
+use Rattle.table.proofs.Branches.Laws.{Few, bodies_out, bodies_in}
 use Rattle.table.specs.Rules.{InBodies, Rules}
 
 module _ (t : Table) where

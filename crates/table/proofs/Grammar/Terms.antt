@@ -15,9 +15,9 @@ use Rattle.table.specs.Table.{each, size}
 use Rattle.table.specs.Context.{Each}
 use Rattle.table.specs.Fields.{IsOne, IsEach, RefExists, ParamSmall, OfRef, depth_of}
 use Rattle.table.specs.Tokens.{Tokens}
-use Rattle.table.specs.Tokens.Laws.{Follows, follows_split, follows_join}
+use Rattle.table.proofs.Tokens.Laws.{Follows, follows_split, follows_join}
 use Rattle.table.specs.Parser.{Result, got, Parser, pure}
-use Rattle.table.specs.Parser.Laws.{pure_out, then_out, then_in, number_out, number_in, Sound, Complete}
+use Rattle.table.proofs.Parser.Laws.{pure_out, then_out, then_in, number_out, number_in, Sound, Complete}
 use Rattle.table.specs.Grammar.{ref_of_kind, set_ref, term_of_kind, term_with}
 use Rattle.table.specs.Writing.{ref_numbers, term_numbers}
 

@@ -12,12 +12,12 @@ use Rattle.numbers.specs.Choice.{both, both_in}
 use Rattle.numbers.specs.Every.{All}
 use Rattle.table.specs.Table.{SetDef, one, each}
 use Rattle.table.specs.Rows.{row_count, rows_of, rows_in, RowsFit, rows_fit}
-use Rattle.table.specs.Rows.Laws.{fits_out, fits_in, fit_less}
+use Rattle.table.proofs.RowLaws.{fits_out, fits_in, fit_less}
 use Rattle.table.specs.Tokens.{Tokens}
-use Rattle.table.specs.Tokens.Laws.{Follows, follows_split, follows_join}
+use Rattle.table.proofs.Tokens.Laws.{Follows, follows_split, follows_join}
 use Rattle.table.specs.Parser.{got, pure}
-use Rattle.table.specs.Parser.Laws.{pure_out, then_out, then_in, number_out, number_in, Sound, Complete}
-use Rattle.table.specs.Parser.Laws.{times_sound, times_complete}
+use Rattle.table.proofs.Parser.Laws.{pure_out, then_out, then_in, number_out, number_in, Sound, Complete}
+use Rattle.table.proofs.Parser.Laws.{times_sound, times_complete}
 use Rattle.table.specs.Grammar.{events, row, set_of_kind, kind_fits, event_set, event_sets}
 use Rattle.table.specs.Writing.{row_numbers, set_numbers}
 

@@ -10,7 +10,7 @@ use Rattle.std.proofs.Math.Option.{none}
 use Rattle.std.proofs.Common.{leb→le, le→leb}
 use Rattle.numbers.specs.Every.{All}
 use Rattle.table.specs.First.{unless}
-use Rattle.table.specs.First.Laws.{or_else_out, or_else_in, unless_out, unless_in}
+use Rattle.table.proofs.FirstLaws.{or_else_out, or_else_in, unless_out, unless_in}
 use Rattle.table.specs.Table.{Term, stop, fail, prefix, choice, par, call, Definition, size}
 use Rattle.table.specs.Context.{Followers}
 use Rattle.table.specs.Branches.{branches_with, follower_above, body_above}

@@ -12,16 +12,16 @@ use Rattle.numbers.specs.Choice.{both, both_in}
 use Rattle.numbers.specs.Every.{All}
 use Rattle.table.specs.Table.{SetDef, one, Definition, Table, size, sizes, term_count}
 use Rattle.table.specs.Rows.{alphabet_most, rows_in, RowsFit}
-use Rattle.table.specs.Rows.Laws.{fit_less}
+use Rattle.table.proofs.RowLaws.{fit_less}
 use Rattle.table.specs.Context.{Each}
 use Rattle.table.specs.Fields.{OfRef, depth_of}
 use Rattle.table.specs.Tokens.{Tokens}
-use Rattle.table.specs.Tokens.Laws.{Follows, follows_split, follows_join}
+use Rattle.table.proofs.Tokens.Laws.{Follows, follows_split, follows_join}
 use Rattle.table.specs.Parser.{got, pure}
-use Rattle.table.specs.Parser.Laws.{pure_out, then_out, then_in, number_out, number_in, Sound, Complete}
+use Rattle.table.proofs.Parser.Laws.{pure_out, then_out, then_in, number_out, number_in, Sound, Complete}
 use Rattle.table.specs.Grammar.{definition, definitions_of, table}
-use Rattle.table.specs.Grammar.Sets.{SetOk, sets_sound, sets_complete}
-use Rattle.table.specs.Grammar.Terms.{RefOk, term_sound, term_complete}
+use Rattle.table.proofs.Grammar.Sets.{SetOk, sets_sound, sets_complete}
+use Rattle.table.proofs.Grammar.Terms.{RefOk, term_sound, term_complete}
 use Rattle.table.specs.Writing.{set_numbers, term_numbers, definition_numbers, numbers_of}
 
 -- ---- definitions
