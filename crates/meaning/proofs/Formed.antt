@@ -23,7 +23,7 @@ use Rattle.table.specs.Rules.{Rules}
 use Rattle.table.proofs.Rules.Laws.{links_out, no_wrong}
 use Rattle.meaning.specs.Figure1.{plain, body, body_count, last, Guarded, WellFormed, GuardedTable}
 use Rattle.meaning.specs.Closing.{ScopedRef, Scoped}
-use Rattle.meaning.specs.Theorem3.{guarded_more}
+use Rattle.meaning.proofs.Theorem3.{guarded_more}
 
 -- ---- of a body whose references keep the rules
 

@@ -7,3 +7,8 @@ pub mod Figure2
 pub mod Formed
 pub mod Holds
 pub mod Models
+pub mod FigureExamples
+pub mod ClosedResiduals
+pub mod ClosedResidualsHold
+pub mod Figure3
+pub mod Theorem3

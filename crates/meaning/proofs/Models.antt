@@ -14,7 +14,7 @@ use Rattle.meaning.proofs.Figure2.Closed.{model_closed}
 use Rattle.meaning.specs.Figure3.{Chain, Viable}
 use Rattle.meaning.specs.Holds.{Merge, m_none, m_both, m_left, m_right}
 use Rattle.meaning.specs.Holds.{Holds, h_stop, h_wait, h_prefix, h_left, h_right, h_par, h_call}
-use Rattle.meaning.specs.Theorem3.{guarded_more, guarded_sub, chain_formed, theorem3, lemma5}
+use Rattle.meaning.proofs.Theorem3.{guarded_more, guarded_sub, chain_formed, theorem3, lemma5}
 
 -- ---- beginnings
 

@@ -3,18 +3,18 @@
 use mathlib.Core.List.{[]}
 use mathlib.Core.Logic.{⊎_elim}
 use mathlib.Core.Path.{refl}
-use Rattle.meaning.specs.FigureExamples.{facts}
+use Rattle.meaning.proofs.FigureExamples.{facts}
 use Rattle.meaning.proofs.Formed
 use Rattle.meaning.proofs.Formed.{last_exists, body_formed}
 use Rattle.meaning.specs.Figure1.{call, body, last}
 use Rattle.meaning.proofs.Figure2.Laws.{parallel_closed, is_parallel, parallel_only}
 use Rattle.meaning.proofs.Figure2.Closed.{model_closed}
 use Rattle.meaning.specs.Figure3.{event, τ}
-use Rattle.meaning.specs.Figure3.Laws
+use Rattle.meaning.proofs.Figure3.Laws
 use Rattle.meaning.specs.Holds.{Holds}
 use Rattle.meaning.proofs.Holds.Alphabet.{holds_below, step_below}
-use Rattle.meaning.specs.Theorem3
-use Rattle.meaning.specs.Doom
+use Rattle.meaning.proofs.Theorem3
+use Rattle.meaning.proofs.Doom
 use Rattle.meaning.proofs.Doom.Branches
 use Rattle.meaning.proofs.Doom.Falls
 use Rattle.meaning.proofs.Models.{holds_model, holds_only, theorem3_model, lemma5_model}

@@ -10,7 +10,6 @@ use mathlib.Core.List.{List, [], ◌∷◌, ◌++◌, map, flat_map}
 use Rattle.table.specs.Table.{Table}
 use Rattle.meaning.specs.Figure1.{SetRef, Term, stop, fail, prefix, choice, par, call, body, body_count}
 use Rattle.meaning.specs.Figure1.{member, sub}
-pub mod Resolved
 
 unfoldable pub pairs : SetRef → List Term → List Term → List Term
 pairs E ps qs = flat_map (λ p. map (par E p) qs) ps

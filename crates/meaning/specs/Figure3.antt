@@ -7,7 +7,6 @@
 use Rattle.std.specs.Prelude.{ℕ, not, List, [], ◌∷◌, T}
 use Rattle.table.specs.Table.{Table}
 use Rattle.meaning.specs.Figure1.{SetRef, Term, fail, prefix, choice, par, call, body, member, sub}
-pub mod Laws
 
 -- "Action a ::= e | τ"
 pub data Action : Type 0 where

@@ -9,7 +9,5 @@ pub mod FigureExamples
 pub mod Examples
 pub mod Claims
 pub mod Holds
-pub mod Theorem3
 pub mod Doom
 pub mod ClosedResiduals
-pub mod ClosedResidualsHold

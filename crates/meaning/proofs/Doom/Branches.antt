@@ -18,7 +18,7 @@ use Rattle.table.proofs.Equations.{branches_call}
 use Rattle.table.specs.Rules.{Rules}
 use Rattle.meaning.specs.Figure1.{SetRef, Term, choice, par, call, plain, body, body_count, Guarded, WellFormed}
 use Rattle.meaning.specs.Figure3.{Doomed, d_fail, d_choice, d_left, d_right, d_call}
-use Rattle.meaning.specs.Figure3.Laws.{call_doomed}
+use Rattle.meaning.proofs.Figure3.Laws.{call_doomed}
 use Rattle.meaning.specs.Closing.{close}
 use Rattle.meaning.proofs.Closing.Laws.{close_plain}
 use Rattle.meaning.proofs.Formed.{rules_guarded, rules_scoped}

@@ -9,8 +9,8 @@ use Rattle.meaning.specs.Figure1.{SetRef, Term, stop, fail, prefix, choice, par,
 use Rattle.meaning.specs.Figure3.{τ, Doomed, d_choice, d_left, d_right, Viable}
 use Rattle.meaning.specs.Figure3.{Step, choice_τ_left, choice_τ_right, par_left, par_right, doomed_left}
 use Rattle.meaning.specs.Figure3.{doomed_right, choice_fail, fail_left, fail_right, Chain, chain_none, chain_τ}
-use Rattle.meaning.specs.Theorem3.{doomed_empty, term_decided}
-use Rattle.meaning.specs.Doom.{doomed_stays}
+use Rattle.meaning.proofs.Theorem3.{doomed_empty, term_decided}
+use Rattle.meaning.proofs.Doom.{doomed_stays}
 
 module _ (t : Table) where
   doomed_or_viable : (P : Term) → CallFree P → Doomed t P ⊎ Viable t P

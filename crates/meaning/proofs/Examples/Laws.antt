@@ -28,12 +28,12 @@ use Rattle.table.specs.Examples as InBytes
 use Rattle.meaning.proofs.Formed.{rules_guarded, last_exists}
 use Rattle.meaning.specs.Figure1 as F
 use Rattle.meaning.specs.Figure1.{plain_ref, plain, body, body_count, last, member, sub_arg, sub_set, sub}
-use Rattle.meaning.specs.Theorem3.{theorem3}
+use Rattle.meaning.proofs.Theorem3.{theorem3}
 use Rattle.meaning.proofs.Models.{holds_only}
 use Rattle.meaning.specs.ClosedResiduals as C
 use Rattle.meaning.specs.ClosedResiduals.{pairs, resolve_with, resolve_call, resolve_closed, after_event, run}
 use Rattle.meaning.specs.ClosedResiduals.{residuals}
-use Rattle.meaning.specs.ClosedResidualsHold.{residuals_hold}
+use Rattle.meaning.proofs.ClosedResidualsHold.{residuals_hold}
 use Rattle.meaning.specs.Doom.{only_fail}
 use Rattle.meaning.specs.Examples.{table_of, Row, Meant, EachMeant, no_row, one_row, abstract_b, rows}
 

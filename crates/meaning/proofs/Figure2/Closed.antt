@@ -7,7 +7,7 @@ use Rattle.meaning.specs.Figure1.{Term, stop, fail, prefix, choice, par, call, b
 use Rattle.meaning.specs.Figure1.{Guarded, GuardedTable, WellFormed, body_count}
 use Rattle.meaning.specs.Figure2.{TraceSet, PrefixClosed, Model}
 use Rattle.meaning.proofs.Figure2.Laws.{parallel_closed}
-use Rattle.meaning.specs.Theorem3.{guarded_sub}
+use Rattle.meaning.proofs.Theorem3.{guarded_sub}
 
 module _ (t : Table) (H : Term → TraceSet) (model : Model t H) where
   -- of the beginnings shorter than n

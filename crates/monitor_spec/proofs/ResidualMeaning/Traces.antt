@@ -16,7 +16,7 @@ use Rattle.meaning.proofs.Models.{holds_only}
 use Rattle.numbers.specs.Every.{All, all_imp}
 use Rattle.numbers.specs.Some.{any_unmap, Any, any_all, any_map, all_map}
 use Rattle.meaning.specs.ClosedResiduals as C
-use Rattle.meaning.specs.ClosedResidualsHold.{Ready, Has, run_holds, residuals_hold}
+use Rattle.meaning.proofs.ClosedResidualsHold.{Ready, Has, run_holds, residuals_hold}
 use Rattle.table.proofs.Stands.Laws.{number_at}
 use Rattle.table.specs.Memory.{Memory}
 use Rattle.meaning.proofs.Formed.{number_formed}

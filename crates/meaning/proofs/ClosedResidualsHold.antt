@@ -13,11 +13,11 @@ use Rattle.table.specs.Table.{Table}
 use Rattle.meaning.specs.Figure1.{SetRef, Term, stop, fail, prefix, choice, par, call, member, sub}
 use Rattle.meaning.specs.Figure1.{GuardedTable, WellFormed}
 use Rattle.meaning.specs.Holds.{m_both, m_left, m_right, Holds, h_prefix, h_par}
-use Rattle.meaning.specs.Theorem3.{guarded_sub}
+use Rattle.meaning.proofs.Theorem3.{guarded_sub}
 use Rattle.meaning.specs.ClosedResiduals.{pairs, resolve_closed, after_event, run, residuals, Inhabited}
-use Rattle.meaning.specs.ClosedResiduals.Resolved.{any_pairs, all_pairs, Resolved, Into, closed_into}
-use Rattle.meaning.specs.ClosedResiduals.Resolved.{closed_out, closed_resolved, resolved_holds, closed_formed}
-pub use Rattle.meaning.specs.ClosedResiduals.Resolved.{Has}
+use Rattle.meaning.proofs.ClosedResiduals.Resolved.{any_pairs, all_pairs, Resolved, Into, closed_into}
+use Rattle.meaning.proofs.ClosedResiduals.Resolved.{closed_out, closed_resolved, resolved_holds, closed_formed}
+pub use Rattle.meaning.proofs.ClosedResiduals.Resolved.{Has}
 
 -- ---- of an answer by a test
 
