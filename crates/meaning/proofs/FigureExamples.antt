@@ -30,6 +30,8 @@ moving = choice (par (fixed 1) fail stop) (a stop)
 abbrev falling : Term
 falling = choice fail fail
 
+-- ---- Figure 3, by the rules that could apply
+
 left_viable : {P : Term} → Viable two (choice P (a stop))
 left_viable (d_choice p q) = prefix_viable two q
 

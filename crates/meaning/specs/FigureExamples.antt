@@ -101,5 +101,3 @@ pub record Facts : Type 0 where
   pub right_waits : (Q : Term) → Step two (par (fixed 1) fail moving) τ Q → Q ≡ fail
   -- Figure 3: both sides of a parallel take an event of its set
   pub both_move : (Q : Term) → Step two (par (fixed 0) (a stop) (a stop)) (event 0) Q → Q ≡ par (fixed 0) stop stop
-
--- ---- Figure 3, by the rules that could apply

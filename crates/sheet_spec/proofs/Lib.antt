@@ -3,4 +3,4 @@ pub mod Theorems
 pub mod Columns
 pub mod Line
 pub mod Outcomes
-pub mod Sheet
+pub mod Sheets

@@ -14,7 +14,7 @@ use Rattle.lot_book.specs.declared.judging.Total.TheVariants.{Within}
 use Rattle.lot_book.specs.declared.judging.Judged.TheVariants.{Lots, Bad}
 use Rattle.lot_book.specs.Lot.{entry_at}
 use Rattle.lot_book.specs.declared.entry.Entry.TheVariants.{Record, Unread}
-use Rattle.lot_book.proofs.Lot.Laws.{lot_stands, lot_unread}
+use Rattle.lot_book.proofs.Lots.Laws.{lot_stands, lot_unread}
 use Rattle.lot_book.specs.Book.{sound, Book, lots, bad, add, book_from, book_of, taken_sum, total_of, Added}
 use Rattle.lot_book.specs.Book.{judged_of, judgement}
 use Rattle.lot_book.proofs.Book.Laws.{book_none, book_more, book_unsound, book_unread, total_within}

@@ -12,7 +12,7 @@ use Rattle.lot_book.specs.declared.entry.Lot.{Lot}
 use Rattle.lot_book.specs.declared.judging.Total.{Total}
 use Rattle.lot_book.specs.declared.judging.Total.TheVariants.{Within, Over}
 use Rattle.lot_book.specs.Lot.{LotScan, lot, unread, read_lot}
-use Rattle.lot_book.proofs.Lot.Scans.{lot_extent}
+use Rattle.lot_book.proofs.Lots.Scans.{lot_extent}
 use Rattle.lot_book.specs.Book.{sound, Book, lots, bad, add, step, unless_none, read_book, book_from}
 use Rattle.lot_book.specs.Book.{total_of, Added}
 use Rattle.lot_book.proofs.Book.Sound.{GoodRecord, sound_out}

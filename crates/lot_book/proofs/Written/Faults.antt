@@ -11,8 +11,8 @@ use Rattle.lot_book.specs.declared.entry.Lot.{Lot}
 use Rattle.lot_book.specs.Number.{scan_number}
 use Rattle.lot_book.proofs.NumberLaws.{NoNumber, cut_short, ill_written}
 use Rattle.lot_book.specs.Lot.{LotScan, lot, unread, read_lot, lot_bytes}
-use Rattle.lot_book.proofs.Lot.Scans.{LotLost, lost_number, lost_taken, lost_mark, lost_place, lot_lost, lost_lot}
-use Rattle.lot_book.proofs.Lot.Scans.{lot_extent}
+use Rattle.lot_book.proofs.Lots.Scans.{LotLost, lost_number, lost_taken, lost_mark, lost_place, lot_lost, lost_lot}
+use Rattle.lot_book.proofs.Lots.Scans.{lot_extent}
 use Rattle.lot_book.specs.Book.{sound, Book, lots, bad, add, book_from, book_of}
 use Rattle.lot_book.proofs.Book.Sound.{GoodRecord, sound_out}
 use Rattle.lot_book.proofs.Book.Laws.{book_none, book_more, book_unsound, book_unread}

@@ -12,7 +12,7 @@ use Rattle.numbers.specs.Number.Groups.{scan_written, scan_is_written, limit_64_
 use Rattle.lot_book.specs.declared.entry.Lot.{Lot}
 use Rattle.lot_book.specs.Number.{scan_number}
 use Rattle.lot_book.specs.Lot.{LotScan, lot, unread, read_lot, lot_bytes}
-use Rattle.lot_book.proofs.Lot.Scans.{lot_read, read_lot_lem}
+use Rattle.lot_book.proofs.Lots.Scans.{lot_read, read_lot_lem}
 use Rattle.lot_book.specs.Book.{Book, lots, bad, add, book_from, book_of}
 use Rattle.lot_book.proofs.Book.Sound.{sound_in}
 use Rattle.lot_book.proofs.Book.Laws.{book_none, book_more, book_first, book_not_unread}

@@ -12,7 +12,7 @@ use Rattle.lot_book.proofs.Written.Good.{book_good}
 use Rattle.lot_book.proofs.Written.Laws.{written_book, read_back}
 use Rattle.lot_book.proofs.Written.Faults.{bad_out, bad_in}
 use Rattle.sheet_spec.specs.Sheet.{sheet_text, sheet_size, Outcome, sheet_of}
-use Rattle.sheet_spec.proofs.Sheet.Laws.{sheet_bad, sheet_over, sheet_short, sheet_given}
+use Rattle.sheet_spec.proofs.Sheets.Laws.{sheet_bad, sheet_over, sheet_short, sheet_given}
 use Rattle.sheet_spec.proofs.Columns.Laws.{text_printed, printed_text}
 use Rattle.sheet_spec.specs.Outcomes.{GoodBytes, Comes, comes_14, comes_15, comes_1, comes_given}
 

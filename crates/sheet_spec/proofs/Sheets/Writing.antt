@@ -13,13 +13,13 @@ use Rattle.std.proofs.Math.ListN.{length, length-append, length-drop}
 use Rattle.lot_book.specs.declared.entry.Lot.{Lot}
 use Rattle.lot_book.specs.declared.entry.Entry.TheVariants.{Record, Unread}
 use Rattle.lot_book.specs.Lot.{entry_at}
-use Rattle.lot_book.proofs.Lot.Laws.{lot_stands, lot_unread}
+use Rattle.lot_book.proofs.Lots.Laws.{lot_stands, lot_unread}
 use Rattle.lot_book.specs.Book.{lots, book_from, book_of}
 use Rattle.lot_book.proofs.Book.Laws.{First, book_first, book_not_unread, book_end}
 use Rattle.sheet_spec.specs.Line.{lot_line, total_line}
 use Rattle.sheet_spec.proofs.Line.Laws.{put, lot_length, total_length}
 use Rattle.sheet_spec.specs.Sheet.{lines_of, sheet_text, sheet_size, given, sheet_of, Writable}
-use Rattle.sheet_spec.proofs.Sheet.Laws.{sheet_given}
+use Rattle.sheet_spec.proofs.Sheets.Laws.{sheet_given}
 
 -- `before` is the output at entry, `out` the output now
 pub record Writing (book before : List ℕ) (sum : ℕ) (out : List ℕ) (at p : ℕ) : Type 0 where

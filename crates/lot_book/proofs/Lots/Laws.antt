@@ -11,7 +11,7 @@ use Rattle.lot_book.specs.declared.entry.Entry.TheVariants.{Record, Unread}
 use Rattle.lot_book.specs.Number.{number_at}
 use Rattle.lot_book.proofs.NumberLaws.{number_stands, number_unread}
 use Rattle.lot_book.specs.Lot.{LotScan, lot, unread, and_then, read_lot, found_lot, entry_at}
-use Rattle.lot_book.proofs.Lot.Scans.{lot_extent, none_then}
+use Rattle.lot_book.proofs.Lots.Scans.{lot_extent, none_then}
 
 -- ---- the ways out of `lot_at`
 record_path : (r : Lot) (p q : ℕ) → p ≡ q → Record r p ≡ Record r q
