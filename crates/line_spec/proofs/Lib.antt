@@ -5,3 +5,4 @@ pub mod Judged
 pub mod Lent
 pub mod Line
 pub mod Pieces
+pub mod Opening

@@ -1,13 +1,13 @@
 -- What `specs/Claims.antt` says, proved. Assumes nothing.
 use Rattle.line_spec.proofs.Pieces.Joined.{pieces_whole}
 use Rattle.line_spec.proofs.Rows as computed
-use Rattle.line_spec.specs.Opening.Front.{lent_out, lent_in, open_ways, open_course_lem, open_began}
+use Rattle.line_spec.proofs.Opening.Front.{lent_out, lent_in, open_ways, open_course_lem, open_began}
 use Rattle.line_spec.proofs.Lent.Laws.{fed_work, pieces_lent, whole_line}
 use Rattle.line_spec.proofs.Lent.Ends.{ends_pieces}
 use Rattle.line_spec.specs.Claims.{LineIsLent, PiecesAreLent, OpenLeaves, OpenIsFront, OpenStarts, PiecesAreWhole}
 use Rattle.monitor_spec.specs.Feed.{feed_of}
 use Rattle.monitor_spec.specs.State.{Verdict}
-use Rattle.line_spec.specs.Line.Laws.{head_ways}
+use Rattle.line_spec.proofs.Line.Laws.{head_ways}
 use Rattle.line_spec.proofs.Line.Opened.{whole_opened}
 use Rattle.line_spec.specs.Claims.{HeadsAre, LentExactly, LineIsOpened, ResumeLeaves, PieceEnds, LineLeaves}
 use Rattle.line_spec.specs.Line.{monitor_left, verdict_line, state_line}

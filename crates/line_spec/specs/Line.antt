@@ -15,7 +15,6 @@ use Rattle.monitor_spec.specs.State.{Verdict, running, failed_at, State, Monitor
 use Rattle.monitor_spec.specs.State as state
 use Rattle.monitor_spec.specs.Feed.{feed_of}
 use Rattle.monitor_spec.specs.Open.{open_of}
-pub mod Laws
 
 pub data Head : Type 0 where
   parts : List ℕ → List ℕ → Head

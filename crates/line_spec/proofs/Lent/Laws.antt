@@ -23,8 +23,8 @@ use Rattle.line_spec.specs.Pieces.{through_pieces, pieces_of}
 use Rattle.line_spec.proofs.Pieces.Joined.{over_stays, pieces_whole}
 use Rattle.line_spec.specs.Opening.{lent, OpenAnswer, started, refuses, OpenOutcome, open_refused, open_input_of}
 use Rattle.line_spec.specs.Opening.{course_by, open_course}
-use Rattle.line_spec.specs.Opening.Laws.{work_measured_lem}
-use Rattle.line_spec.specs.Opening.Front.{open_unfit, open_course_lem, open_began}
+use Rattle.line_spec.proofs.Opening.Laws.{work_measured_lem}
+use Rattle.line_spec.proofs.Opening.Front.{open_unfit, open_course_lem, open_began}
 use Rattle.line_spec.specs.Whole.{ResumeOutcome, resumed_by, resume_of, finished, whole_by, whole_after, whole_of}
 use Rattle.line_spec.specs.Lent.{lent_line, resume_first, front_events, next_by, resume_next, resume_all, lent_pieces}
 

@@ -14,7 +14,7 @@ use Rattle.numbers.specs.Choice.{cond_cases}
 use Rattle.numbers.specs.Number.{Scan, value, truncated, malformed, carry, later, scan_with, read_number}
 use Rattle.numbers.specs.Number.Extent.{scan_extent}
 use Rattle.line_spec.specs.Line.{Head, parts, wrong, cut, head_by, head_of}
-use Rattle.line_spec.specs.Line.Laws.{cut_over, cut_missing, cut_there}
+use Rattle.line_spec.proofs.Line.Laws.{cut_over, cut_missing, cut_there}
 
 -- ---- the length number
 

@@ -31,7 +31,7 @@ use Rattle.monitor_spec.proofs.History.Begun.{opened_began, empty_joins}
 use Rattle.line_spec.specs.Line.{Head, parts, wrong, head_of, Line, refused, answer_line}
 use Rattle.line_spec.specs.Line.{fresh_on, fresh, monitor_left}
 use Rattle.line_spec.specs.Line.{started_by, started_line, read_line, head_line, line_of}
-use Rattle.line_spec.specs.Line.Laws.{slots_256}
+use Rattle.line_spec.proofs.Line.Laws.{slots_256}
 use Rattle.line_spec.proofs.Line.Heads.{widen_head, head_more, long_fixed}
 use Rattle.line_spec.specs.Pieces.{Course, going, over, fed, fed_by, piece_of, front_by, front_head, front_of}
 use Rattle.line_spec.specs.Pieces.{feed_front}

@@ -21,8 +21,8 @@ use Rattle.format.specs.declared.answer.Head.TheVariants.{Parts, Wrong}
 use Rattle.format.specs.Head.{HeadIs, HeadSaid}
 use Rattle.line_spec.specs.Line.{head_of}
 use Rattle.line_spec.specs.Opening.{lent}
-use Rattle.line_spec.specs.Opening.Laws.{read_right}
-use Rattle.line_spec.specs.Opening.Front.{lent_out}
+use Rattle.line_spec.proofs.Opening.Laws.{read_right}
+use Rattle.line_spec.proofs.Opening.Front.{lent_out}
 use Rattle.table_reading.specs.declared.answer.TableRead.{TableRead}
 use Rattle.table_reading.specs.declared.answer.TableRead.TheVariants.{Numbers, Refused}
 use Rattle.table_reading.specs.TableRead.{NumbersRead, TableRefused, refused_lengths, refused_head, refused_table, TableSaid}

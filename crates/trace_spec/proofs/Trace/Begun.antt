@@ -25,8 +25,8 @@ use Rattle.monitor_spec.specs.Open.{fresh_monitor}
 use Rattle.monitor_spec.proofs.Open.Laws.{exceeded_of, open_exceeded, open_runs}
 use Rattle.monitor_spec.specs.Joined.{residual_count}
 use Rattle.line_spec.specs.Line.{Head, parts, wrong, head_of, fresh, monitor_left}
-use Rattle.line_spec.specs.Line.Laws.{slots_256}
-use Rattle.line_spec.specs.Opening.Laws.{all_measured}
+use Rattle.line_spec.proofs.Line.Laws.{slots_256}
+use Rattle.line_spec.proofs.Opening.Laws.{all_measured}
 use Rattle.trace_spec.specs.Trace.{Beginning, begins, declines, begin_open, begin_list, begin_table, begin_head}
 use Rattle.trace_spec.specs.Trace.{Begins, beginning_of}
 

@@ -20,7 +20,7 @@ use Rattle.monitor_spec.proofs.Open.Laws.{exceeded_of, open_declined, open_excee
 use Rattle.monitor_spec.specs.Joined.{residual_count}
 use Rattle.line_spec.specs.Line.{parts, wrong, head_of, Line, state_line, answer_line, read_line, head_line, line_of}
 use Rattle.line_spec.specs.Line as line
-use Rattle.line_spec.specs.Line.Laws.{slots_256}
+use Rattle.line_spec.proofs.Line.Laws.{slots_256}
 use Rattle.line_spec.proofs.Line.Opened.{whole_opened}
 use Rattle.line_spec.proofs.Judged.Taken.{event_took}
 use Rattle.trace_spec.specs.TraceLine.{TraceLine, takes, refuses}

@@ -31,7 +31,7 @@ use Rattle.monitor_spec.proofs.Expected.Steps.{Fed}
 use Rattle.monitor_spec.proofs.History.Laws.{extends, after_measured, after_consistent}
 use Rattle.monitor_spec.proofs.History.Begun.{fresh_after, fresh_fed}
 use Rattle.line_spec.specs.Line.{monitor_left}
-use Rattle.line_spec.specs.Line.Laws.{slots_256}
+use Rattle.line_spec.proofs.Line.Laws.{slots_256}
 use Rattle.line_spec.proofs.Pieces.Laws as pieces
 use Rattle.trace_spec.specs.TraceLine.{TraceLine, starts, takes, refuses, Reports, LineAt}
 use Rattle.trace_spec.specs.Trace.{Beginning, begins, declines, Begins, beginning_of, permitted_by, event_lines}
