@@ -4,7 +4,7 @@
 --     afterPiece                     a course where the input ended, or did not
 --     Front, frontOf, feedFront      what Open leaves, with the events of the front; these fed
 --     pieces_of                       all of it
--- The laws are in `Pieces/`: `Laws`, `Joined`. Assumes nothing.
+-- The laws are in `proofs/Pieces/`: `Laws`, `Joined`. Assumes nothing.
 use Rattle.std.specs.Prelude.{ℕ, Bool, cond, List, [], ◌∷◌}
 use Rattle.table.specs.Judge.{Judgement, accepted, declined, judge_bytes}
 use Rattle.table.specs.Operations.{zeros}

@@ -4,7 +4,7 @@
 --     number_at       what stands at a position;  groupsAt: the groups that follow another
 --     numberFound          the answer of `read`, from a scan of the bytes at a position
 --     Grouped        the promise of `later`
--- The laws are in `Number/Laws.antt`. Assumes nothing.
+-- The laws are in `proofs/NumberLaws.antt`. Assumes nothing.
 use Rattle.std.specs.Prelude.{ℕ, ◌+◌, ◌<◌, ◌≡◌, List, drop}
 use Rattle.numbers.specs.Number.{Scan, value, truncated, malformed, later, scan_with, limit_of}
 use Rattle.lot_book.specs.declared.number.Number.{Number}

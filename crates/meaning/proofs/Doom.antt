@@ -1,4 +1,11 @@
--- The laws of `specs/Doom.antt`. Assumes nothing.
+-- What Theorem 3 does not see: a doomed term emits nothing and stays doomed (000, Proposition 2, first half), a silent
+-- step changes no trace, and a doomed call may be stuck.
+--     doomed-silent, doomed-stays    a doomed term's steps are silent, and lead to doomed terms
+--     silent-complete                a silent step loses no trace
+--     call-doomed, call-stuck        the call of `only_fail` is doomed and does not go on
+--     choice-doomed, choice-stuck    nor does a choice of two such calls
+-- So the second half of 000, Proposition 2 is false of named definitions; of terms without calls it is in
+-- `Doom/Falls.antt`. No branches: `Doom/Branches.antt`. Assumes nothing.
 use Rattle.std.specs.Prelude.{ℕ, List, ◌≡◌}
 use Rattle.std.proofs.Common.{sym, subst}
 use Rattle.table.specs.Table

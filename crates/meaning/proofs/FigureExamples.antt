@@ -1,4 +1,6 @@
--- The laws of `specs/FigureExamples.antt`. Assumes nothing.
+-- The small facts of the three figures hold.
+--     facts    they hold
+-- Assumes nothing.
 use Rattle.std.specs.Prelude.{ℕ, Bool, [], ◌∷◌, ◌≡◌, refl, eqb}
 use Rattle.std.proofs.Common.{inl, inr, ⊎_elim, ap₂}
 use Rattle.table.specs.Table

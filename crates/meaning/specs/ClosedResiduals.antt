@@ -3,8 +3,8 @@
 --     resolveWith, resolveCall     a term resolved, where a call resolves as given; a body, through so many calls
 --     resolveClosed, afterEvent    a term of a table resolved; what is left of a resolved term after an event
 --     run, residuals               after a list of events, from a list of residuals and from a term
--- A residual may be listed twice. The laws are in `ClosedResiduals/Resolved.antt` and `ClosedResidualsHold.antt`.
--- Assumes nothing.
+-- A residual may be listed twice. The laws are in `proofs/ClosedResiduals/Resolved.antt` and
+-- `proofs/ClosedResidualsHold.antt`. Assumes nothing.
 use Rattle.std.specs.Prelude.{ℕ, zero, suc, cond}
 use mathlib.Core.List.{List, [], ◌∷◌, ◌++◌, map, flat_map}
 use Rattle.table.specs.Table.{Table}

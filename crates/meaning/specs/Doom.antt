@@ -1,12 +1,6 @@
--- What Theorem 3 does not see: a doomed term emits nothing and stays doomed (000, Proposition 2, first half), a silent
--- step changes no trace, and a doomed call may be stuck.
---     doomed-silent, doomed-stays    a doomed term's steps are silent, and lead to doomed terms
---     silent-complete                a silent step loses no trace
---     onlyFail                       one definition, FAIL
---     call-doomed, call-stuck        its call is doomed and does not go on
---     choice-doomed, choice-stuck    nor does a choice of two such calls
--- So the second half of 000, Proposition 2 is false of named definitions; of terms without calls it is in
--- `Doom/Falls.antt`. No branches: `Doom/Branches.antt`. Assumes nothing.
+-- The table whose one definition is FAIL: a doomed call may be stuck.
+--     onlyFail    one definition, FAIL
+-- What Theorem 3 does not see is in `proofs/Doom.antt`. Assumes nothing.
 use Rattle.std.specs.Prelude.{[], ◌∷◌}
 use Rattle.table.specs.Table
 use Rattle.table.specs.Table.{Table}

@@ -1,6 +1,6 @@
 -- Small facts of the three figures, each by itself: what a slip in one rule would change.
 --     two            the table that they are of
---     Facts          the facts;  facts: they hold
+--     Facts          the facts: that they hold is in `proofs/FigureExamples.antt`
 -- Worked tables are in `Examples.antt`. Assumes nothing.
 use Rattle.std.specs.Prelude.{ℕ, Bool, true, false, [], ◌∷◌, ◌≡◌, eqb}
 use Rattle.table.specs.Table

@@ -1,5 +1,5 @@
 -- The trace sets as an inductive family, with a merge of two traces for the parallel (ours). It solves Figure 2's
--- equations and is the least solution: `Models.antt`.
+-- equations and is the least solution: `proofs/Models.antt`.
 --     Merge    a trace made of two
 --     Holds    a term holds a trace
 -- Assumes nothing.

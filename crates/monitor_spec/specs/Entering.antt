@@ -6,7 +6,7 @@
 --     agreeing, entranceOn    10, for a monitor; all, in this order
 --     entering                what an operation makes of a refusal, and of a table
 --     refusing                a refusal that keeps the areas
--- The laws are in `Entering/Laws.antt`. Assumes nothing.
+-- The laws are in `proofs/Entering/Laws.antt`. Assumes nothing.
 use Rattle.std.specs.Prelude.{ℕ, Bool, true, false, ◌&&◌, List, length}
 use Rattle.table.specs.Table.{Table}
 use Rattle.table.specs.Judge.{Judgement, accepted, declined, judge_list}

@@ -3,8 +3,8 @@
 --     recordOf         the record of a list;  monitorAfter: record and areas after a list, with n slots
 --     verdictOnward, peakOnward, recordOnward, monitorOnward
 --                      the same from any record and residuals held
--- The laws are in `Expected/`: `Verdicts`, `Peaks`, `Records`, `Laid`, `Steps`; from any residuals, in
--- `Progress/Laws.antt`. Assumes nothing.
+-- The laws are in `proofs/Expected/`: `Verdicts`, `Peaks`, `Records`, `Laid`, `Steps`; from any residuals, in
+-- `proofs/Progress/Laws.antt`. Assumes nothing.
 use Rattle.std.specs.Prelude.{ℕ, suc, max, ◌+◌, List, [], ◌∷◌, length}
 use Rattle.table.specs.Table.{Table}
 use Rattle.meaning.specs.Figure1.{body_count, last}
@@ -49,7 +49,7 @@ unfoldable pub monitor_onward : Table → ℕ → State → List Residual → Li
 monitor_onward t n s rs es = laid n (record_onward t s rs es) (slots_of (run t rs es))
 
 -- from the settled monitor on: `state_after` from `fresh_state` over the counts of the list's beginnings
--- (`Expected/Records.antt`)
+-- (`proofs/Expected/Records.antt`)
 unfoldable pub record_of : Table → List ℕ → State
 record_of t s = record_onward t (fresh_state (length (slots_of (residuals_of t [])))) (residuals_of t []) s
 

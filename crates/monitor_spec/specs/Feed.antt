@@ -3,7 +3,7 @@
 --     eventRefused              one event: refusal 11, 12 or 13, or none
 --     takeEvent                 the monitor after it, or the refusal
 --     feedOf                    answer, areas and work words of a call
--- The laws are in `Feed/Laws.antt`. Assumes nothing.
+-- The laws are in `proofs/Feed/Laws.antt`. Assumes nothing.
 use Rattle.std.specs.Prelude.{ℕ, true, false, List, [], length, eqb, leb, ltb}
 use Rattle.std.proofs.Math.Option.{Option, none, some}
 use Rattle.table.specs.Table.{Table}

@@ -10,8 +10,8 @@
 --     Eventful, Along      no call of a list is refused with 2 to 10
 --     AfterEvents          what demand 3 says of the monitor by the events since its start
 --     AfterCalls           all that demand 3 says of the monitor after the calls
--- The laws are in `History/`: `Laws`; `Begun`, of what Open gives; `Verdicts`, `Peaks` and `After`, of what a list
--- calls for. Assumes nothing.
+-- The laws are in `proofs/History/`: `Laws`; `Begun`, of what Open gives; `Verdicts`, `Peaks` and `After`, of what a
+-- list calls for. Assumes nothing.
 use Rattle.std.specs.Prelude.{ℕ, ◌≤◌, ◌<◌, ◌≡◌, List, [], ◌∷◌, ◌↔◌, length, take, T}
 use Rattle.std.proofs.Math.Option.{Option, none, some}
 use Rattle.table.specs.Table.{Table}

@@ -4,7 +4,7 @@
 --     bitsFrom, wordFrom    the bits of k events from b on; of as many as a word has room for
 --     allBits, offerBits    both words, of the residuals held and by the verdict
 --     offerOf               answer, areas and work words of a call
--- The laws are in `Offer/Laws.antt`. Assumes nothing.
+-- The laws are in `proofs/Offer/Laws.antt`. Assumes nothing.
 use Rattle.std.specs.Prelude.{ℕ, zero, suc, ◌+◌, ◌-◌, ◌^◌, min, List, [], ◌∷◌, length}
 use Rattle.table.specs.Table.{Table}
 use Rattle.table.specs.Operations.{zeros}

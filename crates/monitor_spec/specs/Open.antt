@@ -3,7 +3,7 @@
 --     freshMonitor      the settled monitor: before any event, with n slots
 --     openAccepted      settling, and then Feed's run, of an accepted table
 --     openOf            answer, areas and work words of a call
--- The laws are in `Open/Laws.antt`. Assumes nothing.
+-- The laws are in `proofs/Open/Laws.antt`. Assumes nothing.
 use Rattle.std.specs.Prelude.{ℕ, true, false, ◌&&◌, List, [], length, ltb}
 use Rattle.table.specs.Table.{Table}
 use Rattle.table.specs.Operations.{zeros}

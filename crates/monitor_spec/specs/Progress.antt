@@ -6,7 +6,7 @@
 --     PeakOnward       the peak after a list of events, from any before it
 --     FeedStops        the call stops at an event;  FeedGives: it takes all events
 --     OpenStops, OpenGives     so of Open, from the settled monitor
--- The laws are in `Progress/Laws.antt`. Assumes nothing.
+-- The laws are in `proofs/Progress/Laws.antt`. Assumes nothing.
 use Rattle.std.specs.Prelude.{ℕ, suc, ◌+◌, ◌≤◌, ◌<◌, ◌≡◌, List, [], ◌∷◌, ◌++◌, ◌⊎◌, length, take}
 use Rattle.table.specs.Table.{Table}
 use Rattle.residuals.specs.Residual.{Residual, after_all, run, residuals_of}

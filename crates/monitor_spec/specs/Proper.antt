@@ -2,7 +2,8 @@
 --     Remembers               of a memory: its events are below A, and zero from the count of enclosing prefixes on
 --     MemoriesFit, Fitting    so at each node; and the leaves' reach sums to at most k
 --     Proper                  a sound residual that fits, its reach at most 8
--- The laws are in `Proper/`: `Laws` (resolving and stepping keep it), `Nodes` (its slot has room). Assumes nothing.
+-- The laws are in `proofs/Proper/`: `Laws` (resolving and stepping keep it), `Nodes` (its slot has room). Assumes
+-- nothing.
 use Rattle.std.specs.Prelude.{ℕ, ◌≤◌, ◌<◌, ◌≡◌}
 use Rattle.table.specs.Table.{Table, enclosing}
 use Rattle.table.specs.Memory.{Memory, digit}

@@ -7,7 +7,8 @@
 --     CallRefused      the refusals of Feed and Offer before an event: 1, 2 to 9, 10
 --     Offers           the two words that Offer gives
 --     WorkLeft         what stands in the work area after a call
--- The laws are in `Refusals/Laws.antt`. What Open and Feed do with events is in `Progress.antt`. Assumes nothing.
+-- The laws are in `proofs/Refusals/Laws.antt`. What Open and Feed do with events is in `Progress.antt`. Assumes
+-- nothing.
 use Rattle.std.specs.Prelude.{ℕ, ◌%◌, ◌≤◌, ◌<◌, ◌≡◌, List, [], length}
 use Rattle.numbers.specs.Number.{list_bytes}
 use Rattle.table.specs.Table.{Table}

@@ -1,5 +1,5 @@
--- What the proofs of this crate use of 01's rules on tables (ours): `Regular/Laws.antt` has it of every table that
--- keeps them. No claim names it. Assumes nothing.
+-- What the proofs of this crate use of 01's rules on tables (ours): `proofs/Regular/Laws.antt` has it of every table
+-- that keeps them. No claim names it. Assumes nothing.
 use Rattle.std.specs.Prelude.{ℕ, ◌≤◌, ◌<◌}
 use Rattle.table.specs.Table.{Table, term_count, body_of}
 use Rattle.table.specs.Rows.{alphabet_most}

@@ -3,7 +3,7 @@
 --     SheetTold               a number and a value are those of an answer
 --     sheetCall               of the bytes lent
 --     SheetWay                the same by the operation's outcome
--- The laws are in `Call/Laws.antt`. Assumes nothing.
+-- The laws are in `proofs/Call/Laws.antt`. Assumes nothing.
 use Rattle.std.specs.Prelude.{ℕ, ◌≡◌, Bool, true, false, List}
 use Rattle.sheet_spec.specs.declared.answer.Sheet.{Sheet}
 use Rattle.sheet_spec.specs.declared.answer.Sheet.TheVariants.{Given, Refused}

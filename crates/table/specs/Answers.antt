@@ -2,7 +2,7 @@
 --     answer_of    an answer of Read or Write
 --     outcome     the answer with what stands in the output and the work area
 --     Said        an answer and an output, before the work area is cleared;  ReadSaid, WriteSaid: those of an operation
--- The law is in `Answers/Laws.antt`.
+-- The law is in `proofs/Answers/Laws.antt`.
 -- Assumes nothing.
 use Rattle.std.specs.Prelude.{ℕ, ◌≡◌, List}
 use Rattle.numbers.specs.Number.{list_bytes}

@@ -3,7 +3,7 @@
 --     judgeBefore                     what the numbers of an input were judged to be
 --     judgeListBefore, judgeBytesBefore    of a number list; of bytes
 --     FirstMost, FirstOver            the input's first number is at most so much, or over it
--- The laws are in `Before/Laws.antt`. Assumes nothing.
+-- The laws are in `proofs/Before/Laws.antt`. Assumes nothing.
 use Rattle.std.specs.Prelude.{ℕ, ◌<◌, ◌≤◌, ◌&&◌, cond, List, length, leb, ltb}
 use Rattle.table.specs.Table.{SetDef, Table}
 use Rattle.table.specs.Tokens.{Tokens, token, ended, broken, list_tokens, byte_tokens}

@@ -1,10 +1,6 @@
--- The sentences that define width and branches through calls, as equations: the lists that the definitions grow are
--- their solution where the rules on references hold, whatever the widths and branches are (01, "Hands of a term",
--- "Openings").
---     branches-call     "the openings of a call are those of the definition called"
---     branches-guarded  the same, from the one rule that it rests on
---     width-level       "call to its own level 1, to a lower level that level's hands"; "the largest among its bodies"
--- Assumes nothing.
+-- What a call counts in the sentences that define width through calls (01, "Hands of a term").
+--     call_count    "call to its own level 1, to a lower level that level's hands"
+-- The equations are in `proofs/Equations.antt`. Assumes nothing.
 use Prim.Native.Nat.{ℕ}
 use Rattle.std.proofs.Math.Bool.{cond}
 use Rattle.std.proofs.Math.Dec.{eqb}

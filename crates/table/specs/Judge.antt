@@ -1,7 +1,7 @@
 -- Refusals 2 to 9 in their order (01, "When the monitor declines"): what a list of numbers, or of bytes, is.
 --     Judgement     accepted, with its numbers and its table, or refused with number and place
 --     judgeBytes    of bytes (Read);  judgeList: of a number list (Write, Open, Feed, Offer)
--- The laws are in `Judge/Laws.antt`. Assumes nothing.
+-- The laws are in `proofs/Judge/Laws.antt`. Assumes nothing.
 use Rattle.std.specs.Prelude.{ℕ, cond, List, length, ltb}
 use Rattle.std.proofs.Math.Option.{Option, none, some}
 use Rattle.table.specs.Table.{Table}

@@ -4,7 +4,7 @@
 --                                has a parameter just when its set is of kind 1
 --     Open, Fits                 numbers that begin a writing, each within its bound. Open: and the writing goes on;
 --                                Fits: it may also end there
--- That the grammar sees them so is in `Marks/Whole.antt`. Assumes nothing.
+-- That the grammar sees them so is in `proofs/Marks/Whole.antt`. Assumes nothing.
 use Rattle.std.specs.Prelude.{ℕ, zero, suc, ◌+◌, ◌≡◌, Bool, true, false, ◌&&◌, length, get_or, ltb, leb}
 use mathlib.Core.List.{List, [], ◌∷◌, ◌++◌, flat_map}
 use Rattle.numbers.specs.Every.{All}

@@ -2,7 +2,7 @@
 --     Memory, noMemory    the last four events taken by enclosing prefixes, the nearest first; at a body's start
 --     digit               the k-th remembered event
 --     remember            a memory with one event more
--- The laws are in `Memory/Laws.antt`. Assumes nothing.
+-- The laws are in `proofs/Memory/Laws.antt`. Assumes nothing.
 use Rattle.std.specs.Prelude.{ℕ, zero, suc}
 
 -- "Memory is four events"

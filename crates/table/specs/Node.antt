@@ -4,8 +4,8 @@
 --     nodes, nodesOf    those of a term, of a table
 --     nodeAt, termOf    the node, the term of a number
 --     kind_of, leftSize, refOf, calledOf    what a term's own numbers say
--- The laws are in `Node/Laws.antt` and `Node/Numbers.antt`; `Node/Parts.antt` and `Node/Homes.antt` prepare them.
--- Assumes nothing.
+-- The laws are in `proofs/Node/Laws.antt` and `proofs/Node/Numbers.antt`; `proofs/Node/Parts.antt` and
+-- `proofs/Node/Homes.antt` prepare them. Assumes nothing.
 use Rattle.std.specs.Prelude.{ℕ, suc, ◌+◌, length, get_or}
 use mathlib.Core.List.{List, [], ◌∷◌, ◌++◌, flat_map}
 use Rattle.table.specs.declared.terms.Spot.{Spot}

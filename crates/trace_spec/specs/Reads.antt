@@ -5,7 +5,7 @@
 --     reads_of                   the lines of an input, and then of each read after it
 --     Decided                   an input whose head is the same, whatever follows
 -- The relation that a loop over reads keeps is `reached_by s ≡ at t m`, where s is all that was read: the lines of s
--- are said, and the next event meets m on the table t. The laws are in `Reads/Laws.antt`. Assumes nothing.
+-- are said, and the next event meets m on the table t. The laws are in `proofs/ReadLaws.antt`. Assumes nothing.
 use Rattle.std.specs.Prelude.{ℕ, ◌≡◌, List, [], ◌∷◌, ◌++◌}
 use Rattle.std.proofs.Math.Option.{Option, none, some}
 use Rattle.table.specs.Table.{Table}

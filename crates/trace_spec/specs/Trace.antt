@@ -6,8 +6,8 @@
 --     eventLines                 the lines of events, from a monitor on
 --     traceOf                    the lines of an input
 --     lineBy                     what `line_monitor` would print in a line's place
--- The laws are in `Trace/`: `Begun`, what a beginning is, by the input; `Lines`, of the lines of events; `Last`, of the
--- last one. Assumes nothing.
+-- The laws are in `proofs/Trace/`: `Begun`, what a beginning is, by the input; `Lines`, of the lines of events; `Last`,
+-- of the last one. Assumes nothing.
 use Rattle.std.specs.Prelude.{ℕ, ◌≤◌, ◌≡◌, List, [], ◌∷◌}
 use Rattle.table.specs.Table.{Table}
 use Rattle.table.specs.Judge.{Judgement, accepted, declined, judge_bytes, judge_list}

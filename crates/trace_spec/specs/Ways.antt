@@ -1,7 +1,7 @@
 -- What a trace is, by its input (ours).
 --     TraceWay        a refusal; or a line at the start, one for each event taken, and a refusal or nothing
 --     OffersThere     what a line's record and words are
--- The laws are in `Ways/`: `Each`, `Offers`. Assumes nothing.
+-- The laws are in `proofs/Ways/`: `Each`, `Offers`. Assumes nothing.
 use Rattle.std.specs.Prelude.{ℕ, ◌≡◌, List, [], ◌∷◌, ◌++◌, length}
 use Rattle.table.specs.Table.{Table}
 use Rattle.table.specs.Judge.{accepted, judge_bytes}

@@ -3,7 +3,7 @@
 --     timedMeasured                    lent lengths
 --     timedConsistent                  10 is not met
 --     TimedEntrance, timedEntrance     refused, by number, place and the work words then; or both tables
--- The laws are in `Entering/Laws.antt`. Assumes nothing.
+-- The laws are in `proofs/Entering/Laws.antt`. Assumes nothing.
 use Rattle.std.specs.Prelude.{ℕ, Bool, true, false, ◌&&◌, List, length, eqb}
 use Rattle.table.specs.Table.{Table}
 use Rattle.table.specs.Judge.{judge_list}

@@ -2,7 +2,7 @@
 --     timedPairs     the events, each with its minute;  eventsOf, minutesOf: back
 --     timedEnding    where the events end;  timedRefusing: a refusal that keeps the areas
 --     timedOf        answer, areas and work words of a call
--- The laws are in `Feed/Laws.antt`. Assumes nothing.
+-- The laws are in `proofs/Feed/Laws.antt`. Assumes nothing.
 use Rattle.std.specs.Prelude.{ℕ, List, [], ◌∷◌, map, length}
 use Rattle.std.proofs.Math.Option.{none, some}
 use Rattle.table.specs.Operations.{zeros}

@@ -4,7 +4,7 @@
 --     Stretch, stretch        of a joined list: its last minute, and the events since its last start
 --     timedHalts              the call stops before this event
 --     timedJoined             the list after a list of calls
--- The laws are in `Joined/Laws.antt`. Assumes nothing.
+-- The laws are in `proofs/Joined/Laws.antt`. Assumes nothing.
 use Rattle.std.specs.Prelude.{ℕ, Bool, true, false, ◌&&◌, ◌||◌, List, [], ◌∷◌, ◌++◌, map, length, eqb, leb, ltb}
 use Rattle.std.proofs.Math.Option.{Option, none, some}
 use Rattle.table.specs.Table.{Table}

@@ -3,7 +3,7 @@
 --     TimedLaid         the record and areas are those of residuals, or zero before the first event
 --     TimedRefused      1; 2 to 9, of the everyday table and then of the wash table; 16; 10
 --     TimedWorkLeft     what stands in the work area after a call
--- The laws are in `Refusals/Laws.antt`. What a call does with its events is in `Progress.antt`. Assumes nothing.
+-- The laws are in `proofs/Refusals/Laws.antt`. What a call does with its events is in `Progress.antt`. Assumes nothing.
 use Rattle.std.specs.Prelude.{ℕ, ◌≡◌, List, length}
 use Rattle.table.specs.Table.{Table}
 use Rattle.table.specs.Refusals.{Refused}

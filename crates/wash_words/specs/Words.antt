@@ -3,7 +3,7 @@
 --     timedRecordMeasured    a lent record is of seven words
 --     timedIn                what seven words hold
 --     timedWords             the words of a record, or of none yet
--- The laws are in `Words/Laws.antt`. Assumes nothing.
+-- The laws are in `proofs/Words/Laws.antt`. Assumes nothing.
 use Rattle.std.specs.Prelude.{ℕ, Bool, true, false, List, [], ◌∷◌, ◌++◌, length, get_or, replicate, eqb}
 use Rattle.words_spec.specs.Words.{state_in, words_of}
 use Rattle.wash_spec.specs.Timed.{TimedState, not_started, started}

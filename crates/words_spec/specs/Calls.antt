@@ -5,7 +5,7 @@
 --     tryCall                               of Try, in the further record and areas
 --     OfferCall, OfferTold, offerCall       of Offer
 --     ViewCall, viewCall                    of View
--- The laws are in `Calls/Laws.antt`. Assumes nothing.
+-- The laws are in `proofs/Calls/Laws.antt`. Assumes nothing.
 use Rattle.std.specs.Prelude.{ℕ, ◌≡◌, Bool, true, false, ◌&&◌, List, length, eqb}
 use Rattle.monitor_spec.specs.State.{Monitor, Answer, given, refused, stopped, Outcome}
 use Rattle.monitor_spec.specs.Open.{open_of}

@@ -4,7 +4,7 @@
 --     OfferWay    of Offer
 --     ViewWay     of View, whose part of an area is given
 --     TableWay    of Read and Write
--- The laws are in `Ways/Laws.antt`. Assumes nothing.
+-- The laws are in `proofs/Ways/Laws.antt`. Assumes nothing.
 use Rattle.std.specs.Prelude.{ℕ, ◌<◌, ◌%◌, ◌≡◌, List, length}
 use Rattle.std.proofs.Math.Option.{none, some}
 use Rattle.table.specs.Operations.{done, refusal}

@@ -3,7 +3,7 @@
 --     recordMeasured    a lent record is of five words
 --     stateIn           the record that five words hold
 --     words_of           the words of a record
--- The laws are in `Words/Laws.antt`. Assumes nothing.
+-- The laws are in `proofs/Words/Laws.antt`. Assumes nothing.
 use Rattle.std.specs.Prelude.{ℕ, Bool, true, false, List, [], ◌∷◌, ◌++◌, length, get_or, eqb}
 use Rattle.monitor_spec.specs.State.{Verdict, running, failed_at, State}
 

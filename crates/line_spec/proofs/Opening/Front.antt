@@ -1,4 +1,10 @@
--- The laws of `specs/Opening/Front.antt`. Assumes nothing.
+-- What `open_input_of` leaves is the front of the input.
+--     lent_out, lent-in          the lent lengths
+--     open-unfit                 where one is wrong
+--     open-wrong, open-accepted, open-declined     by the head, and by Read's judgement
+--     open-ways                  its ways
+--     open-course, open-began    the course is that of the front; where there is a record, what holds besides
+-- Assumes nothing.
 use Rattle.std.specs.Prelude.{ℕ, ◌-◌, ◌≡◌, Bool, List, ◌++◌, take, eqb}
 use Rattle.std.proofs.Common.{arith, ◌∙◌, eq-eqb, eqb-true}
 use Rattle.std.proofs.Math.Path.{refl, ap, sym, subst}

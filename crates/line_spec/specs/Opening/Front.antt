@@ -1,10 +1,6 @@
--- What `open_input_of` leaves is the front of the input.
---     lent_out, lent-in          the lent lengths
---     open-unfit                 where one is wrong
---     open-wrong, open-accepted, open-declined     by the head, and by Read's judgement
---     open-ways                  its ways
---     open-course, open-began    the course is that of the front; where there is a record, what holds besides
--- Assumes nothing.
+-- The lengths that are lent to `open_input`.
+--     Lengths    each is right
+-- The laws are in `proofs/Opening/Front.antt`. Assumes nothing.
 use Rattle.std.specs.Prelude.{ℕ, ◌≡◌, List}
 use Rattle.std.proofs.Math.ListN.{length}
 

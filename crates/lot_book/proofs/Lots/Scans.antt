@@ -2,7 +2,7 @@
 --     LotRead, lot-read, read-lot     a record that was read: its numbers stand one after the other, and back
 --     LotLost, lot-lost, lost-lot     none was read: the first number that is not there, and back
 --     lot-extent                      how far a record goes
--- Not here: records at a position, `Lot/Laws.antt`. Assumes nothing.
+-- Not here: records at a position, `Lots/Laws.antt`. Assumes nothing.
 use Rattle.std.specs.Prelude.{ℕ, ◌+◌, ◌≡◌, List, length, drop}
 use Rattle.std.proofs.Common.{arith, ap, sym, ◌∙◌, subst, length-drop, drop-drop}
 use Rattle.std.proofs.Math.Path.{refl}

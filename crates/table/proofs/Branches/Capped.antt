@@ -1,4 +1,7 @@
--- The laws of `specs/Branches/Capped.antt`. Assumes nothing.
+-- Branches counted up to 257 only: the same recursion, capped at each step, gives the capped branches, and the test
+-- against 256 is the same. So code may count with small numbers.
+--     capped-few, capped-term   the test against 256; a term of a table
+-- Assumes nothing.
 use Rattle.std.specs.Prelude.{ℕ, zero, suc, ◌+◌, ◌*◌, ◌≤◌, min, ◌≡◌, refl, ◌↔◌, List, [], ◌∷◌, ◌++◌, map, length}
 use native.Mathlib.Omega.{arith}
 use Rattle.std.proofs.Math.Decide.{dec_le}

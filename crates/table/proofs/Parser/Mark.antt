@@ -1,4 +1,6 @@
--- The laws of `specs/Parser/Mark.antt`. Assumes nothing.
+-- Lists of marked numbers, and how a list is cut.
+--     Cuts, cuts                   a list cut in two ways
+-- Assumes nothing.
 use Rattle.std.specs.Prelude.{ℕ, ◌≡◌, refl, List, [], ◌∷◌, ◌++◌}
 use Rattle.std.proofs.Common.{ap}
 use Rattle.table.specs.Parser.Mark.{Mark, numbers, Pass}

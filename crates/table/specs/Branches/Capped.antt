@@ -1,9 +1,7 @@
--- Branches counted up to 257 only: the same recursion, capped at each step, gives the capped branches, and the test
--- against 256 is the same. So code may count with small numbers.
+-- Branches counted up to 257 only.
 --     capped, cappedWith        at most 257; a term's branches so counted
 --     nextCapped, allCapped     a definition's; of each definition
---     capped-few, capped-term   the test against 256; a term of a table
--- Assumes nothing.
+-- The laws are in `proofs/Branches/Capped.antt`. Assumes nothing.
 use Rattle.std.specs.Prelude.{ℕ, ◌+◌, ◌*◌, min, List, length}
 use Rattle.table.specs.Grow.{grow}
 use Rattle.table.specs.Table.{Term, stop, fail, prefix, choice, par, call, Definition}

@@ -1,7 +1,6 @@
--- Numbers that are marked with whether each keeps its own bound; lists of them, and how a list is cut.
+-- Numbers that are marked with whether each keeps its own bound; lists of them.
 --     Mark, mark, numbers, Pass    a number and its test; their numbers; they all pass
---     Cuts, cuts                   a list cut in two ways
--- Assumes nothing.
+-- The laws are in `proofs/Parser/Mark.antt`. Assumes nothing.
 use Rattle.std.specs.Prelude.{ℕ, ◌≡◌, Bool, true, List, [], ◌∷◌}
 use Rattle.numbers.specs.Every.{All}
 

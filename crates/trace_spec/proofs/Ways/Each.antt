@@ -26,7 +26,7 @@ use Rattle.trace_spec.proofs.Trace.Begun.{begins_in, begins_out}
 use Rattle.trace_spec.proofs.Trace.Lines.{OnlyLast, lines_last, Each, all_taken, stops_at, each}
 use Rattle.trace_spec.proofs.Trace.Last.{last_same, Ends, last_line}
 use Rattle.trace_spec.specs.Reads.{Configuration, at, ended, reached_by, Decided}
-use Rattle.trace_spec.proofs.Reads.Laws.{ended_stands, reached_last}
+use Rattle.trace_spec.proofs.ReadLaws.{ended_stands, reached_last}
 use Rattle.trace_spec.specs.Ways.{TraceWay, only_refusal, takes_all, takes_some}
 
 -- ---- by the events

@@ -27,7 +27,7 @@ use Rattle.feeding.specs.Feeding.{Standing, TakenBy}
 use Rattle.trace_spec.specs.TraceLine.{takes, refuses}
 use Rattle.trace_spec.specs.Trace.{permitted_by, trace_of}
 use Rattle.trace_spec.specs.Reads.{at, reached_by}
-use Rattle.trace_spec.proofs.Reads.Laws.{reached_went, trace_went, trace_stops}
+use Rattle.trace_spec.proofs.ReadLaws.{reached_went, trace_went, trace_stops}
 use Rattle.tracing.specs.declared.answer.TraceLine.TheVariants.{Takes, Refuses}
 use Rattle.tracing.specs.Answers.{trace_line_said}
 use Rattle.tracing.specs.Tracing.{Tracing, TracedOn, RefusedEvent}

@@ -1,2 +1,0 @@
--- The laws of `specs/Reads.antt`, a file each. Assumes nothing.
-pub mod Laws
