@@ -10,6 +10,7 @@ use Rattle.table.specs.Fields.{OfRef, OfCall, Fields}
 use Rattle.table.specs.References.{level_in}
 use Rattle.table.specs.Width.{level_width}
 use Rattle.table.specs.Branches.{branches}
+pub mod Laws
 
 -- of the term's definition: its number and itself
 abbrev pub InBodies : Table → (ℕ → Definition → Context → Term → Type 0) → Type 0

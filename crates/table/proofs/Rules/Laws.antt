@@ -20,6 +20,7 @@ use Rattle.table.proofs.Width.Laws.{above_out, above_in}
 use Rattle.table.specs.Branches.{branches_at, all_branches, branches, too_many_branches}
 use Rattle.table.proofs.Branches.Laws.{Few, bodies_out, bodies_in}
 use Rattle.table.specs.Rules.{InBodies, Rules}
+use Rattle.table.specs.Rules.Laws as rule
 
 module _ (t : Table) where
   pub in_bodies_imp : (X Y : ℕ → Definition → Context → Term → Type 0)
@@ -41,16 +42,16 @@ module _ (t : Table) where
   L own d = Linked t.definitions d.level own
 
   abbrev Exist : ℕ → Definition → Context → ℕ → Type 0
-  Exist own d c e = e < length t.definitions
+  Exist = rule.Exist t
 
   abbrev Lower : ℕ → Definition → Context → ℕ → Type 0
-  Lower own d c e = level_in t.definitions e ≤ d.level
+  Lower = rule.Lower t
 
   abbrev Parallel : ℕ → Definition → Context → ℕ → Type 0
-  Parallel own d c e = T c.in_parallel → level_in t.definitions e < d.level
+  Parallel = rule.Parallel t
 
   abbrev Guarded : ℕ → Definition → Context → ℕ → Type 0
-  Guarded own d c e = c.prefixes ≡ 0 → e < own
+  Guarded = rule.Guarded t
 
   abbrev Calls : ℕ → Definition → Context → ℕ → Type 0
   Calls own d c = CallOk t.definitions d.level own c
