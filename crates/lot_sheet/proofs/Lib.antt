@@ -1,4 +1,2 @@
 -- The proofs of `specs/Claims.antt`. Assumes nothing.
 pub mod Theorems
-pub mod Reply
-pub mod Room

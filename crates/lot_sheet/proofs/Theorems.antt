@@ -14,7 +14,7 @@ use Rattle.sheet_spec.specs.Sheet.{Outcome, sheet_size, sheet_of}
 use Rattle.sheet_spec.proofs.Sheets.Laws.{sheet_bad, sheet_over, sheet_given}
 use Rattle.lot_sheet.specs.Reply.{refused_as, tell_book, tell_of, ReadInto}
 use Rattle.lot_sheet.specs.Reply.{ToldWay, told_long, told_bad, told_over, told_sheet}
-use Rattle.lot_sheet.proofs.Room.{few_records}
+use Rattle.lot_sheet.specs.Room.{few_records}
 use Rattle.lot_sheet.specs.Claims.{ToldExactly}
 
 module _ (book text : List ℕ) (low : length book ≤ 65536) (room : length text ≡ 802865) where

@@ -4,7 +4,7 @@
 --     Fits                     a sheet's bytes stand in the text
 --     ReadInto                 a book and the buffer that it was read into
 --     ToldWay                  what is told of a book, by what it is
--- The laws are in `proofs/Reply/Laws.antt`. Assumes nothing.
+-- The laws are in `Reply/Laws.antt`. Assumes nothing.
 use Rattle.std.specs.Prelude.{ℕ, ◌≤◌, ◌<◌, ◌≡◌, Bool, true, false, cond, List, ◌++◌, eqb, length, take, drop}
 use Rattle.input.specs.declared.reading.Part.{Part}
 use Rattle.input.specs.Reading.{Parts}
@@ -13,6 +13,7 @@ use Rattle.lot_book.specs.Book.{lots, bad, book_of, taken_sum}
 use Rattle.sheet_spec.specs.Sheet.{Outcome, given, refused, sheet_text, sheet_size, sheet_of}
 use Rattle.lot_sheet.specs.declared.office.Reply.{Reply}
 use Rattle.lot_sheet.specs.declared.office.Reply.TheVariants.{Sheet, BadRecord, TotalOver, TooLong}
+pub mod Laws
 
 pub record TellOutcome : Type 0 where
   pub told : Reply

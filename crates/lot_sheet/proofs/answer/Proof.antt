@@ -2,7 +2,7 @@
 use Prim.Native.Nat.{ℕ}
 use mathlib.Core.Path.{sym, ◌∙◌}
 use lib.ListN.{length-replicate}
-use Rattle.lot_sheet.proofs.Reply.Laws.{tell_fits}
+use Rattle.lot_sheet.specs.Reply.Laws.{tell_fits}
 use borrow.Author.Rules.{rules}
 use Rattle.lot_sheet.proofs.answer.Statement.{statement}
 use Rattle.lot_sheet.proofs.answer.Tie as tie

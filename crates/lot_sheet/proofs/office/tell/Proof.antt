@@ -2,7 +2,7 @@
 use native.Mathlib.Omega.{arith}
 use mathlib.Core.Path.{sym, ◌∙◌}
 use lib.Seq.{length-take-le}
-use Rattle.lot_sheet.proofs.Reply.Laws.{tell_whole, tell_long}
+use Rattle.lot_sheet.specs.Reply.Laws.{tell_whole, tell_long}
 use borrow.Author.Rules.{rules}
 use Rattle.lot_sheet.proofs.office.tell.Statement.{statement}
 use Rattle.lot_sheet.proofs.office.tell.Tie as tie

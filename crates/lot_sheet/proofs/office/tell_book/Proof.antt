@@ -1,5 +1,5 @@
 -- `lot_sheet::office::tell_book` meets its contract, by the answer of the sheet. Assumes nothing.
-use Rattle.lot_sheet.proofs.Reply.Laws.{told_given, told_refused}
+use Rattle.lot_sheet.specs.Reply.Laws.{told_given, told_refused}
 use borrow.Author.Rules.{rules}
 use Rattle.lot_sheet.proofs.office.tell_book.Statement.{statement}
 use Rattle.lot_sheet.proofs.office.tell_book.Tie as tie

@@ -1,7 +1,7 @@
 -- `lot_sheet::print::say` is safe: a sheet's bytes stand in the text. Assumes nothing.
 use mathlib.Core.Path.{sym}
 use lib.Seq.{length-take-le}
-use Rattle.lot_sheet.proofs.Reply.Laws.{fits_sheet}
+use Rattle.lot_sheet.specs.Reply.Laws.{fits_sheet}
 use borrow.Author.Rules.{rules}
 use Rattle.lot_sheet.proofs.print.say.Statement.{statement}
 use Rattle.lot_sheet.proofs.print.say.Tie as tie
