@@ -1,7 +1,7 @@
 -- `trace::opener::settle` meets its contract: what is resolved is the monitor before any event, or there is no room for
 -- it. Assumes nothing.
 use mathlib.Core.Path.{refl}
-use Rattle.line_spec.specs.Opening.Laws.{areas_measured_lem}
+use Rattle.line_spec.proofs.Opening.Laws.{areas_measured_lem}
 use Rattle.tracing.specs.Tracing.Laws.{tracing_measured, tracing_consistent}
 use Rattle.trace.specs.Opening.Laws.{settled_tracing, settled_starts, settled_exceeds}
 use borrow.Author.Rules.{rules}
