@@ -21,7 +21,8 @@ FILES = {
     "crates/shop/src/till.rt": "pub fn ring() { coins::toss() }\n",
     "crates/shop/specs/Shop.antt": "-- Rattle.till.specs.Till\nuse Rattle.coins.specs.Heap.{Heaped as Full}\n",
     "crates/shop/proofs/sell/Proof.antt": (
-        "use Rattle.std.proofs.Common.{both}\nuse Rattle.purse.specs.Count.{count_of}\n"
+        "use Rattle.std.proofs.Common.{both}\nuse Rattle.coins.proofs.Coin.{flips}\n"
+        "use Rattle.purse.specs.Count.{count_of}\n"
     ),
     "crates/till/src/main.rt": "use io::print;\n",
 }
@@ -49,12 +50,13 @@ FAULTS = {
     "called and not listed": ("crates/shop/src/till.rt", "coins::toss", "io::toss", "io is named, which"),
     "cited and not listed": (SHOP, "Rattle.coins.specs.Heap", "Rattle.till.specs.Till", "till is named, which"),
     "cited and not there": (SHOP, "Rattle.coins.specs", "Rattle.coin.specs", "there is no crate coin"),
-    "another crate's proof": (PROOF, "specs.Count.{count_of}", "proofs.count.Goals", "is no definition of purse"),
-    "another crate's theorem": (PROOF, "specs.Count", "proofs.Theorems", "purse.proofs.Theorems is no definition of"),
-    "another crate's proof, renamed": (PROOF, "specs.Count.{count_of}", "proofs.Low as low", "is no definition of"),
-    "a whole crate": (PROOF, ".specs.Count.{count_of}", "", "Rattle.purse is no definition of purse"),
+    "another crate's proof": (PROOF, "specs.Count.{count_of}", "proofs.count.Goals", "neither a definition nor a law"),
+    "another crate's theorem": (PROOF, "specs.Count", "proofs.Theorems", "neither a definition nor a law of"),
+    "a whole proof": (PROOF, "specs.Count.{count_of}", "proofs.count as low", "neither a definition nor a law"),
+    "a whole crate": (PROOF, ".specs.Count.{count_of}", "", "Rattle.purse is neither a definition nor a law of"),
     "an inner definition": (SHOP, "Heaped as Full", "Heaped, heap", "specs.Heap: heap is inner to layer low"),
     "an inner module": (SHOP, ".{Heaped as Full}", " as heap", "all of it is inner to layer low"),
+    "a law of an inner module": (SHOP, "specs.Heap.{Heaped as Full}", "proofs.Heap.{law}", "law is inner to layer low"),
     "a module below an inner one": (SHOP, ".{Heaped as Full}", ".Laws.{law}", "Heap: Laws is inner to layer low"),
     "an inner function": ("crates/shop/src/lib.rt", "purse::count", "purse::{count, open}", "purse::open is inner"),
     "a crate under another name, not listed": (PURSE, "use coins::Coin;", "use io as out;", "io is named, which"),

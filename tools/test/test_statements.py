@@ -18,7 +18,7 @@ In crate `coins`, with `count_of`; `tools/weigh` weighs them.
     on every input
   - stated: coins/src/lib: count; coins/specs/Coin: Coin, count_of, heads,
     tails
-  - proved: coins/proofs/count; coins/specs/Laws: same; coins/specs/Coin: flips
+  - proved: coins/proofs/count; coins/proofs/Laws: same, flips
   - tried: coins/must-fail: count_loses_one; coins_test; tools/weigh; coins/specs/Coin: rows (K1)
 - "twice is the same", and "`heads` or not"
   - says: counting twice
@@ -69,8 +69,7 @@ FILES = {
     "crates/coins/specs/Claims.antt": CLAIMS,
     "crates/coins/proofs/Theorems.antt": "pub count_twice : CountTwice\npub counts_all : CountsAll\nlemma : ℕ\n",
     "crates/coins/proofs/count/Proof.antt": "",
-    "crates/coins/proofs/Laws.antt": "pub same : ℕ\n",
-    "crates/coins/proofs/Coin.antt": "pub flips : ℕ\n",
+    "crates/coins/proofs/Laws.antt": "pub same : ℕ\npub flips : ℕ\n",
     "crates/coins/must-fail/count_loses_one.edit": "",
     "crates/coins_test/stdout": "ok\n",
     "tools/weigh": "",
@@ -84,8 +83,8 @@ ON_PAGE = {
     "a definition": ("tails", "tail", "tail: no such definition"),
     "a definition of a comment": ("tails", "lost", "lost: no such definition"),
     "a definition within another": ("tails", "spare", "spare: no such definition"),
-    "a law that moved": ("Laws: same", "Laws: other", "other: no such definition"),
-    "a law of another file": ("Coin: flips", "Coin: same", "same: no such definition"),
+    "a law": ("Laws: same", "Laws: other", "other: no such definition"),
+    "a law elsewhere": ("coins/proofs/Laws", "coins/specs/Laws", "there is no coins/specs/Laws"),
     "a function": ("lib: count;", "lib: counts;", "counts: no such function"),
     "a function without a contract": ("lib: count;", "lib: count, inner;", "inner: it has no ensures"),
     "an edit": ("count_loses_one", "count_loses_two", "count_loses_two: no such edit"),
@@ -116,7 +115,7 @@ SOURCE, THEOREMS = "crates/coins/src/lib.rt", "crates/coins/proofs/Theorems.antt
 
 # in the tree: the file too
 IN_TREE = {
-    "a file that is gone": ("crates/coins/proofs/Laws.antt", None, None, "there is no coins/specs/Laws"),
+    "a file that is gone": ("crates/coins/proofs/Laws.antt", None, None, "there is no coins/proofs/Laws"),
     "a new claim": (
         "crates/coins/specs/Claims.antt",
         "abbrev",

@@ -11,10 +11,11 @@ use Rattle.state.specs.declared.record.State.{State}
 use Rattle.state.specs.declared.answer.EventBits.{EventBits}
 use Rattle.state.specs.Record.{state_of, monitor_of}
 use Rattle.table.specs.declared.answer.Refusal.{Refusal}
-use Rattle.line_spec.specs.Opening.Front.{Lengths, lent_in}
+use Rattle.line_spec.specs.Opening.Front.{Lengths}
+use Rattle.line_spec.proofs.Opening.Front.{lent_in}
 use Rattle.trace_spec.specs.TraceLine.{TraceLine, starts}
 use Rattle.trace_spec.specs.Trace.{Beginning, declines, beginning_of, start_line}
-use Rattle.trace_spec.specs.Trace.Begun.{begins_out}
+use Rattle.trace_spec.proofs.Trace.Begun.{begins_out}
 use Rattle.tracing.specs.declared.answer.TraceLine.TheVariants.{Starts}
 use Rattle.tracing.specs.Answers.{trace_line_said}
 use Rattle.trace.specs.declared.answer.Opened.{Opened}

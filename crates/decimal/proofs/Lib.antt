@@ -1,2 +1,3 @@
 -- The proofs of this crate. Assumes nothing.
 pub mod Theorems
+pub mod Decimal

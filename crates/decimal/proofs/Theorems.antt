@@ -4,8 +4,8 @@ use native.Mathlib.Omega.{arith}
 use mathlib.Core.Path.{◌≡◌, refl, sym, subst}
 use Rattle.decimal.specs.Claims.{Denotes, Fits, Rows}
 use Rattle.decimal.specs.Decimal.{decimal, decimal_within, denoted, denoted_after, IsDecimal}
-use Rattle.decimal.specs.Decimal.Laws.{is_decimal, within_short}
-use Rattle.decimal.specs.Decimal.Unique.{decimal_is}
+use Rattle.decimal.proofs.Decimal.Laws.{is_decimal, within_short}
+use Rattle.decimal.proofs.Decimal.Unique.{decimal_is}
 
 pub denotes : Denotes
 unfolding Denotes

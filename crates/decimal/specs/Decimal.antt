@@ -3,11 +3,9 @@
 --     decimal_within   of at most so many digits
 --     denoted          the number that some digits denote
 --     IsDecimal        some bytes are the digits of a number, by what they denote alone
--- The laws are in `Decimal/Laws.antt` and `Decimal/Unique.antt`. Assumes nothing.
+-- The laws are in `proofs/Decimal/Laws.antt` and `proofs/Decimal/Unique.antt`. Assumes nothing.
 use Rattle.std.specs.Prelude.{ℕ, zero, suc, ◌+◌, ◌-◌, ◌*◌, ◌/◌, ◌%◌, ◌≤◌, ◌<◌, ◌≡◌, true, false, List, [], ◌∷◌, ◌++◌, length, get_or, ltb}
 use Rattle.numbers.specs.Every.{All}
-pub mod Laws
-pub mod Unique
 
 -- of at most so many digits; `0` is 48
 unfoldable pub decimal_within : ℕ → ℕ → List ℕ

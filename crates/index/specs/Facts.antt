@@ -16,17 +16,17 @@ use Rattle.table.specs.Context.{Each}
 use Rattle.table.specs.Fields.{Fields, OfRef, RefExists, ParamSmall}
 use Rattle.table_index.specs.References.Nodes.{node_links}
 use Rattle.table.specs.Width.{reach}
-use Rattle.table.specs.Width.Reach.{bodies_all}
+use Rattle.table.proofs.Width.Reach.{bodies_all}
 use Rattle.table.specs.Branches.{branches, body_in}
 use Rattle.table.specs.Branches.Capped.{capped}
-use Rattle.table.specs.Width.Reach.{reach_most}
+use Rattle.table.proofs.Width.Reach.{reach_most}
 use Rattle.table.specs.Rules.{Rules}
-use Rattle.table.specs.Rules.Laws.{no_wrong}
-use Rattle.table.specs.Judge.Laws.{list_out}
+use Rattle.table.proofs.Rules.Laws.{no_wrong}
+use Rattle.table.proofs.Judge.Laws.{list_out}
 use Rattle.table.specs.Node.{term_of, kind_of, left_size, ref_of, called_of, parameter_of}
-use Rattle.table.specs.Node.Parts.{size_positive}
-use Rattle.table.specs.Node.Laws.{body_node, each_node, node_fits, spot_of}
-use Rattle.table.specs.Node.Numbers.{enclosing_at}
+use Rattle.table.proofs.Node.Parts.{size_positive}
+use Rattle.table.proofs.Node.Laws.{body_node, each_node, node_fits, spot_of}
+use Rattle.table.proofs.Node.Numbers.{enclosing_at}
 use Rattle.table.specs.Member.{set_of, row_of}
 use Rattle.table_index.specs.Layout.{terms_at, bodies_at, alphabet_at, definition_count_at, term_count_at, kind_digit}
 use Rattle.table_index.specs.Layout.{parameter_digit, prefixes_digit, right_digit, target_digit, reach_digit, branches_digit}

@@ -19,7 +19,7 @@ use Rattle.numbers.specs.Every.{All, all_imp, all_at}
 use Rattle.table.specs.Table.{SetRef, fixed, family, SetDef, one, each, Table}
 use Rattle.table.specs.Fields.{Ascending, EachRow, FamilyRows, IsOne, IsEach, RefExists, Fields}
 use Rattle.table.specs.Rows.{alphabet_most, large_above, RowsFit}
-use Rattle.table.specs.Rows.Laws.{fit_less}
+use Rattle.table.proofs.RowLaws.{fit_less}
 use Rattle.table.specs.Node.{parameter_of}
 use Rattle.table.specs.Member.{elem, row_in, set_of, row_of}
 use Rattle.table_index.specs.Layout.{rows_most, word_events, second_at, terms_at}

@@ -1,22 +1,22 @@
 -- What `specs/Claims.antt` says, proved. Assumes nothing.
-use Rattle.line_spec.specs.Pieces.Joined.{pieces_whole}
+use Rattle.line_spec.proofs.Pieces.Joined.{pieces_whole}
 use Rattle.line_spec.proofs.Rows as computed
-use Rattle.line_spec.specs.Opening.Front.{lent_out, lent_in, open_ways, open_course_lem, open_began}
-use Rattle.line_spec.specs.Lent.Laws.{fed_work, pieces_lent, whole_line}
-use Rattle.line_spec.specs.Lent.Ends.{ends_pieces}
+use Rattle.line_spec.proofs.Opening.Front.{lent_out, lent_in, open_ways, open_course_lem, open_began}
+use Rattle.line_spec.proofs.Lent.Laws.{fed_work, pieces_lent, whole_line}
+use Rattle.line_spec.proofs.Lent.Ends.{ends_pieces}
 use Rattle.line_spec.specs.Claims.{LineIsLent, PiecesAreLent, OpenLeaves, OpenIsFront, OpenStarts, PiecesAreWhole}
 use Rattle.monitor_spec.specs.Feed.{feed_of}
 use Rattle.monitor_spec.specs.State.{Verdict}
-use Rattle.line_spec.specs.Line.Laws.{head_ways}
-use Rattle.line_spec.specs.Line.Opened.{whole_opened}
+use Rattle.line_spec.proofs.Line.Laws.{head_ways}
+use Rattle.line_spec.proofs.Line.Opened.{whole_opened}
 use Rattle.line_spec.specs.Claims.{HeadsAre, LentExactly, LineIsOpened, ResumeLeaves, PieceEnds, LineLeaves}
 use Rattle.line_spec.specs.Line.{monitor_left, verdict_line, state_line}
 use Rattle.line_spec.specs.Pieces.{over, fed, fed_by, conclude_of, after_piece}
 use Rattle.line_spec.specs.Opening.{open_input_of}
 use Rattle.line_spec.specs.Whole.{resumed_by, resume_of, finished, whole_by, whole_after, whole_of}
 use mathlib.Core.Path.{refl, ap}
-use Rattle.line_spec.specs.Judged.Taken.{course_took}
-use Rattle.line_spec.specs.Judged.Laws.{front_line, follows_judged}
+use Rattle.line_spec.proofs.Judged.Taken.{course_took}
+use Rattle.line_spec.proofs.Judged.Laws.{front_line, follows_judged}
 use Rattle.line_spec.specs.Claims.{PieceAnyWork, EndsArePieces, GoingTakesAll, SaidIsLine, SaidIsJudged, Rows}
 
 pub heads_are : HeadsAre

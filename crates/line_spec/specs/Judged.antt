@@ -5,7 +5,7 @@
 --     Took                   so many events more are taken
 --     Goes, ComesTo          a monitor that goes on after full pieces; a line that is said after some
 --     Judged                 a line that is said of an input, by its front
--- The laws are in `Judged/`: `Taken`, and of the rest `Laws`. Assumes nothing.
+-- The laws are in `proofs/Judged/`: `Taken`, and of the rest `Laws`. Assumes nothing.
 use Rattle.std.specs.Prelude.{ℕ, ◌+◌, ◌≤◌, ◌<◌, ◌≡◌, Bool, length}
 use mathlib.Core.List.{List, [], ◌∷◌, ◌++◌, flatten}
 use Rattle.monitor_spec.specs.State.{State}
@@ -15,8 +15,6 @@ use Rattle.line_spec.specs.Pieces.{over, conclude_of, after_piece}
 use Rattle.line_spec.specs.Opening.{OpenOutcome}
 use Rattle.line_spec.specs.Whole.{ResumeOutcome}
 use Rattle.line_spec.specs.Lent.{resume_first, front_events, resume_next, resume_all, with_course}
-pub mod Taken
-pub mod Laws
 
 abbrev pub Full : ℕ → List (List ℕ) → Type 0
 Full n [] = Unit

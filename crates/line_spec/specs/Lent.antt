@@ -3,14 +3,12 @@
 --     resume_next    one piece more, with the areas and the work words as the call before left them
 --     lent_pieces    the line of `open`, `resume` on the front's events and on each piece, and `conclude`
 --     lent_ends      the same with `after_piece` on each piece
--- The laws are in `Lent/Laws.antt` and, of `lent_ends`, `Lent/Ends.antt`. Assumes nothing.
+-- The laws are in `proofs/Lent/Laws.antt` and, of `lent_ends`, `proofs/Lent/Ends.antt`. Assumes nothing.
 use Rattle.std.specs.Prelude.{ℕ, true, false, cond, List, [], ◌∷◌, drop}
 use Rattle.line_spec.specs.Line.{Line, refused, line_of}
 use Rattle.line_spec.specs.Pieces.{Course, going, over, conclude_of, after_piece}
 use Rattle.line_spec.specs.Opening.{lent, OpenAnswer, started, refuses, OpenOutcome, open_input_of, open_course}
 use Rattle.line_spec.specs.Whole.{ResumeOutcome, resume_of}
-pub mod Laws
-pub mod Ends
 
 unfoldable pub lent_line : List ℕ → List ℕ → List ℕ → List ℕ → List ℕ → Line
 lent_line s l a b w = cond (lent l a b w) (line_of s) (refused 1 0)

@@ -5,8 +5,8 @@
 --     state_line, answer_line       of a record; of an answer of Open or Feed
 --     fresh_on, fresh               Open of an empty list; of 256 slots
 --     started_line, line_of          of a number list and events; of a whole input
--- The laws are in `Line/`: `Laws`; `Heads`, of an input that goes on; `Opened`, of one Open with all events. Assumes
--- nothing.
+-- The laws are in `proofs/Line/`: `Laws`; `Heads`, of an input that goes on; `Opened`, of one Open with all events.
+-- Assumes nothing.
 use Rattle.std.specs.Prelude.{ℕ, ◌≤◌, ◌<◌, ◌≡◌, true, false, List, [], ◌++◌, length, take, drop, ltb}
 use Rattle.numbers.specs.Number.{Scan, value, truncated, malformed, read_number, bytes_of, Incomplete, IllWritten}
 use Rattle.table.specs.Judge.{Judgement, accepted, declined, judge_bytes}
@@ -15,9 +15,6 @@ use Rattle.monitor_spec.specs.State.{Verdict, running, failed_at, State, Monitor
 use Rattle.monitor_spec.specs.State as state
 use Rattle.monitor_spec.specs.Feed.{feed_of}
 use Rattle.monitor_spec.specs.Open.{open_of}
-pub mod Laws
-pub mod Heads
-pub mod Opened
 
 pub data Head : Type 0 where
   parts : List ℕ → List ℕ → Head

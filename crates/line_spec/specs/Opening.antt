@@ -15,7 +15,6 @@ use Rattle.monitor_spec.specs.State.{State, Answer, given, stopped, Outcome}
 use Rattle.monitor_spec.specs.State as state
 use Rattle.line_spec.specs.Line.{Head, parts, wrong, head_of, refused, fresh_on}
 use Rattle.line_spec.specs.Pieces.{Course, going, over, front_of}
-pub mod Laws
 pub mod Front
 
 -- "a lent u16 buffer of 16,384", "256 slots", a work area of "8,192 u64 words"

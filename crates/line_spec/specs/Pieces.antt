@@ -4,7 +4,7 @@
 --     after_piece                    a course where the input ended, or did not
 --     Front, front_of, feed_front    what Open leaves, with the events of the front; these fed
 --     pieces_of                       all of it
--- The laws are in `Pieces/`: `Laws`, `Joined`. Assumes nothing.
+-- The laws are in `proofs/Pieces/`: `Laws`, `Joined`. Assumes nothing.
 use Rattle.std.specs.Prelude.{ℕ, Bool, cond, List, [], ◌∷◌}
 use Rattle.table.specs.Judge.{Judgement, accepted, declined, judge_bytes}
 use Rattle.table.specs.Operations.{zeros}
@@ -12,8 +12,6 @@ use Rattle.monitor_spec.specs.State.{Monitor, Answer, given, stopped, Outcome}
 use Rattle.monitor_spec.specs.State as state
 use Rattle.monitor_spec.specs.Feed.{feed_of}
 use Rattle.line_spec.specs.Line.{Head, parts, wrong, head_of, Line, refused, state_line, fresh, monitor_left}
-pub mod Laws
-pub mod Joined
 
 pub data Course : Type 0 where
   going : List ℕ → Monitor → Course

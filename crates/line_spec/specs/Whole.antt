@@ -2,7 +2,7 @@
 --     ResumeOutcome, resume_of    a course with what stands in the lent buffers; of a piece
 --     LineOutcome                 a line with what stands in them
 --     finish_of, whole_of          of a started monitor with all its events; of a whole input
--- The laws are in `Lent/Laws.antt`. Assumes nothing.
+-- The laws are in `proofs/Lent/Laws.antt`. Assumes nothing.
 use Rattle.std.specs.Prelude.{ℕ, List, take, drop}
 use Rattle.monitor_spec.specs.State.{Monitor, Outcome}
 use Rattle.monitor_spec.specs.Feed.{feed_of}

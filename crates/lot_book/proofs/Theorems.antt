@@ -15,11 +15,11 @@ use Rattle.lot_book.specs.Examples.{Examples}
 use Rattle.lot_book.specs.Lot.{and_then, read_lot}
 use Rattle.lot_book.specs.Book.{sound, add, step, unless_none, read_book, book_from, book_of, taken_sum}
 use Rattle.lot_book.specs.Book.{judged_of, judgement}
-use Rattle.lot_book.specs.Book.Laws.{total_within, total_over}
-use Rattle.lot_book.specs.Written.Good.{book_good}
-use Rattle.lot_book.specs.Written.Laws.{number_written, written_book}
-use Rattle.lot_book.specs.Written.Laws.{read_back as good_read_back}
-use Rattle.lot_book.specs.Written.Faults.{bad_out, bad_in}
+use Rattle.lot_book.proofs.Book.Laws.{total_within, total_over}
+use Rattle.lot_book.proofs.Written.Good.{book_good}
+use Rattle.lot_book.proofs.Written.Laws.{number_written, written_book}
+use Rattle.lot_book.proofs.Written.Laws.{read_back as good_read_back}
+use Rattle.lot_book.proofs.Written.Faults.{bad_out, bad_in}
 
 -- ---- numbers
 ten_groups : (v : ℕ) → v < 2 ^ 64 → v < 128 ^ 10

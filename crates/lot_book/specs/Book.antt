@@ -4,8 +4,8 @@
 --     taken_sum       "the sum of taken"
 --     total_of         a sum, where it is at most 2^64-1;  Added: the promise of `add`
 --     judgement       what `judge` answers
--- The laws are in `Book/Sound.antt`, `Book/Laws.antt` and, of the loop of `judge`, `Book/Judging.antt`.
--- Assumes nothing.
+-- The laws are in `proofs/Book/Sound.antt`, `proofs/Book/Laws.antt` and, of the loop of `judge`,
+-- `proofs/Book/Judging.antt`. Assumes nothing.
 use Rattle.std.specs.Prelude.{ℕ, zero, suc, ◌+◌, ◌≡◌, Bool, cond, ◌&&◌, ◌||◌, List, [], ◌∷◌, length, ltb, leb, eqb}
 use Rattle.lot_book.specs.declared.entry.Lot.{Lot}
 use Rattle.lot_book.specs.declared.judging.Total.{Total}
@@ -13,9 +13,6 @@ use Rattle.lot_book.specs.declared.judging.Total.TheVariants.{Within, Over}
 use Rattle.lot_book.specs.declared.judging.Judged.{Judged}
 use Rattle.lot_book.specs.declared.judging.Judged.TheVariants.{Lots, Bad}
 use Rattle.lot_book.specs.Lot.{LotScan, lot, unread, read_lot}
-pub mod Sound
-pub mod Laws
-pub mod Judging
 
 -- "lots not strictly ascending" (the lot is `floor` or more), "a number too wide for its columns" (ten for the lot,
 -- eight for the place), "a mark other than 0 or 1", "a place above taken or not 0 while running"

@@ -3,15 +3,13 @@
 --     read_lot, LotScan  the record at the head of some bytes
 --     lot_bytes          a record as bytes
 --     entry_at            what stands at a position;  found_lot: the answer of `lot_at`, from a scan of the bytes there
--- The laws are in `Lot/Scans.antt` and, at a position, `Lot/Laws.antt`. Assumes nothing.
+-- The laws are in `proofs/Lots/Scans.antt` and, at a position, `proofs/Lots/Laws.antt`. Assumes nothing.
 use Rattle.std.specs.Prelude.{ℕ, ◌+◌, List, ◌++◌, drop}
 use Rattle.numbers.specs.Number.{groups, Scan, value, truncated, malformed}
 use Rattle.lot_book.specs.declared.entry.Lot.{Lot}
 use Rattle.lot_book.specs.declared.entry.Entry.{Entry}
 use Rattle.lot_book.specs.declared.entry.Entry.TheVariants.{Record, Unread}
 use Rattle.lot_book.specs.Number.{scan_number}
-pub mod Scans
-pub mod Laws
 
 -- lot: the record, how many bytes it takes, and the bytes after it
 pub data LotScan : Type 0 where

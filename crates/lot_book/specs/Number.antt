@@ -4,12 +4,11 @@
 --     number_at       what stands at a position;  groups_at: the groups that follow another
 --     number_found         the answer of `read`, from a scan of the bytes at a position
 --     Grouped        the promise of `later`
--- The laws are in `Number/Laws.antt`. Assumes nothing.
+-- The laws are in `proofs/NumberLaws.antt`. Assumes nothing.
 use Rattle.std.specs.Prelude.{ℕ, ◌+◌, ◌<◌, ◌≡◌, List, drop}
 use Rattle.numbers.specs.Number.{Scan, value, truncated, malformed, later, scan_with, limit_of}
 use Rattle.lot_book.specs.declared.number.Number.{Number}
 use Rattle.lot_book.specs.declared.number.Number.TheVariants.{Value, Unread}
-pub mod Laws
 
 -- "up to ten bytes", "or one above 2^64-1"
 abbrev pub scan_number : List ℕ → Scan

@@ -4,17 +4,13 @@
 --     GoodLot, Ascending   what is asked of a record, and of the lots;  GoodBook: of all records
 --     BadAt                the first bad record of some bytes, and what is wrong with it
 --     NoLot, Wrong         bytes that are no record;  a record that is a bad one, after some others
--- The laws are in `Written/Good.antt`, `Written/Unsound.antt`, `Written/Laws.antt` and `Written/Faults.antt`.
--- Assumes nothing.
+-- The laws are in `proofs/Written/Good.antt`, `proofs/Written/Unsound.antt`, `proofs/Written/Laws.antt` and
+-- `proofs/Written/Faults.antt`. Assumes nothing.
 use Rattle.std.specs.Prelude.{ℕ, ◌≤◌, ◌<◌, ◌^◌, ◌≡◌, ◌⊎◌, List, [], ◌∷◌, ◌++◌, length}
 use Rattle.numbers.specs.Every.{All}
 use Rattle.numbers.specs.Number.{groups, IncompleteWith, IllWrittenWith}
 use Rattle.lot_book.specs.declared.entry.Lot.{Lot}
 use Rattle.lot_book.specs.Lot.{lot_bytes}
-pub mod Good
-pub mod Unsound
-pub mod Laws
-pub mod Faults
 
 -- "one record per lot"
 unfoldable pub book_bytes : List Lot → List ℕ

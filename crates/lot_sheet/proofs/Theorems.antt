@@ -11,7 +11,7 @@ use Rattle.input.specs.declared.reading.Part.{Part}
 use Rattle.lot_book.specs.declared.entry.Lot.{Lot}
 use Rattle.lot_book.specs.Book.{Book, lots, bad, book_of, taken_sum}
 use Rattle.sheet_spec.specs.Sheet.{Outcome, sheet_size, sheet_of}
-use Rattle.sheet_spec.specs.Sheet.Laws.{sheet_bad, sheet_over, sheet_given}
+use Rattle.sheet_spec.proofs.Sheets.Laws.{sheet_bad, sheet_over, sheet_given}
 use Rattle.lot_sheet.specs.Reply.{refused_as, tell_book, tell_of, ReadInto}
 use Rattle.lot_sheet.specs.Reply.{ToldWay, told_long, told_bad, told_over, told_sheet}
 use Rattle.lot_sheet.specs.Room.{few_records}

@@ -6,7 +6,7 @@ use Rattle.std.proofs.Common.{arith, ap, subst, ◌∙◌, length-drop}
 use Rattle.numbers.specs.Number.Extent.{scan_extent}
 use Rattle.lot_book.specs.declared.entry.Lot.{Lot}
 use Rattle.lot_book.specs.Lot.{LotScan, lot, unread, read_lot}
-use Rattle.lot_book.specs.Lot.Scans.{lot_read, lot_extent}
+use Rattle.lot_book.proofs.Lots.Scans.{lot_read, lot_extent}
 use Rattle.lot_book.specs.Book.{Book, lots, bad, add, sound, step, unless_none, read_book, book_from, book_of}
 
 -- what a book read of these bytes has

@@ -3,24 +3,24 @@
 use mathlib.Core.List.{[]}
 use mathlib.Core.Logic.{⊎_elim}
 use mathlib.Core.Path.{refl}
-use Rattle.meaning.specs.FigureExamples.{facts}
-use Rattle.meaning.specs.Formed
-use Rattle.meaning.specs.Formed.{last_exists, body_formed}
+use Rattle.meaning.proofs.FigureExamples.{facts}
+use Rattle.meaning.proofs.Formed
+use Rattle.meaning.proofs.Formed.{last_exists, body_formed}
 use Rattle.meaning.specs.Figure1.{call, body, last}
-use Rattle.meaning.specs.Figure2.Laws.{parallel_closed, is_parallel, parallel_only}
-use Rattle.meaning.specs.Figure2.Closed.{model_closed}
+use Rattle.meaning.proofs.Figure2.Laws.{parallel_closed, is_parallel, parallel_only}
+use Rattle.meaning.proofs.Figure2.Closed.{model_closed}
 use Rattle.meaning.specs.Figure3.{event, τ}
-use Rattle.meaning.specs.Figure3.Laws
+use Rattle.meaning.proofs.Figure3.Laws
 use Rattle.meaning.specs.Holds.{Holds}
-use Rattle.meaning.specs.Holds.Alphabet.{holds_below, step_below}
-use Rattle.meaning.specs.Theorem3
-use Rattle.meaning.specs.Doom
-use Rattle.meaning.specs.Doom.Branches
-use Rattle.meaning.specs.Doom.Falls
-use Rattle.meaning.specs.Models.{holds_model, holds_only, theorem3_model, lemma5_model}
-use Rattle.meaning.specs.Examples.Laws as E
-use Rattle.meaning.specs.Examples.Laws.{rows_meant, only_fail_rules}
-use Rattle.meaning.specs.Closing.Laws.{close_sub, close_plain, member_close}
+use Rattle.meaning.proofs.Holds.Alphabet.{holds_below, step_below}
+use Rattle.meaning.proofs.Theorem3
+use Rattle.meaning.proofs.Doom
+use Rattle.meaning.proofs.Doom.Branches
+use Rattle.meaning.proofs.Doom.Falls
+use Rattle.meaning.proofs.Models.{holds_model, holds_only, theorem3_model, lemma5_model}
+use Rattle.meaning.proofs.Examples.Laws as E
+use Rattle.meaning.proofs.Examples.Laws.{rows_meant, only_fail_rules}
+use Rattle.meaning.proofs.Closing.Laws.{close_sub, close_plain, member_close}
 use Rattle.meaning.specs.Claims.{RulesGuarded, RulesScoped, BodyClosed, SubstitutedIsRemembered}
 use Rattle.meaning.specs.Claims.{MemberIsMember, ParallelEquations, ParallelUnique, ModelExists}
 use Rattle.meaning.specs.Claims.{ModelUnique, PrefixClosure, NonEmptyIsEmptyTrace, TracesInAlphabet}

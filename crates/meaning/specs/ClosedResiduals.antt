@@ -3,14 +3,13 @@
 --     resolve_with, resolve_call   a term resolved, where a call resolves as given; a body, through so many calls
 --     resolve_closed, after_event  a term of a table resolved; what is left of a resolved term after an event
 --     run, residuals               after a list of events, from a list of residuals and from a term
--- A residual may be listed twice. The laws are in `ClosedResiduals/Resolved.antt` and `ClosedResidualsHold.antt`.
--- Assumes nothing.
+-- A residual may be listed twice. The laws are in `proofs/ClosedResiduals/Resolved.antt` and
+-- `proofs/ClosedResidualsHold.antt`. Assumes nothing.
 use Rattle.std.specs.Prelude.{ℕ, zero, suc, cond}
 use mathlib.Core.List.{List, [], ◌∷◌, ◌++◌, map, flat_map}
 use Rattle.table.specs.Table.{Table}
 use Rattle.meaning.specs.Figure1.{SetRef, Term, stop, fail, prefix, choice, par, call, body, body_count}
 use Rattle.meaning.specs.Figure1.{member, sub}
-pub mod Resolved
 
 unfoldable pub pairs : SetRef → List Term → List Term → List Term
 pairs E ps qs = flat_map (λ p. map (par E p) qs) ps

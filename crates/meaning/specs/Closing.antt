@@ -2,13 +2,12 @@
 -- k-th enclosing prefix of this definition, the nearest being 0").
 --     close_ref, close     the set reference or term, whose own c prefixes are still variables, with the events put in
 --     ScopedRef, Scoped    each parameter is one of the c prefixes around, and at most 3
--- The laws are in `Closing/Laws.antt`. Assumes nothing.
+-- The laws are in `proofs/Closing/Laws.antt`. Assumes nothing.
 use Rattle.std.specs.Prelude.{ℕ, suc, ◌-◌, ◌≤◌, ◌<◌, true, false, ltb}
 use Rattle.table.specs.Table
 use Rattle.table.specs.Memory.{Memory, digit}
 use Rattle.meaning.specs.Figure1.{Arg, var, ev, SetRef, fixed, family}
 use Rattle.meaning.specs.Figure1.{Term, stop, fail, prefix, choice, par, call}
-pub mod Laws
 
 unfoldable pub close_arg : ℕ → Memory → ℕ → Arg
 close_arg c m k = elim (ltb k c) [ true ↦ var k | false ↦ ev (digit m (k - c)) ]

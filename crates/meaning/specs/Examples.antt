@@ -4,7 +4,7 @@
 --     EachMeant        it holds of each row
 --     table_of, abstract_b  a table over five sets; 01's table B
 -- "failed at n" is two rows: the events without the last are held, with it they are not. How many residuals there are
--- is a matter of crate monitor_spec. That each row is meant is in `Examples/Laws.antt`. Assumes nothing.
+-- is a matter of crate monitor_spec. That each row is meant is in `proofs/Examples/Laws.antt`. Assumes nothing.
 use Rattle.std.specs.Prelude.{ℕ, Bool, true, false, List, [], ◌∷◌, ◌↔◌, T}
 use Rattle.table.specs.Table.{fixed, family, Term, stop, fail, prefix, choice, par, call, one, each, Definition, Table}
 use Rattle.table.specs.Rules.{Rules}
@@ -12,7 +12,6 @@ use Rattle.meaning.specs.Figure1 as F
 use Rattle.meaning.specs.Figure1.{last}
 use Rattle.meaning.specs.Figure2.{TraceSet, Model}
 use Rattle.meaning.specs.Figure3.{Viable, Chain}
-pub mod Laws
 
 -- A = 3; sets {0}, {1}, {}, {0, 1}, and the rows {1}, {0}, {} by parameter
 unfoldable pub table_of : List Definition → Table

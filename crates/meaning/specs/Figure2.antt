@@ -7,8 +7,6 @@
 use Rattle.std.specs.Prelude.{ℕ, Bool, not, List, [], ◌∷◌, ◌++◌, ◌↔◌, ◌⊎◌, ◌≡◌, T}
 use Rattle.table.specs.Table.{Table}
 use Rattle.meaning.specs.Figure1.{Term, stop, fail, prefix, choice, par, call, body, member, sub}
-pub mod Laws
-pub mod Closed
 
 -- "Trace s, t ∈ Σ∗". Events that are no event of the table are in no set of it, so in no trace. A TraceSet here is any
 -- set of traces; what 000 calls a trace set is one that is prefix-closed.

@@ -3,11 +3,10 @@
 --     Step                      P goes to Q by one action
 --     Chain                     P goes to Q by steps that emit a list of events
 -- A rule is quoted as premises ⊢ conclusion; D is a doomed term, and a hat, as in P̂, marks one that is not.
--- The laws are in `Figure3/Laws.antt`. Assumes nothing.
+-- The laws are in `proofs/Figure3/Laws.antt`. Assumes nothing.
 use Rattle.std.specs.Prelude.{ℕ, not, List, [], ◌∷◌, T}
 use Rattle.table.specs.Table.{Table}
 use Rattle.meaning.specs.Figure1.{SetRef, Term, fail, prefix, choice, par, call, body, member, sub}
-pub mod Laws
 
 -- "Action a ::= e | τ"
 pub data Action : Type 0 where

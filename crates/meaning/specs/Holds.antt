@@ -1,12 +1,11 @@
 -- The trace sets as an inductive family, with a merge of two traces for the parallel (ours). It solves Figure 2's
--- equations and is the least solution: `Models.antt`.
+-- equations and is the least solution: `proofs/Models.antt`.
 --     Merge    a trace made of two
 --     Holds    a term holds a trace
 -- Assumes nothing.
 use Rattle.std.specs.Prelude.{ℕ, Bool, not, List, [], ◌∷◌, T}
 use Rattle.table.specs.Table.{Table}
 use Rattle.meaning.specs.Figure1.{SetRef, Term, stop, prefix, choice, par, call, body, member, sub}
-pub mod Alphabet
 
 -- u is a merge of r and s: an event of E is taken from both, any other from one.
 pub data Merge (E : ℕ → Bool) : List ℕ → List ℕ → List ℕ → Type 0 where

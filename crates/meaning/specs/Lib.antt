@@ -1,5 +1,5 @@
 -- What a table means, in reading order: the paper's three figures, carried to named definitions, and the closed terms
--- of a table; worked examples and claims; then what the proofs use. The laws of each file stand below it.
+-- of a table; worked examples and claims; then what the proofs use. The laws of each file stand in `proofs/`.
 -- Assumes nothing.
 pub mod Figure1
 pub mod Figure2
@@ -8,10 +8,6 @@ pub mod Closing
 pub mod FigureExamples
 pub mod Examples
 pub mod Claims
-pub mod Formed
 pub mod Holds
-pub mod Theorem3
 pub mod Doom
-pub mod Models
 pub mod ClosedResiduals
-pub mod ClosedResidualsHold

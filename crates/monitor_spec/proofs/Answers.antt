@@ -12,16 +12,16 @@ use Rattle.table.specs.Table.{Table}
 use Rattle.table.specs.Judge.{accepted, judge_list}
 use Rattle.monitor_spec.specs.Regular.{Regular}
 use Rattle.monitor_spec.specs.Fold.{Ended, through, took}
-use Rattle.monitor_spec.specs.Fold.Laws.{through_stops, took_then, took_took, none_took, some_stopped}
+use Rattle.monitor_spec.proofs.Fold.Laws.{through_stops, took_then, took_took, none_took, some_stopped}
 use Rattle.monitor_spec.specs.State.{State, Monitor, given, refused, stopped, Outcome, work_measured, laid}
 use Rattle.monitor_spec.specs.Entering.{refusing}
 use Rattle.monitor_spec.specs.Feed.{take_event, ending_of, feed_of}
 use Rattle.monitor_spec.specs.Joined.{extend}
 use Rattle.monitor_spec.specs.Expected.{verdict_after, record_of, monitor_after}
-use Rattle.monitor_spec.specs.Expected.Records.{record_verdict}
-use Rattle.monitor_spec.specs.Expected.Steps.{Fed}
+use Rattle.monitor_spec.proofs.Expected.Records.{record_verdict}
+use Rattle.monitor_spec.proofs.Expected.Steps.{Fed}
 use Rattle.monitor_spec.specs.History.{Leaves}
-use Rattle.monitor_spec.specs.History.Laws.{extends, after_measured, feed_refused, feed_goes}
+use Rattle.monitor_spec.proofs.History.Laws.{extends, after_measured, feed_refused, feed_goes}
 use Rattle.monitor_spec.specs.Stopping.{EventStops, StoppedAt, AnswersOne}
 use Rattle.numbers.specs.Choice.{T_true, true_T}
 use Rattle.monitor_spec.proofs.Endings.{false_T, not_true, none_answer, some_answer}

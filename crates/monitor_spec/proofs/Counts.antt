@@ -10,14 +10,14 @@ use Rattle.table.specs.Table.{Table}
 use Rattle.residuals.specs.Residual.{Residual, residuals_of}
 use Rattle.slots.specs.Canon.{Order, below, same, above, compare_words, insert_sorted, canon, In}
 use Rattle.residuals.specs.Slots.{slot_of, slots_of}
-use Rattle.slots.specs.Canon.Comparison.{same_eq, cmp_refl, apart_same, apart_above}
-use Rattle.slots.specs.Canon.Canonical.{in_canon, canon_members}
+use Rattle.slots.proofs.Canon.Comparison.{same_eq, cmp_refl, apart_same, apart_above}
+use Rattle.slots.proofs.Canon.Canonical.{in_canon, canon_members}
 use Rattle.monitor_spec.specs.Regular.{Regular}
 use Rattle.monitor_spec.specs.Proper.{Proper}
-use Rattle.monitor_spec.specs.Proper.Laws.{residuals_of_proper}
+use Rattle.monitor_spec.proofs.Proper.Laws.{residuals_of_proper}
 use Rattle.monitor_spec.specs.Valid.{slot_residual}
-use Rattle.monitor_spec.specs.Valid.Laws.{some_same}
-use Rattle.monitor_spec.specs.Valid.Residuals.{read_back}
+use Rattle.monitor_spec.proofs.Valid.Laws.{some_same}
+use Rattle.monitor_spec.proofs.Valid.Residuals.{read_back}
 use Rattle.monitor_spec.specs.Joined.{residual_count}
 use Rattle.monitor_spec.specs.Counted.{Among, Once, Counts}
 

@@ -19,8 +19,8 @@ use Rattle.monitor_spec.specs.State.{State, Monitor, given, refused, stopped}
 use Rattle.monitor_spec.specs.Feed.{take_event, ending_of}
 use Rattle.monitor_spec.specs.Joined.{residual_count}
 use Rattle.monitor_spec.specs.Expected.{monitor_after}
-use Rattle.monitor_spec.specs.Expected.Records.{length_snoc}
-use Rattle.monitor_spec.specs.Expected.Steps.{Fed, sift, take_sifts}
+use Rattle.monitor_spec.proofs.Expected.Records.{length_snoc}
+use Rattle.monitor_spec.proofs.Expected.Steps.{Fed, sift, take_sifts}
 use Rattle.monitor_spec.specs.Stopping.{EventStops, unknown, full, exceeded}
 use Rattle.monitor_spec.proofs.Forms.{refused_given, refused_stopped}
 

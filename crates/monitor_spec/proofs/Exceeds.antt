@@ -8,15 +8,15 @@ use mathlib.Core.Logic.{◌↔◌}
 use lib.Dec.{T}
 use Rattle.table.specs.Table.{Table}
 use Rattle.table.specs.Judge.{accepted, judge_list}
-use Rattle.monitor_spec.specs.Valid.Laws.{and_split}
+use Rattle.monitor_spec.proofs.Valid.Laws.{and_split}
 use Rattle.monitor_spec.specs.State.{refused, areas_measured, work_measured, slot_count}
-use Rattle.monitor_spec.specs.State.Areas.{both_true}
+use Rattle.monitor_spec.proofs.State.Areas.{both_true}
 use Rattle.monitor_spec.specs.Open.{open_of}
-use Rattle.monitor_spec.specs.Open.Laws.{accepted_same}
+use Rattle.monitor_spec.proofs.Open.Laws.{accepted_same}
 use Rattle.monitor_spec.specs.Joined.{residual_count}
 use Rattle.monitor_spec.specs.Refusals.{OpenRefused, wrong_length, bad_table, exceeded}
 use Rattle.numbers.specs.Choice.{T_true, true_T}
-use Rattle.monitor_spec.specs.Refusals.Laws.{measured_in, measured_out, is_table_in, is_table_out}
+use Rattle.monitor_spec.proofs.Refusals.Laws.{measured_in, measured_out, is_table_in, is_table_out}
 use Rattle.monitor_spec.proofs.Opens.{refused_low, open_refused}
 
 module _ (l ns : List ℕ) (t : Table) (says : judge_list l ≡ accepted ns t) (a b es w : List ℕ) (p : ℕ) where

@@ -13,10 +13,10 @@ use Rattle.monitor_spec.specs.Fold.{Ended, through}
 use Rattle.monitor_spec.specs.State.{Monitor, Answer, refused, Outcome}
 use Rattle.monitor_spec.specs.Entering.{refusing}
 use Rattle.monitor_spec.specs.Feed.{take_event, ending_of, feed_of}
-use Rattle.monitor_spec.specs.Feed.Laws.{feed_shut, feed_admits}
+use Rattle.monitor_spec.proofs.Feed.Laws.{feed_shut, feed_admits}
 use Rattle.monitor_spec.specs.Refusals.{CallRefused, WorkLeft}
 use Rattle.monitor_spec.proofs.Endings.{none_answer, some_answer}
-use Rattle.monitor_spec.specs.Refusals.Laws.{Lent, Held}
+use Rattle.monitor_spec.proofs.Refusals.Laws.{Lent, Held}
 use Rattle.monitor_spec.proofs.Gate.{entrance_1, entrance_table, entrance_10, entrance_open}
 use Rattle.monitor_spec.proofs.Gate.{Gate, shut_1, shut_table, shut_10, clear, gate}
 use Rattle.monitor_spec.proofs.Gate.{refused_exactly}

@@ -13,16 +13,16 @@ use lib.ListN.{length}
 use Rattle.table.specs.Table.{Table}
 use Rattle.table.specs.Judge.{Judgement, accepted, declined, judge_list}
 use Rattle.table.specs.Operations.{zeros}
-use Rattle.table.specs.Refusals.AtNumbers.{refused_in, refused_out}
+use Rattle.table.proofs.Refusals.AtNumbers.{refused_in, refused_out}
 use Rattle.monitor_spec.specs.State.{Monitor}
 use Rattle.monitor_spec.specs.Consistent.{consistent}
 use Rattle.monitor_spec.specs.Entering.{shut, admits, entrance, entrance_on}
-use Rattle.monitor_spec.specs.Entering.Laws.{entrance_unmeasured, entrance_declined, entrance_accepted}
-use Rattle.monitor_spec.specs.Entering.Laws.{on_shut, on_inconsistent, on_consistent}
+use Rattle.monitor_spec.proofs.Entering.Laws.{entrance_unmeasured, entrance_declined, entrance_accepted}
+use Rattle.monitor_spec.proofs.Entering.Laws.{on_shut, on_inconsistent, on_consistent}
 use Rattle.monitor_spec.specs.Refusals.{CallRefused, wrong_length, bad_table, inconsistent}
-use Rattle.monitor_spec.specs.Refusals.Laws.{lent, measured_in, measured_out, unmeasured_in, unmeasured_out}
-use Rattle.monitor_spec.specs.Refusals.Laws.{clash, is_table_in, is_table_out, Lent, Held, held_in, held_out}
-use Rattle.monitor_spec.specs.Refusals.Laws.{unheld_in}
+use Rattle.monitor_spec.proofs.Refusals.Laws.{lent, measured_in, measured_out, unmeasured_in, unmeasured_out}
+use Rattle.monitor_spec.proofs.Refusals.Laws.{clash, is_table_in, is_table_out, Lent, Held, held_in, held_out}
+use Rattle.monitor_spec.proofs.Refusals.Laws.{unheld_in}
 
 module _ (l : List ℕ) (m : Monitor) (w : List ℕ) where
   -- ---- what an operation enters by

@@ -13,22 +13,22 @@ use Rattle.meaning.specs.Figure1.{Term}
 use Rattle.meaning.specs.Figure2.{TraceSet, Model}
 use Rattle.monitor_spec.specs.Regular.{Regular}
 use Rattle.monitor_spec.specs.Fold.{Ended, through}
-use Rattle.monitor_spec.specs.Fold.Laws.{some_stopped}
-use Rattle.monitor_spec.specs.Valid.Laws.{and_split}
+use Rattle.monitor_spec.proofs.Fold.Laws.{some_stopped}
+use Rattle.monitor_spec.proofs.Valid.Laws.{and_split}
 use Rattle.monitor_spec.specs.State.{Monitor, Outcome, areas_measured, work_measured, slot_count}
-use Rattle.monitor_spec.specs.State.Areas.{both_true}
+use Rattle.monitor_spec.proofs.State.Areas.{both_true}
 use Rattle.monitor_spec.specs.Entering.{refusing}
 use Rattle.monitor_spec.specs.Feed.{take_event, ending_of, feed_of}
 use Rattle.monitor_spec.specs.Open.{open_of}
-use Rattle.monitor_spec.specs.Refusals.Laws.{lent}
+use Rattle.monitor_spec.proofs.Refusals.Laws.{lent}
 use Rattle.monitor_spec.specs.Joined.{Call, residual_count, extend, join_call, joined}
 use Rattle.monitor_spec.specs.Expected.{monitor_after}
-use Rattle.monitor_spec.specs.Expected.Steps.{Fed}
+use Rattle.monitor_spec.proofs.Expected.Steps.{Fed}
 use Rattle.monitor_spec.specs.History.{history, Opened, Leaves, Eventful, Along, AfterCalls}
-use Rattle.monitor_spec.specs.History.Laws.{extends, after_measured, feed_refused, feed_goes, fed_join, call_join}
-use Rattle.monitor_spec.specs.History.Laws.{fed_joined, joined_ends, history_joined}
-use Rattle.monitor_spec.specs.History.Begun.{fresh_fed, open_goes, BeganOn, opened_began}
-use Rattle.monitor_spec.specs.History.After.{after_events}
+use Rattle.monitor_spec.proofs.History.Laws.{extends, after_measured, feed_refused, feed_goes, fed_join, call_join}
+use Rattle.monitor_spec.proofs.History.Laws.{fed_joined, joined_ends, history_joined}
+use Rattle.monitor_spec.proofs.History.Begun.{fresh_fed, open_goes, BeganOn, opened_began}
+use Rattle.monitor_spec.proofs.History.After.{after_events}
 use Rattle.numbers.specs.Choice.{T_true, true_T}
 use Rattle.monitor_spec.proofs.Endings.{false_T, none_answer, some_answer, stops_out}
 use Rattle.monitor_spec.proofs.Endings.{stops_range}

@@ -13,23 +13,23 @@ use Rattle.meaning.specs.Figure2.{TraceSet, Model}
 use Rattle.monitor_spec.specs.Regular.{Regular}
 use Rattle.monitor_spec.specs.State.{State, given, refused, stopped, Outcome, areas_measured, work_measured}
 use Rattle.monitor_spec.specs.State.{slot_count}
-use Rattle.monitor_spec.specs.State.Areas.{both_true}
-use Rattle.monitor_spec.specs.Valid.Laws.{and_split}
+use Rattle.monitor_spec.proofs.State.Areas.{both_true}
+use Rattle.monitor_spec.proofs.Valid.Laws.{and_split}
 use Rattle.monitor_spec.specs.Feed.{feed_of}
 use Rattle.monitor_spec.specs.Open.{open_of}
-use Rattle.monitor_spec.specs.Open.Laws.{accepted_same}
-use Rattle.monitor_spec.specs.Refusals.Laws.{lent}
+use Rattle.monitor_spec.proofs.Open.Laws.{accepted_same}
+use Rattle.monitor_spec.proofs.Refusals.Laws.{lent}
 use Rattle.monitor_spec.specs.Joined.{residual_count}
 use Rattle.monitor_spec.specs.Expected.{verdict_after, record_of, monitor_after}
-use Rattle.monitor_spec.specs.Expected.Steps.{Fed}
-use Rattle.monitor_spec.specs.History.Laws.{feed_goes}
-use Rattle.monitor_spec.specs.History.Begun.{fresh_fed, open_goes, slots_range}
+use Rattle.monitor_spec.proofs.Expected.Steps.{Fed}
+use Rattle.monitor_spec.proofs.History.Laws.{feed_goes}
+use Rattle.monitor_spec.proofs.History.Begun.{fresh_fed, open_goes, slots_range}
 use Rattle.monitor_spec.specs.Stopping.{StoppedAt, JudgesOne}
 use Rattle.numbers.specs.Choice.{T_true, true_T}
 use Rattle.monitor_spec.proofs.Forms.{refused_given, refused_stopped}
 use Rattle.monitor_spec.proofs.Opens.{opens}
-use Rattle.monitor_spec.specs.History.Peaks.{record_greatest}
-use Rattle.monitor_spec.specs.History.Verdicts.{judged_running, fails_exactly}
+use Rattle.monitor_spec.proofs.History.Peaks.{record_greatest}
+use Rattle.monitor_spec.proofs.History.Verdicts.{judged_running, fails_exactly}
 use Rattle.monitor_spec.proofs.Answers.{answers_one, given_record, given_verdict}
 
 module _ (l ns : List ℕ) (t : Table) (says : judge_list l ≡ accepted ns t) (regular : Regular t) (a b s w : List ℕ) where

@@ -9,15 +9,15 @@ use Rattle.table.specs.Table.{Table}
 use Rattle.table.specs.Judge.{accepted, judge_list}
 use Rattle.monitor_spec.specs.Regular.{Regular}
 use Rattle.monitor_spec.specs.Fold.{through}
-use Rattle.monitor_spec.specs.Valid.Laws.{and_split}
+use Rattle.monitor_spec.proofs.Valid.Laws.{and_split}
 use Rattle.monitor_spec.specs.State.{Monitor, Outcome, areas_measured, work_measured}
 use Rattle.monitor_spec.specs.Consistent.{consistent}
-use Rattle.monitor_spec.specs.Consistent.Laws.{feed_keeps}
+use Rattle.monitor_spec.proofs.Consistent.Laws.{feed_keeps}
 use Rattle.monitor_spec.specs.Feed.{take_event, feed_of}
 use Rattle.monitor_spec.specs.Joined.{Call}
 use Rattle.monitor_spec.specs.History.{afterwards, call_on}
-use Rattle.monitor_spec.specs.History.Laws.{after_ending, after_refusing}
-use Rattle.monitor_spec.specs.Refusals.Laws.{lent, measured_out, unmeasured_out, held_out}
+use Rattle.monitor_spec.proofs.History.Laws.{after_ending, after_refusing}
+use Rattle.monitor_spec.proofs.Refusals.Laws.{lent, measured_out, unmeasured_out, held_out}
 use Rattle.monitor_spec.proofs.Feeds.{on_1, on_open}
 
 module _ (l ns : List ℕ) (t : Table) (says : judge_list l ≡ accepted ns t) (regular : Regular t) (m : Monitor)

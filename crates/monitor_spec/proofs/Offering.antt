@@ -15,10 +15,10 @@ use Rattle.residuals.specs.Slots.{slots_of}
 use Rattle.monitor_spec.specs.State.{failed_at, Monitor, slot_count, laid}
 use Rattle.monitor_spec.specs.Offer.{EventBits, Offered, offers, refused, OfferOutcome, offer_bits, offering}
 use Rattle.monitor_spec.specs.Offer.{offer_of}
-use Rattle.monitor_spec.specs.Offer.Laws.{bits_tell, offer_shut, offer_admits}
+use Rattle.monitor_spec.proofs.Offer.Laws.{bits_tell, offer_shut, offer_admits}
 use Rattle.monitor_spec.specs.Offers.{BitsJust, WordsJust}
 use Rattle.monitor_spec.specs.Refusals.{CallRefused, Offers, WorkLeft}
-use Rattle.monitor_spec.specs.Refusals.Laws.{is_table_in, is_table_out, accepts, Lent, Held}
+use Rattle.monitor_spec.proofs.Refusals.Laws.{is_table_in, is_table_out, accepts, Lent, Held}
 use Rattle.monitor_spec.proofs.Gate.{entrance_1, entrance_table, entrance_10, entrance_open}
 use Rattle.monitor_spec.proofs.Gate.{Gate, shut_1, shut_table, shut_10, clear, gate}
 use Rattle.monitor_spec.proofs.Gate.{refused_exactly}

@@ -15,27 +15,27 @@ use Rattle.residuals.specs.Residual.{Residual, after_all, residuals_of}
 use Rattle.monitor_spec.specs.Meaning.{Some}
 use Rattle.residuals.specs.Slots.{slots_of}
 use Rattle.monitor_spec.specs.Valid.{held}
-use Rattle.monitor_spec.specs.Valid.Residuals.{slots_after}
+use Rattle.monitor_spec.proofs.Valid.Residuals.{slots_after}
 use Rattle.monitor_spec.specs.State.{Verdict, running, failed_at, State, Monitor, areas_measured, work_measured}
 use Rattle.monitor_spec.specs.State.{laid}
-use Rattle.monitor_spec.specs.State.Areas.{both_true}
+use Rattle.monitor_spec.proofs.State.Areas.{both_true}
 use Rattle.monitor_spec.specs.Consistent.{consistent}
-use Rattle.monitor_spec.specs.Entering.Laws.{entrance_accepted, on_consistent}
+use Rattle.monitor_spec.proofs.Entering.Laws.{entrance_accepted, on_consistent}
 use Rattle.monitor_spec.specs.Feed.{present_slots}
 use Rattle.monitor_spec.specs.Offer.{OfferOutcome, offers, word_bits, word_from, all_bits, offer_bits, offering}
 use Rattle.monitor_spec.specs.Offer.{offer_of}
-use Rattle.monitor_spec.specs.Offer.Laws.{word_bit, offer_admits}
+use Rattle.monitor_spec.proofs.Offer.Laws.{word_bit, offer_admits}
 use Rattle.monitor_spec.specs.View.{view_of}
-use Rattle.monitor_spec.specs.View.Laws.{view_laid}
+use Rattle.monitor_spec.proofs.View.Laws.{view_laid}
 use Rattle.monitor_spec.specs.Expected.{record_of, monitor_after}
-use Rattle.monitor_spec.specs.Expected.Verdicts.{slots_none, slots_some, residuals_snoc}
+use Rattle.monitor_spec.proofs.Expected.Verdicts.{slots_none, slots_some, residuals_snoc}
 use Rattle.monitor_spec.specs.Sensible.{Agrees, Sensible}
-use Rattle.monitor_spec.specs.Expected.Laid.{laid_present}
-use Rattle.monitor_spec.specs.Expected.Steps.{Fed, fed_sensible}
+use Rattle.monitor_spec.proofs.Expected.Laid.{laid_present}
+use Rattle.monitor_spec.proofs.Expected.Steps.{Fed, fed_sensible}
 use Rattle.monitor_spec.specs.History.{start}
-use Rattle.monitor_spec.specs.History.Laws.{after_measured, after_consistent}
+use Rattle.monitor_spec.proofs.History.Laws.{after_measured, after_consistent}
 use Rattle.monitor_spec.specs.Offers.{BitsJust, WordsJust, OffersJust}
-use Rattle.monitor_spec.specs.History.Verdicts.{held_some}
+use Rattle.monitor_spec.proofs.History.Verdicts.{held_some}
 
 some_slots : (ps : List Residual) → Some ps ↔ Some (slots_of ps)
 some_slots [] = rw slots_none (λ h. h, λ h. h)

@@ -19,9 +19,9 @@ use Rattle.monitor_spec.specs.Expected.{monitor_onward}
 use Rattle.monitor_spec.specs.Sensible.{Sensible}
 use Rattle.monitor_spec.specs.History.{Leaves}
 use Rattle.monitor_spec.specs.Progress.{Passes, HaltsAt, LeavesAt, FeedStops, FeedGives}
-use Rattle.monitor_spec.specs.Progress.Laws.{passes_ends, halts_ends, PassOrHalt, passed, halted, pass_or_halt}
+use Rattle.monitor_spec.proofs.Progress.Laws.{passes_ends, halts_ends, PassOrHalt, passed, halted, pass_or_halt}
 use Rattle.monitor_spec.proofs.Forms.{given_same, stopped_same, refused_given, refused_stopped, given_stopped}
-use Rattle.monitor_spec.specs.Refusals.Laws.{is_table_in, is_table_out, accepts, Lent, Held}
+use Rattle.monitor_spec.proofs.Refusals.Laws.{is_table_in, is_table_out, accepts, Lent, Held}
 use Rattle.monitor_spec.proofs.Feeds.{on_open, opens}
 
 monitor_same : (x y : Monitor) → x.state ≡ y.state → x.area0 ≡ y.area0 → x.area1 ≡ y.area1 → x ≡ y

@@ -16,18 +16,18 @@ use Rattle.table.specs.Judge.{accepted, judge_list}
 use Rattle.table.specs.Operations.{zeros}
 use Rattle.table.specs.Refusals.{Refused, too_long, truncated_list, out_of_range, trailing_input, bad_reference}
 use Rattle.table.specs.Refusals.{too_wide, too_many_branches}
-use Rattle.table.specs.Refusals.AtNumbers.{refused_in, refused_out}
+use Rattle.table.proofs.Refusals.AtNumbers.{refused_in, refused_out}
 use Rattle.monitor_spec.specs.State.{refused, Outcome, slot_count, fill}
 use Rattle.monitor_spec.specs.Entering.{refusing}
 use Rattle.monitor_spec.specs.Feed.{ending_of}
 use Rattle.monitor_spec.specs.Open.{open_of}
-use Rattle.monitor_spec.specs.Open.Laws.{OpenCase, unmeasured, declines, exceeds, runs, open_case}
-use Rattle.monitor_spec.specs.Open.Laws.{open_unmeasured, open_declined, exceeded_of, open_exceeded, open_runs}
+use Rattle.monitor_spec.proofs.Open.Laws.{OpenCase, unmeasured, declines, exceeds, runs, open_case}
+use Rattle.monitor_spec.proofs.Open.Laws.{open_unmeasured, open_declined, exceeded_of, open_exceeded, open_runs}
 use Rattle.monitor_spec.specs.Joined.{residual_count}
 use Rattle.monitor_spec.specs.Refusals.{Measured, OpenRefused, wrong_length, bad_table, exceeded, WorkLeft}
 use Rattle.monitor_spec.proofs.Forms.{refused_same}
-use Rattle.monitor_spec.specs.Refusals.Laws.{lent, measured_out, measured_in, unmeasured_in, unmeasured_out}
-use Rattle.monitor_spec.specs.Refusals.Laws.{is_table_in, is_table_out}
+use Rattle.monitor_spec.proofs.Refusals.Laws.{lent, measured_out, measured_in, unmeasured_in, unmeasured_out}
+use Rattle.monitor_spec.proofs.Refusals.Laws.{is_table_in, is_table_out}
 use Rattle.monitor_spec.proofs.Endings.{ending_refused}
 
 -- the table layer's refusals are 2 to 9

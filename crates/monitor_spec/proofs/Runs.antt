@@ -13,23 +13,23 @@ use Rattle.table.specs.Judge.{accepted, judge_list}
 use Rattle.residuals.specs.Residual.{run, from_definition, residuals_of}
 use Rattle.residuals.specs.Slots.{slots_of}
 use Rattle.monitor_spec.specs.Regular.{Regular}
-use Rattle.monitor_spec.specs.Valid.Laws.{some_same, none_some}
+use Rattle.monitor_spec.proofs.Valid.Laws.{some_same, none_some}
 use Rattle.monitor_spec.specs.State.{State, fresh_state, holding, Monitor, Answer, given, refused, stopped}
 use Rattle.monitor_spec.specs.State.{Outcome, slot_count, even, choose, laid}
 use Rattle.monitor_spec.specs.Fold.{through}
 use Rattle.monitor_spec.specs.Feed.{take_event, ending_of}
 use Rattle.monitor_spec.specs.Open.{fresh_monitor, open_of}
-use Rattle.monitor_spec.specs.Open.Laws.{open_runs}
+use Rattle.monitor_spec.proofs.Open.Laws.{open_runs}
 use Rattle.monitor_spec.specs.Joined.{Call, residual_count}
 use Rattle.monitor_spec.specs.Expected.{record_of, monitor_onward, monitor_after}
-use Rattle.monitor_spec.specs.Expected.Records.{record_first}
-use Rattle.monitor_spec.specs.Expected.Steps.{fed_sensible}
+use Rattle.monitor_spec.proofs.Expected.Records.{record_first}
+use Rattle.monitor_spec.proofs.Expected.Steps.{fed_sensible}
 use Rattle.monitor_spec.specs.Sensible.{Sensible}
 use Rattle.monitor_spec.specs.History.{record_in, Opened, Leaves}
-use Rattle.monitor_spec.specs.History.Begun.{fresh_fed}
+use Rattle.monitor_spec.proofs.History.Begun.{fresh_fed}
 use Rattle.monitor_spec.specs.Progress.{LeavesAt, OpenStops, OpenGives}
 use Rattle.monitor_spec.proofs.Forms.{refused_given, refused_stopped}
-use Rattle.monitor_spec.specs.Refusals.Laws.{lent, measured_out, measured_in, is_table_in, is_table_out, accepts}
+use Rattle.monitor_spec.proofs.Refusals.Laws.{lent, measured_out, measured_in, is_table_in, is_table_out, accepts}
 use Rattle.monitor_spec.proofs.Onward.{passed_leaves, halted_leaves, run_stops, run_gives}
 use Rattle.monitor_spec.proofs.Opens.{opens}
 

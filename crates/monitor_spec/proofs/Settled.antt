@@ -14,23 +14,23 @@ use Rattle.table.specs.Table.{Table}
 use Rattle.table.specs.Judge.{accepted, judge_list}
 use Rattle.residuals.specs.Residual.{residuals_of}
 use Rattle.residuals.specs.Slots.{slots_of}
-use Rattle.monitor_spec.specs.Valid.Laws.{and_split}
+use Rattle.monitor_spec.proofs.Valid.Laws.{and_split}
 use Rattle.monitor_spec.specs.State.{State, fresh_state, holding, Monitor, given, Outcome, areas_measured}
 use Rattle.monitor_spec.specs.State.{work_measured, slot_count, fill}
-use Rattle.monitor_spec.specs.State.Records.{state_path}
+use Rattle.monitor_spec.proofs.State.Records.{state_path}
 use Rattle.monitor_spec.specs.Fold.{through}
 use Rattle.monitor_spec.specs.Feed.{take_event, ending_of, feed_of}
 use Rattle.monitor_spec.specs.Open.{fresh_monitor, open_of}
-use Rattle.monitor_spec.specs.Open.Laws.{open_runs}
+use Rattle.monitor_spec.proofs.Open.Laws.{open_runs}
 use Rattle.monitor_spec.specs.Joined.{residual_count}
 use Rattle.monitor_spec.specs.Expected.{monitor_after}
-use Rattle.monitor_spec.specs.Expected.Verdicts.{verdict_by}
+use Rattle.monitor_spec.proofs.Expected.Verdicts.{verdict_by}
 use Rattle.monitor_spec.specs.History.{Leaves}
-use Rattle.monitor_spec.specs.History.Laws.{feed_goes}
-use Rattle.monitor_spec.specs.History.Begun.{fresh_after, fresh_fed, slots_range}
+use Rattle.monitor_spec.proofs.History.Laws.{feed_goes}
+use Rattle.monitor_spec.proofs.History.Begun.{fresh_after, fresh_fed, slots_range}
 use Rattle.monitor_spec.specs.Refusals.{Fresh}
 use Rattle.monitor_spec.proofs.Forms.{given_same, refused_given}
-use Rattle.monitor_spec.specs.Refusals.Laws.{lent, measured_out, measured_in, is_table_in, is_table_out, accepts}
+use Rattle.monitor_spec.proofs.Refusals.Laws.{lent, measured_out, measured_in, is_table_in, is_table_out, accepts}
 use Rattle.monitor_spec.proofs.Opens.{opens}
 use Rattle.monitor_spec.proofs.Runs.{first_state}
 

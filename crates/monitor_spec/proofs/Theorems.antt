@@ -4,24 +4,24 @@ use native.Mathlib.Omega.{arith}
 use mathlib.Core.Path.{◌≡◌, sym, subst, ◌∙◌}
 use mathlib.Core.List.{List, [], ◌∷◌, ◌++◌}
 use mathlib.Core.Bool.{true}
-use Rattle.table.specs.Stands.Laws.{number_at}
-use Rattle.monitor_spec.specs.Regular.Laws.{regular}
-use Rattle.monitor_spec.specs.Refusals.Laws.{accepts}
-use Rattle.monitor_spec.specs.ResidualMeaning.Traces.{traces_run, traces_definition}
+use Rattle.table.proofs.Stands.Laws.{number_at}
+use Rattle.monitor_spec.proofs.Regular.Laws.{regular}
+use Rattle.monitor_spec.proofs.Refusals.Laws.{accepts}
+use Rattle.monitor_spec.proofs.ResidualMeaning.Traces.{traces_run, traces_definition}
 use Rattle.residuals.specs.Residual.{Residual, residuals_of}
-use Rattle.residuals.specs.Residual.Counts.{residuals_few}
-use Rattle.residuals.specs.Slots.Laws.{slots_few}
+use Rattle.residuals.proofs.Residual.Counts.{residuals_few}
+use Rattle.residuals.proofs.Slots.Laws.{slots_few}
 use Rattle.monitor_spec.specs.Valid.{valid_slot}
-use Rattle.monitor_spec.specs.Proper.Laws.{resolve_reach}
-use Rattle.monitor_spec.specs.Valid.Laws.{valid_proper, proper_valid}
+use Rattle.monitor_spec.proofs.Proper.Laws.{resolve_reach}
+use Rattle.monitor_spec.proofs.Valid.Laws.{valid_proper, proper_valid}
 use Rattle.monitor_spec.specs.State.{Monitor, areas_measured, work_measured, slot_count, laid}
 use Rattle.monitor_spec.specs.Consistent.{consistent}
-use Rattle.monitor_spec.specs.Consistent.Reading.{consistent_laid}
-use Rattle.monitor_spec.specs.Consistent.Laws.{laid_still}
-use Rattle.monitor_spec.specs.Views.Laws.{part_way}
+use Rattle.monitor_spec.proofs.Consistent.Reading.{consistent_laid}
+use Rattle.monitor_spec.proofs.Consistent.Laws.{laid_still}
+use Rattle.monitor_spec.proofs.Views.Laws.{part_way}
 use Rattle.monitor_spec.specs.Joined.{Call, residual_count, joined}
 use Rattle.monitor_spec.specs.Expected.{record_onward, monitor_onward}
-use Rattle.monitor_spec.specs.Expected.Peaks.{peak_grows, peak_over, peak_stands}
+use Rattle.monitor_spec.proofs.Expected.Peaks.{peak_grows, peak_over, peak_stands}
 use Rattle.monitor_spec.specs.History.{call_on, history, AfterCalls}
 use Rattle.monitor_spec.specs.Try.{try_of}
 use Rattle.monitor_spec.specs.Tried.{tried}
@@ -45,7 +45,7 @@ use Rattle.monitor_spec.proofs.Onward.{feed_stops, feed_gives}
 use Rattle.monitor_spec.proofs.Offering as offering
 use Rattle.monitor_spec.proofs.Exceeds.{open_exceeds_exactly}
 use Rattle.monitor_spec.proofs.Histories.{reached, history_holds}
-use Rattle.monitor_spec.specs.History.Verdicts.{held_some}
+use Rattle.monitor_spec.proofs.History.Verdicts.{held_some}
 use Rattle.monitor_spec.proofs.Answers.{answers_one}
 use Rattle.monitor_spec.proofs.Judges.{judges_one}
 use Rattle.monitor_spec.proofs.Counts.{slot_once, counts}

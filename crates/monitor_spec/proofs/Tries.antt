@@ -17,23 +17,23 @@ use Rattle.table.specs.Table.{Table}
 use Rattle.table.specs.Judge.{accepted, judge_list}
 use Rattle.monitor_spec.specs.Regular.{Regular}
 use Rattle.monitor_spec.specs.Fold.{Ended, through}
-use Rattle.monitor_spec.specs.Valid.Laws.{and_split}
+use Rattle.monitor_spec.proofs.Valid.Laws.{and_split}
 use Rattle.monitor_spec.specs.State.{State, Monitor, Answer, given, refused, stopped, Outcome, work_measured}
-use Rattle.monitor_spec.specs.State.Areas.{both_true}
+use Rattle.monitor_spec.proofs.State.Areas.{both_true}
 use Rattle.monitor_spec.specs.Entering.{refusing}
 use Rattle.monitor_spec.specs.Feed.{take_event, ending_of, feed_of}
 use Rattle.monitor_spec.specs.Try.{further_measured, on_copy, try_of}
-use Rattle.monitor_spec.specs.Try.Laws.{copy_given, copy_stopped, copy_refused, copy_ending, try_alike}
-use Rattle.monitor_spec.specs.Try.Laws.{try_unlike}
+use Rattle.monitor_spec.proofs.Try.Laws.{copy_given, copy_stopped, copy_refused, copy_ending, try_alike}
+use Rattle.monitor_spec.proofs.Try.Laws.{try_unlike}
 use Rattle.monitor_spec.specs.Joined.{Call}
 use Rattle.monitor_spec.specs.Expected.{monitor_after}
-use Rattle.monitor_spec.specs.Expected.Steps.{Fed}
+use Rattle.monitor_spec.proofs.Expected.Steps.{Fed}
 use Rattle.monitor_spec.specs.Refusals.{WorkLeft}
 use Rattle.monitor_spec.specs.Progress.{LeavesAt, FeedStops, FeedGives}
 use Rattle.monitor_spec.specs.History.{call_on, history, Leaves}
-use Rattle.monitor_spec.specs.History.Laws.{feed_goes}
+use Rattle.monitor_spec.proofs.History.Laws.{feed_goes}
 use Rattle.monitor_spec.specs.Tried.{Alike, TryRefused, unlike, as_feed, tried, Foretells}
-use Rattle.monitor_spec.specs.Refusals.Laws.{clash}
+use Rattle.monitor_spec.proofs.Refusals.Laws.{clash}
 use Rattle.monitor_spec.proofs.Forms.{refused_same, refused_given, refused_stopped}
 use Rattle.monitor_spec.proofs.Feeds as feeds
 use Rattle.monitor_spec.proofs.Onward.{feed_stops, feed_gives}

@@ -1,15 +1,13 @@
 -- When state and area agree (01, "Disturbed"; inconsistent is 01's disturbed).
 --     record_fits, area_fits  of the record alone; of the present area
 --     consistent              refusal 10 is not met
--- What it says of the residuals held is in `Consistent/Reading.antt`, that Feed keeps it in `Consistent/Laws.antt`.
--- Assumes nothing.
+-- What it says of the residuals held is in `proofs/Consistent/Reading.antt`, that Feed keeps it in
+-- `proofs/Consistent/Laws.antt`. Assumes nothing.
 use Rattle.std.specs.Prelude.{ℕ, ◌*◌, Bool, true, not, ◌&&◌, List, [], ◌∷◌, drop, eqb, ltb}
 use Rattle.table.specs.Table.{Table}
 use Rattle.slots.specs.Canon.{compare_words}
 use Rattle.monitor_spec.specs.Valid.{valid_slot, is_below}
 use Rattle.monitor_spec.specs.State.{Verdict, running, failed_at, State, Monitor, slot_count, even, choose, chunks}
-pub mod Reading
-pub mod Laws
 
 unfoldable pub every : {A : Type 0} → (A → Bool) → List A → Bool
 every f [] = true

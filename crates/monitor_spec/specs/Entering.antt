@@ -6,14 +6,13 @@
 --     agreeing, entrance_on   10, for a monitor; all, in this order
 --     entering                what an operation makes of a refusal, and of a table
 --     refusing                a refusal that keeps the areas
--- The laws are in `Entering/Laws.antt`. Assumes nothing.
+-- The laws are in `proofs/Entering/Laws.antt`. Assumes nothing.
 use Rattle.std.specs.Prelude.{ℕ, Bool, true, false, ◌&&◌, List, length}
 use Rattle.table.specs.Table.{Table}
 use Rattle.table.specs.Judge.{Judgement, accepted, declined, judge_list}
 use Rattle.table.specs.Operations.{zeros}
 use Rattle.monitor_spec.specs.State.{Monitor, refused, Outcome, areas_measured, work_measured}
 use Rattle.monitor_spec.specs.Consistent.{consistent}
-pub mod Laws
 
 pub data Entrance : Type 0 where
   shut : ℕ → ℕ → List ℕ → Entrance

@@ -3,19 +3,14 @@
 --     record_of        the record of a list;  monitor_after: record and areas after a list, with n slots
 --     verdict_onward, peak_onward, record_onward, monitor_onward
 --                      the same from any record and residuals held
--- The laws are in `Expected/`: `Verdicts`, `Peaks`, `Records`, `Laid`, `Steps`; from any residuals, in
--- `Progress/Laws.antt`. Assumes nothing.
+-- The laws are in `proofs/Expected/`: `Verdicts`, `Peaks`, `Records`, `Laid`, `Steps`; from any residuals, in
+-- `proofs/Progress/Laws.antt`. Assumes nothing.
 use Rattle.std.specs.Prelude.{ℕ, suc, max, ◌+◌, List, [], ◌∷◌, length}
 use Rattle.table.specs.Table.{Table}
 use Rattle.meaning.specs.Figure1.{body_count, last}
 use Rattle.residuals.specs.Residual.{Residual, resolve_def, after_all, run, residuals_of}
 use Rattle.residuals.specs.Slots.{slots_of}
 use Rattle.monitor_spec.specs.State.{Verdict, running, failed_at, State, fresh_state, Monitor, laid}
-pub mod Verdicts
-pub mod Peaks
-pub mod Records
-pub mod Laid
-pub mod Steps
 
 unfoldable pub if_none : List Residual → Verdict → Verdict → Verdict
 if_none [] v w = v
@@ -54,7 +49,7 @@ unfoldable pub monitor_onward : Table → ℕ → State → List Residual → Li
 monitor_onward t n s rs es = laid n (record_onward t s rs es) (slots_of (run t rs es))
 
 -- from the settled monitor on: `state_after` from `fresh_state` over the counts of the list's beginnings
--- (`Expected/Records.antt`)
+-- (`proofs/Expected/Records.antt`)
 unfoldable pub record_of : Table → List ℕ → State
 record_of t s = record_onward t (fresh_state (length (slots_of (residuals_of t [])))) (residuals_of t []) s
 

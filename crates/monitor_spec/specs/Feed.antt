@@ -3,7 +3,7 @@
 --     event_refused             one event: refusal 11, 12 or 13, or none
 --     take_event                the monitor after it, or the refusal
 --     feed_of                   answer, areas and work words of a call
--- The laws are in `Feed/Laws.antt`. Assumes nothing.
+-- The laws are in `proofs/Feed/Laws.antt`. Assumes nothing.
 use Rattle.std.specs.Prelude.{ℕ, true, false, List, [], length, eqb, leb, ltb}
 use Rattle.std.proofs.Math.Option.{Option, none, some}
 use Rattle.table.specs.Table.{Table}
@@ -15,7 +15,6 @@ use Rattle.monitor_spec.specs.Fold.{StepEnd, went, stops, Ended, through}
 use Rattle.monitor_spec.specs.State.{state_after, Monitor, given, stopped, Outcome, slot_count, even, choose}
 use Rattle.monitor_spec.specs.State.{chunks, fill}
 use Rattle.monitor_spec.specs.Entering.{entrance_on, entering, refusing}
-pub mod Laws
 
 -- 2^64-1
 abbrev pub counter_most : ℕ

@@ -4,12 +4,10 @@
 --     took              the elements that it took
 --     restarts, joins   over a list of lists: where it ends, and all that were taken
 --     extend_by, extend_all  a list with the elements of another, and of each of several, up to the first that halts
--- The law, `restarts_join`, is in `Fold/Laws.antt`; that of a fold along such a list in `Fold/Joined.antt`. Assumes
--- nothing.
+-- The law, `restarts_join`, is in `proofs/Fold/Laws.antt`; that of a fold along such a list in
+-- `proofs/Fold/Joined.antt`. Assumes nothing.
 use Rattle.std.specs.Prelude.{ℕ, suc, Bool, true, false, List, [], ◌∷◌, ◌++◌}
 use Rattle.std.proofs.Math.Option.{Option, none, some}
-pub mod Laws
-pub mod Joined
 
 module _ (C : Type 0) where
   pub data StepEnd : Type 0 where

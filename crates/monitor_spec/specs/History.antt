@@ -10,8 +10,8 @@
 --     Eventful, Along      no call of a list is refused with 2 to 10
 --     AfterEvents          what demand 3 says of the monitor by the events since its start
 --     AfterCalls           all that demand 3 says of the monitor after the calls
--- The laws are in `History/`: `Laws`; `Begun`, of what Open gives; `Verdicts`, `Peaks` and `After`, of what a list
--- calls for. Assumes nothing.
+-- The laws are in `proofs/History/`: `Laws`; `Begun`, of what Open gives; `Verdicts`, `Peaks` and `After`, of what a
+-- list calls for. Assumes nothing.
 use Rattle.std.specs.Prelude.{ℕ, ◌≤◌, ◌<◌, ◌≡◌, List, [], ◌∷◌, ◌↔◌, length, take, T}
 use Rattle.std.proofs.Math.Option.{Option, none, some}
 use Rattle.table.specs.Table.{Table}
@@ -25,11 +25,6 @@ use Rattle.monitor_spec.specs.State.{work_measured, slot_count, even, choose, fi
 use Rattle.monitor_spec.specs.Feed.{feed_of}
 use Rattle.monitor_spec.specs.Open.{open_of}
 use Rattle.monitor_spec.specs.Joined.{Call, residual_count}
-pub mod Laws
-pub mod Begun
-pub mod Verdicts
-pub mod Peaks
-pub mod After
 
 -- "After a refusal without a record, the record that went in stands."
 unfoldable pub standing : State → Answer → State

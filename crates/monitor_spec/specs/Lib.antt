@@ -1,6 +1,5 @@
 -- The monitor's specification, in reading order: what residuals mean, valid slots, the state, the operations, lists of
 -- calls; the worked examples; what is claimed. Last, what only the laws and proofs use. Assumes nothing.
-pub mod ResidualMeaning
 pub mod Valid
 pub mod State
 pub mod Consistent

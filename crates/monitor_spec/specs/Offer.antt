@@ -4,7 +4,7 @@
 --     bits_from, word_from  the bits of k events from b on; of as many as a word has room for
 --     all_bits, offer_bits  both words, of the residuals held and by the verdict
 --     offer_of              answer, areas and work words of a call
--- The laws are in `Offer/Laws.antt`. Assumes nothing.
+-- The laws are in `proofs/Offer/Laws.antt`. Assumes nothing.
 use Rattle.std.specs.Prelude.{ℕ, zero, suc, ◌+◌, ◌-◌, ◌^◌, min, List, [], ◌∷◌, length}
 use Rattle.table.specs.Table.{Table}
 use Rattle.table.specs.Operations.{zeros}
@@ -13,7 +13,6 @@ use Rattle.monitor_spec.specs.Valid.{held}
 use Rattle.monitor_spec.specs.State.{Verdict, running, failed_at, Monitor}
 use Rattle.monitor_spec.specs.Entering.{entrance_on, entering}
 use Rattle.monitor_spec.specs.Feed.{present_slots}
-pub mod Laws
 
 -- 02, W6: "Offer gives two words"
 pub record EventBits : Type 0 where

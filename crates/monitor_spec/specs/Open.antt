@@ -3,7 +3,7 @@
 --     fresh_monitor     the settled monitor: before any event, with n slots
 --     open_accepted     settling, and then Feed's run, of an accepted table
 --     open_of           answer, areas and work words of a call
--- The laws are in `Open/Laws.antt`. Assumes nothing.
+-- The laws are in `proofs/Open/Laws.antt`. Assumes nothing.
 use Rattle.std.specs.Prelude.{ℕ, true, false, ◌&&◌, List, [], length, ltb}
 use Rattle.table.specs.Table.{Table}
 use Rattle.table.specs.Operations.{zeros}
@@ -14,7 +14,6 @@ use Rattle.monitor_spec.specs.State.{slot_count, fill}
 use Rattle.monitor_spec.specs.Entering.{entrance, entering, refusing}
 use Rattle.monitor_spec.specs.Fold.{through}
 use Rattle.monitor_spec.specs.Feed.{take_event, ending_of}
-pub mod Laws
 
 -- 01: "settles the last definition into area 0, zeroes area 1, taken 0"; "An empty set means failed, at .. (0 at
 -- Start)"

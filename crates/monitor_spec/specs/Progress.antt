@@ -6,7 +6,7 @@
 --     PeakOnward       the peak after a list of events, from any before it
 --     FeedStops        the call stops at an event;  FeedGives: it takes all events
 --     OpenStops, OpenGives     so of Open, from the settled monitor
--- The laws are in `Progress/Laws.antt`. Assumes nothing.
+-- The laws are in `proofs/Progress/Laws.antt`. Assumes nothing.
 use Rattle.std.specs.Prelude.{ℕ, suc, ◌+◌, ◌≤◌, ◌<◌, ◌≡◌, List, [], ◌∷◌, ◌++◌, ◌⊎◌, length, take}
 use Rattle.table.specs.Table.{Table}
 use Rattle.residuals.specs.Residual.{Residual, after_all, run, residuals_of}
@@ -17,7 +17,6 @@ use Rattle.monitor_spec.specs.Joined.{residual_count}
 use Rattle.monitor_spec.specs.Expected.{monitor_onward, monitor_after}
 use Rattle.monitor_spec.specs.Sensible.{Laid}
 use Rattle.monitor_spec.specs.Refusals.{Measured, IsTable}
-pub mod Laws
 
 -- with n slots, k events taken and the residuals rs held: "per event 11, 12, 13"
 pub data Meets (t : Table) (n k : ℕ) (rs : List Residual) (e : ℕ) : ℕ → Type 0 where

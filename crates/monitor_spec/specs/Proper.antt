@@ -2,15 +2,14 @@
 --     Remembers               of a memory: its events are below A, and zero from the count of enclosing prefixes on
 --     MemoriesFit, Fitting    so at each node; and the leaves' reach sums to at most k
 --     Proper                  a sound residual that fits, its reach at most 8
--- The laws are in `Proper/`: `Laws` (resolving and stepping keep it), `Nodes` (its slot has room). Assumes nothing.
+-- The laws are in `proofs/Proper/`: `Laws` (resolving and stepping keep it), `Nodes` (its slot has room). Assumes
+-- nothing.
 use Rattle.std.specs.Prelude.{ℕ, ◌≤◌, ◌<◌, ◌≡◌}
 use Rattle.table.specs.Table.{Table, enclosing}
 use Rattle.table.specs.Memory.{Memory, digit}
 use Rattle.residuals.specs.Residual.{Residual, leaf, pair}
 use Rattle.monitor_spec.specs.Meaning.{Sound}
 use Rattle.monitor_spec.specs.Valid.{reach_sum}
-pub mod Laws
-pub mod Nodes
 
 -- "memory is below A, zero beyond the term's enclosing prefixes": A is a, and c prefixes enclose
 abbrev pub Remembers : ℕ → ℕ → Memory → Type 0

@@ -7,7 +7,8 @@
 --     CallRefused      the refusals of Feed and Offer before an event: 1, 2 to 9, 10
 --     Offers           the two words that Offer gives
 --     WorkLeft         what stands in the work area after a call
--- The laws are in `Refusals/Laws.antt`. What Open and Feed do with events is in `Progress.antt`. Assumes nothing.
+-- The laws are in `proofs/Refusals/Laws.antt`. What Open and Feed do with events is in `Progress.antt`. Assumes
+-- nothing.
 use Rattle.std.specs.Prelude.{ℕ, ◌%◌, ◌≤◌, ◌<◌, ◌≡◌, List, [], length}
 use Rattle.numbers.specs.Number.{list_bytes}
 use Rattle.table.specs.Table.{Table}
@@ -24,7 +25,6 @@ use Rattle.monitor_spec.specs.Offer.{EventBits}
 use Rattle.monitor_spec.specs.Offers.{WordsJust}
 use Rattle.monitor_spec.specs.Expected.{if_none}
 use Rattle.monitor_spec.specs.Sensible.{Laid}
-pub mod Laws
 
 -- 01, "Operations": "Lent areas 0 and 1: u64 words, equal lengths, a multiple of 16 from 16 to 4,096. The work area,
 -- .., is 8,192 u64 words"

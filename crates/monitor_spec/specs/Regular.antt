@@ -1,5 +1,5 @@
--- What the proofs of this crate use of 01's rules on tables (ours): `Regular/Laws.antt` has it of every table that
--- keeps them. No claim names it. Assumes nothing.
+-- What the proofs of this crate use of 01's rules on tables (ours): `proofs/Regular/Laws.antt` has it of every table
+-- that keeps them. No claim names it. Assumes nothing.
 use Rattle.std.specs.Prelude.{ℕ, ◌≤◌, ◌<◌}
 use Rattle.table.specs.Table.{Table, term_count, body_of}
 use Rattle.table.specs.Rows.{alphabet_most}
@@ -7,8 +7,6 @@ use Rattle.meaning.specs.Figure1.{body_count, GuardedTable}
 use Rattle.meaning.specs.Closing.{Scoped}
 use Rattle.table.specs.References.{level_in}
 use Rattle.table.specs.Width.{level_width, reach}
-pub mod Least
-pub mod Laws
 
 pub record Regular (t : Table) : Type 0 where
   -- 02, W6: "A may be 1 to 128"

@@ -7,11 +7,9 @@
 --     work_measured, slot_count        the length of the work area; how many slots an area has
 --     even, choose                     which area is present
 --     chunks, fill, laid               an area's slots; slots and then zeros; a record with its slots laid out
--- The laws are in `State/`: `Records`, `Areas`. Assumes nothing.
+-- The laws are in `proofs/State/`: `Records`, `Areas`. Assumes nothing.
 use Rattle.std.specs.Prelude.{ℕ, zero, suc, max, ◌/◌, ◌%◌, Bool, true, false, ◌&&◌, List, [], ◌∷◌, length, take, drop, eqb, leb}
 unfoldable pub use Rattle.slots.specs.Canon.{fill}
-pub mod Records
-pub mod Areas
 
 -- "running or failed at a place"
 pub data Verdict : Type 0 where

@@ -3,12 +3,11 @@
 --     further_measured   lent lengths of the further areas
 --     left_in, on_copy   a further area, and both, by what Feed does
 --     try_of             answer, further areas and work words of a call
--- The laws are in `Try/Laws.antt`. Assumes nothing.
+-- The laws are in `proofs/Try/Laws.antt`. Assumes nothing.
 use Rattle.std.specs.Prelude.{ℕ, Bool, true, false, ◌&&◌, List, length, eqb}
 use Rattle.monitor_spec.specs.State.{Monitor, Answer, given, refused, stopped, Outcome}
 use Rattle.monitor_spec.specs.Entering.{refusing}
 use Rattle.monitor_spec.specs.Feed.{feed_of}
-pub mod Laws
 
 -- "two further areas of the same length"
 unfoldable pub further_measured : Monitor → List ℕ → List ℕ → Bool

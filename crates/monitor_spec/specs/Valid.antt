@@ -3,7 +3,7 @@
 --     held                    the residuals of slots
 --     memories_fit, reach_sum  of a residual: its memories are as the terms allow; the leaves' reach
 --     valid_slot              all of it
--- The laws are in `Valid/`: `Packing`, `Laws`, `Residuals`. Assumes nothing.
+-- The laws are in `proofs/Valid/`: `Packing`, `Laws`, `Residuals`. Assumes nothing.
 use Rattle.std.specs.Prelude.{ℕ, ◌+◌, Bool, true, false, ◌&&◌, ◌||◌, List, [], ◌∷◌, take, eqb, ltb, leb}
 use Rattle.std.proofs.Math.Option.{Option, none, some}
 use Rattle.table.specs.Table.{Table, Term, stop, fail, prefix, choice, par, call, term_at, enclosing}
@@ -13,9 +13,6 @@ use Rattle.residuals.specs.Residual.{Residual, leaf, pair}
 use Rattle.node_word.specs.Word.{term_of_word, memory_of}
 use Rattle.slots.specs.Canon.{Order, below, same, above, compare_words}
 use Rattle.residuals.specs.Slots.{slot_of}
-pub mod Packing
-pub mod Laws
-pub mod Residuals
 
 -- a parallel takes the two trees after it
 unfoldable pub join_trees : ℕ → Memory → List Residual → Option (List Residual)

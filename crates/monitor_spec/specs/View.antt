@@ -2,10 +2,9 @@
 --     Part, no_part        the first words of area 0 or of area 1; "the empty beginning of area 0"
 --     view_part           which part, by the record and the areas' lengths
 --     words_in, view_of     the words of a part; those that View hands back
--- The laws are in `View/Laws.antt`. Assumes nothing.
+-- The laws are in `proofs/View/Laws.antt`. Assumes nothing.
 use Rattle.std.specs.Prelude.{ℕ, ◌*◌, ◌%◌, true, false, List, length, take, eqb, ltb}
 use Rattle.monitor_spec.specs.State.{Verdict, running, failed_at, State, Monitor, even, choose}
-pub mod Laws
 
 -- which area, 0 or 1, and how many of its words from its beginning
 pub record Part : Type 0 where

@@ -1,11 +1,10 @@
 -- View's part and its words, by cases (01, "Operations"): "View hands back the part of whichever of the two areas holds
 -- the residuals. If count × 16 exceeds that area, or after failure, it is the empty beginning of area 0."
 --     PartWay     of a monitor: which part, and its words
--- The law is in `Views/Laws.antt`. Assumes nothing.
+-- The law is in `proofs/Views/Laws.antt`. Assumes nothing.
 use Rattle.std.specs.Prelude.{ℕ, ◌*◌, ◌%◌, ◌≤◌, ◌<◌, ◌≡◌, List, [], length, take}
 use Rattle.monitor_spec.specs.State.{running, failed_at, Monitor}
 use Rattle.monitor_spec.specs.View.{Part}
-pub mod Laws
 
 -- "The present area is taken mod 2"
 pub data PartWay (m : Monitor) : Part → List ℕ → Type 0 where

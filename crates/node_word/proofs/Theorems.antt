@@ -6,7 +6,7 @@ use mathlib.Core.Path.{◌≡◌, refl, ap, sym, ◌∙◌}
 use mathlib.Core.Logic.{◌↔◌, ◌⊎◌, inl, inr, ⊎_elim}
 use Rattle.table.specs.Memory.{Memory}
 use Rattle.node_word.specs.Word.{digit_bits, digit_bound, pack, term_of_word, memory_of, Digits}
-use Rattle.node_word.specs.Word.Laws.{term_pack, memory_pack}
+use Rattle.node_word.proofs.Word.Laws.{term_pack, memory_pack}
 use Rattle.node_word.specs.Ordered.{Few, First}
 use Rattle.node_word.specs.Claims.{PacksBits, PacksOnce, PacksInOrder}
 

@@ -4,11 +4,10 @@
 --     pack                     the word of a term's number and a memory
 --     term_of_word, memory_of  the number and the memory of a word
 --     Digits                   the events of a memory have room in a word
--- The laws are in `Word/Laws.antt`. This crate's laws and proofs alone, and rows, look into these definitions. Assumes
--- nothing.
+-- The laws are in `proofs/Word/Laws.antt`. This crate's laws and proofs alone, and rows, look into these definitions.
+-- Assumes nothing.
 use Rattle.std.specs.Prelude.{ℕ, ◌+◌, ◌*◌, ◌/◌, ◌%◌, ◌^◌, ◌<◌}
 use Rattle.table.specs.Memory.{Memory}
-pub mod Laws
 
 -- 02, W6: "memory digits take seven bits"
 unfoldable pub digit_bits : ℕ

@@ -1,6 +1,6 @@
 // Node words: term × 2^28 + m0 × 2^21 + m1 × 2^14 + m2 × 2^7 + m3 (document 02, W6: "memory digits
 // take seven bits"). No other code packs a word or takes one apart. The definitions are in
-// `specs/Word.antt`, their laws in `specs/Word/Laws.antt`.
+// `specs/Word.antt`, their laws in `proofs/Word/Laws.antt`.
 #![tactic(auto)]
 
 ghost use Rattle.std.specs.Prelude.{◌≡◌, ◌<◌};

@@ -1,8 +1,8 @@
 -- A proof of each claim of `specs/Claims.antt`. Assumes nothing.
-use Rattle.meaning.specs.Formed.{guarded_table}
-use Rattle.residuals.specs.Residual.Calls.{resolve_def_body, resolve_call}
-use Rattle.residuals.specs.Residual.Counts.{resolve_length}
-use Rattle.residuals.specs.Slots.Laws.{slots_sorted, in_slots}
+use Rattle.meaning.proofs.Formed.{guarded_table}
+use Rattle.residuals.proofs.Residual.Calls.{resolve_def_body, resolve_call}
+use Rattle.residuals.proofs.Residual.Counts.{resolve_length}
+use Rattle.residuals.proofs.Slots.Laws.{slots_sorted, in_slots}
 use Rattle.residuals.specs.Claims.{CallsResolve, ResolvesBranches, SlotsOnce}
 
 pub calls_resolve : CallsResolve

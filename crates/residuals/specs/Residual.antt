@@ -3,8 +3,9 @@
 --     resolve_in, resolve_def, resolve a term; a definition's body; the term of a number
 --     after, after_all, run          a residual, a list of residuals after an event; after a list of events
 --     from_definition, residuals_of  the residuals of a list of events: from a definition, from the last one
--- A list may have a residual twice: `Slots.antt` holds each once. The laws are in `Residual/`: `Calls` ("call the
--- settled body"), `Counts` (how many there are). What residuals stand for is in crate monitor_spec. Assumes nothing.
+-- A list may have a residual twice: `Slots.antt` holds each once. The laws are in `proofs/Residual/`: `Calls` ("call
+-- the settled body"), `Counts` (how many there are). What residuals stand for is in crate monitor_spec. Assumes
+-- nothing.
 use Rattle.std.specs.Prelude.{ℕ, zero, suc, ◌+◌, true, false}
 use mathlib.Core.List.{List, [], ◌∷◌, ◌++◌, map, flat_map}
 use Rattle.std.proofs.Math.Option.{none, some}
@@ -13,8 +14,6 @@ use Rattle.table.specs.Memory.{Memory, no_memory, remember}
 use Rattle.table.specs.Member.{member}
 use Rattle.meaning.specs.Figure1.{body_count, last}
 use Rattle.residuals.specs.Keep.{keep}
-pub mod Calls
-pub mod Counts
 
 -- "STOP and a prefix give themselves with their memory"; "parallel itself, with its memory, over every pair"
 pub data Residual : Type 0 where
@@ -39,7 +38,7 @@ resolve_in calls (call d) n m = calls d
 
 -- "Memory is four events, all 0 at a body's start": the resolved body of d, through bodies that call each other at most
 -- b deep. As a call with no prefix around it "names a lower definition number" (01, "References"), the number of
--- definitions is deep enough (`Residual/Calls.antt`).
+-- definitions is deep enough (`proofs/Residual/Calls.antt`).
 unfoldable pub resolve_def : Table → ℕ → ℕ → List Residual
 resolve_def t zero d = []
 resolve_def t (suc b) d = resolve_in (resolve_def t b) (body_of t d) (body_number t d) no_memory

@@ -1,12 +1,11 @@
 -- Residuals as words (01, "Residuals").
 --     nodes, nodes_all, slot_of   a residual's node words; those of residuals one after the other; its slot
 --     slots_of                    the slots of a list of residuals, ascending, each once
--- The order of slots stands in slots/specs/Canon; the laws are in `Slots/Laws.antt`. Assumes nothing.
+-- The order of slots stands in slots/specs/Canon; the laws are in `proofs/Slots/Laws.antt`. Assumes nothing.
 use Rattle.std.specs.Prelude.{ℕ, ◌-◌, List, [], ◌∷◌, ◌++◌, map, length, replicate}
 use Rattle.node_word.specs.Word.{pack}
 use Rattle.slots.specs.Canon.{canon}
 use Rattle.residuals.specs.Residual.{Residual, leaf, pair}
-pub mod Laws
 
 -- "nodes with each parallel before its sides"; ours: the left side first
 unfoldable pub nodes : Residual → List ℕ

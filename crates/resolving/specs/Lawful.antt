@@ -16,13 +16,13 @@ use Rattle.table.specs.Fields.{OfCall, depth_of}
 use Rattle.table.specs.Branches.{branches, body_in}
 use Rattle.table.specs.References.{first_wrong}
 use Rattle.table.specs.Rules.{Rules}
-use Rattle.table.specs.Rules.Laws.{no_wrong}
+use Rattle.table.proofs.Rules.Laws.{no_wrong}
 use Rattle.table.specs.Node.{Node, term_of, kind_of}
-use Rattle.table.specs.Node.Parts.{size_positive}
-use Rattle.table.specs.Node.Laws.{follower_node, each_node}
+use Rattle.table.proofs.Node.Parts.{size_positive}
+use Rattle.table.proofs.Node.Laws.{follower_node, each_node}
 use Rattle.table_index.specs.Index.{Indexed, table_in}
 use Rattle.node_word.specs.Word.{digit_bound}
-use Rattle.node_word.specs.Word.Laws.{events_fit}
+use Rattle.node_word.proofs.Word.Laws.{events_fit}
 use Rattle.index.specs.Facts.{indexed_rules}
 
 -- "A call with no prefix around it names a lower definition number": of a term, with no prefix around it

@@ -8,8 +8,8 @@ use Rattle.lot_book.specs.Lot.{and_then, read_lot}
 use Rattle.lot_book.specs.Book.{sound, add, step, unless_none, read_book, book_from, book_of, taken_sum}
 use Rattle.sheet_spec.specs.Line.{right, left, verdict, lot_line, total_line}
 use Rattle.sheet_spec.specs.Sheet.{lines_of, sheet_text, sheet_size, printed, outcome_of, sheet_of}
-use Rattle.sheet_spec.specs.Columns.Laws.{lot_columns, columns_lot, total_columns, columns_total}
-use Rattle.sheet_spec.specs.Outcomes.Laws.{comes_out, comes_in}
+use Rattle.sheet_spec.proofs.Columns.Laws.{lot_columns, columns_lot, total_columns, columns_total}
+use Rattle.sheet_spec.proofs.Outcomes.Laws.{comes_out, comes_in}
 use Rattle.sheet_spec.specs.Claims.{LotLine, TotalLine, Outcomes, Rows}
 
 pub lot_line_lem : LotLine

@@ -4,12 +4,11 @@
 --     RightAligned, LeftAligned     a field that shows a number, or a word
 --     LotColumns, TotalColumns      a line that shows a record;  the last line, which shows a sum
 --     Printed                       the lines of some records, and the last line
--- The laws are in `Columns/Laws.antt`. Assumes nothing.
+-- The laws are in `proofs/Columns/Laws.antt`. Assumes nothing.
 use Rattle.std.specs.Prelude.{ℕ, ◌+◌, ◌-◌, ◌≡◌, List, [], ◌∷◌, ◌++◌, length, take, drop}
 use Rattle.decimal.specs.Decimal.{IsDecimal}
 use Rattle.lot_book.specs.declared.entry.Lot.{Lot}
 use Rattle.sheet_spec.specs.Line.{spaces}
-pub mod Laws
 
 abbrev pub columns : ℕ → ℕ → List ℕ → List ℕ
 columns first last l = take (last + 1 - first) (drop (first - 1) l)

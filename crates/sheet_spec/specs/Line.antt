@@ -3,12 +3,11 @@
 -- elsewhere. A last line, as long, has `TOTAL` in 1 to 5 and the sum of taken in 12 to 31").
 --     spaces, right, left   spaces, a number and a word in so many columns
 --     lot_line, total_line  the line of a record, and the last line
--- The laws are in `Line/Laws.antt` and, of the code that fills a part, `Line/Filling.antt`. Assumes nothing.
+-- The laws are in `proofs/Line/Laws.antt` and, of the code that fills a part, `proofs/Line/Filling.antt`. Assumes
+-- nothing.
 use Rattle.std.specs.Prelude.{ℕ, ◌-◌, ◌^◌, ◌≤◌, ◌<◌, ◌≡◌, cond, List, [], ◌∷◌, ◌++◌, length, replicate, eqb}
 use Rattle.decimal.specs.Decimal.{decimal}
 use Rattle.lot_book.specs.declared.entry.Lot.{Lot}
-pub mod Filling
-pub mod Laws
 
 -- "spaces elsewhere": so many
 abbrev pub spaces : ℕ → List ℕ

@@ -1,14 +1,13 @@
 -- What making a sheet comes to, by conditions on the book and the output alone (02, W2).
 --     GoodBytes    the bytes are a good book, whose records are these
 --     Comes        the four ways: given, and the refusals 14, 15 and 1
--- The laws are in `Outcomes/Laws.antt`. Assumes nothing.
+-- The laws are in `proofs/Outcomes/Laws.antt`. Assumes nothing.
 use Rattle.std.specs.Prelude.{ℕ, ◌+◌, ◌*◌, ◌^◌, ◌≤◌, ◌<◌, ◌≡◌, List, ◌++◌, length, drop}
 use Rattle.lot_book.specs.declared.entry.Lot.{Lot}
 use Rattle.lot_book.specs.Book.{taken_sum}
 use Rattle.lot_book.specs.Written.{book_bytes, GoodBook, BadAt}
 use Rattle.sheet_spec.specs.Sheet.{Outcome, given, refused}
 use Rattle.sheet_spec.specs.Columns.{Printed}
-pub mod Laws
 
 pub record GoodBytes (book : List ℕ) (rs : List Lot) : Type 0 where
   pub whole : book ≡ book_bytes rs

@@ -2,15 +2,14 @@
 --     lines_of, sheet_text, sheet_size  the lines of some records, with the last line;  how many bytes they are
 --     Outcome, sheet_of                the answer and the output after it
 --     sheet_outcome                    the answer of `sheet` and the output, as an outcome
--- The laws are in `Sheet/Laws.antt` and, of the loop that writes, `Sheet/Writing.antt`. Assumes nothing.
+-- The laws are in `proofs/Sheets/Laws.antt` and, of the loop that writes, `proofs/Sheets/Writing.antt`. Assumes
+-- nothing.
 use Rattle.std.specs.Prelude.{ℕ, ◌+◌, ◌*◌, ◌≤◌, ◌≡◌, cond, List, [], ◌∷◌, ◌++◌, length, drop, ltb}
 use Rattle.lot_book.specs.declared.entry.Lot.{Lot}
 use Rattle.lot_book.specs.Book.{Book, lots, bad, book_of, taken_sum}
 use Rattle.sheet_spec.specs.declared.answer.Sheet.{Sheet}
 use Rattle.sheet_spec.specs.declared.answer.Sheet.TheVariants.{Given, Refused}
 use Rattle.sheet_spec.specs.Line.{lot_line, total_line}
-pub mod Laws
-pub mod Writing
 
 -- "prints each record on a line"
 unfoldable pub lines_of : List Lot → List ℕ

@@ -3,12 +3,11 @@
 --     SheetTold               a number and a value are those of an answer
 --     sheet_call              of the bytes lent
 --     SheetWay                the same by the operation's outcome
--- The laws are in `Call/Laws.antt`. Assumes nothing.
+-- The laws are in `proofs/Call/Laws.antt`. Assumes nothing.
 use Rattle.std.specs.Prelude.{ℕ, ◌≡◌, Bool, true, false, List}
 use Rattle.sheet_spec.specs.declared.answer.Sheet.{Sheet}
 use Rattle.sheet_spec.specs.declared.answer.Sheet.TheVariants.{Given, Refused}
 use Rattle.sheet_spec.specs.Sheet.{Outcome, given, refused, sheet_of}
-pub mod Laws
 
 pub record SheetCall : Type 0 where
   pub number : ℕ

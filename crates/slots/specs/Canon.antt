@@ -5,18 +5,12 @@
 --     fill                   an area of n slots that holds some, and then zeros
 --     Sixteen, AllSixteen    a list of sixteen words; a list of such
 --     In, SameMembers        a slot is one of several; two lists have the same slots
--- The laws are in `Canon/`: `Comparison` (the order), `Canonical` (what comes out is ascending, and depends on the
--- members only), `Members`, `Areas`, `Places` and `Laws` (areas). Assumes nothing.
+-- The laws are in `proofs/Canon/`: `Comparison` (the order), `Canonical` (what comes out is ascending, and depends on
+-- the members only), `Members`, `Areas`, `Places` and `Laws` (areas). Assumes nothing.
 use Rattle.std.specs.Prelude.{ℕ, ◌-◌, ◌*◌, ◌<◌, ◌≡◌, true, false, length, replicate, ltb}
 use mathlib.Core.List.{List, [], ◌∷◌, ◌++◌, flatten}
 use Rattle.numbers.specs.Every.{All}
 use Rattle.numbers.specs.Some.{Any}
-pub mod Comparison
-pub mod Canonical
-pub mod Members
-pub mod Areas
-pub mod Places
-pub mod Laws
 
 pub data Order : Type 0 where
   below same above : Order

@@ -3,14 +3,13 @@
 --     Outcome, held_as   the area afterwards, and how many slots it holds or that there was no room
 --     put_one, put_all    one slot more; several, one after the other
 --     Gave               an outcome that was given
--- The laws are in `Holding/Laws.antt`. Assumes nothing.
+-- The laws are in `proofs/Holding/Laws.antt`. Assumes nothing.
 use Rattle.std.specs.Prelude.{ℕ, ◌+◌, ◌*◌, ◌≤◌, ◌≡◌, List, [], ◌∷◌, length}
 use Rattle.slots.specs.Insertion.{insert_answer, insert_words}
 use Rattle.slots.specs.declared.slots.Inserted.{Inserted}
 use Rattle.slots.specs.declared.slots.Inserted.TheVariants as ins
 use Rattle.slots.specs.declared.slots.Held.{Held}
 use Rattle.slots.specs.declared.slots.Held.TheVariants.{Count, Exceeded}
-pub mod Laws
 
 pub record Outcome : Type 0 where
   pub area : List ℕ

@@ -5,10 +5,8 @@
 --     place_in                       the place by both
 --     gapped, stored                words moved on by sixteen; a slot over the words from a place on
 --     insert_answer, insert_words   holding one slot more: what is said, and the words afterwards
--- The laws are in `Insertion/Laws.antt`, `Insertion/Narrow.antt` and `Insertion/Gap.antt`. Assumes nothing.
-pub mod Laws
-pub mod Narrow
-pub mod Gap
+-- The laws are in `proofs/Insertion/Laws.antt`, `proofs/Insertion/Narrow.antt` and `proofs/Insertion/Gap.antt`. Assumes
+-- nothing.
 use Rattle.std.specs.Prelude.{ℕ, zero, suc, ◌+◌, ◌-◌, ◌*◌, ◌/◌, List, ◌++◌, Bool, true, false, cond, length, get_or, take, drop, ltb}
 use Rattle.std.proofs.Math.Seq.{slice, paste}
 use Rattle.slots.specs.Canon.{Order, below, same, above}
@@ -18,7 +16,7 @@ use Rattle.slots.specs.declared.slots.Place.{Place}
 use Rattle.slots.specs.declared.slots.Place.TheVariants.{Held, At}
 
 -- n words of the new slot from q on, against those of the area from p on: `compare_words` of them (`order_is` of
--- `Canon/Places.antt`)
+-- `proofs/Canon/Places.antt`)
 unfoldable pub order : ℕ → List ℕ → ℕ → List ℕ → ℕ → Order
 order zero a p b q = same
 order (suc n) a p b q =
@@ -69,7 +67,7 @@ narrowed (suc n) a b = halved (suc n) a b 0 (suc n) n
 abbrev pub seek_from : ℕ → List ℕ → List ℕ → ℕ → Place
 seek_from n a b i = seek (n - i) a b i
 
--- where the slots are ascending, the place searched from the first on (`IsPlace-in` of `Canon/Places.antt`)
+-- where the slots are ascending, the place searched from the first on (`IsPlace-in` of `proofs/Canon/Places.antt`)
 unfoldable pub place_in : ℕ → List ℕ → List ℕ → Place
 place_in n a b = seek_from n a b (narrowed n a b)
 

@@ -21,13 +21,13 @@ use Rattle.table.specs.Rules.{Rules}
 use Rattle.resolving.specs.Distinct.{window}
 use Rattle.set_step.specs.Stepped.{slot_nodes}
 use Rattle.set_step.specs.Successors.{SlotsHold}
-use Rattle.monitor_spec.specs.Regular.Laws.{regular}
+use Rattle.monitor_spec.proofs.Regular.Laws.{regular}
 use Rattle.residuals.specs.Residual.{Residual, leaf}
 use Rattle.residuals.specs.Slots.{nodes, slot_of, slots_of}
 use Rattle.monitor_spec.specs.Valid.{held}
-use Rattle.monitor_spec.specs.Valid.Laws.{SlotOf}
-use Rattle.monitor_spec.specs.Valid.Residuals.{read_back, slot_sixteen, slots_all}
-use Rattle.monitor_spec.specs.Consistent.Reading.{held_words, held_proper}
+use Rattle.monitor_spec.proofs.Valid.Laws.{SlotOf}
+use Rattle.monitor_spec.proofs.Valid.Residuals.{read_back, slot_sixteen, slots_all}
+use Rattle.monitor_spec.proofs.Consistent.Reading.{held_words, held_proper}
 use Rattle.monitor_spec.specs.State.{fill}
 use Rattle.monitor_spec.specs.Proper.{Proper}
 use Rattle.step_laws.specs.Trees.{valid_proper}

@@ -14,15 +14,15 @@ use Rattle.table.specs.Rules.{Rules}
 use Rattle.meaning.specs.Figure1.{body_count}
 use Rattle.residuals.specs.Residual.{Residual, leaf, resolve_def, after}
 use Rattle.residuals.specs.Slots.{slots_of}
-use Rattle.monitor_spec.specs.Regular.Laws.{regular}
+use Rattle.monitor_spec.proofs.Regular.Laws.{regular}
 use Rattle.monitor_spec.specs.State.{fill}
 use Rattle.slots.specs.Canon.{Sixteen}
-use Rattle.slots.specs.Canon.Areas.{length_fill}
+use Rattle.slots.proofs.Canon.Areas.{length_fill}
 use Rattle.monitor_spec.specs.Proper.{Proper}
-use Rattle.monitor_spec.specs.Proper.Laws.{definition_proper}
-use Rattle.monitor_spec.specs.Proper.Nodes.{nodes_most}
+use Rattle.monitor_spec.proofs.Proper.Laws.{definition_proper}
+use Rattle.monitor_spec.proofs.Proper.Nodes.{nodes_most}
 use Rattle.monitor_spec.specs.Valid.{held}
-use Rattle.monitor_spec.specs.Valid.Residuals.{slot_sixteen, slots_all}
+use Rattle.monitor_spec.proofs.Valid.Residuals.{slot_sixteen, slots_all}
 use Rattle.resolving.specs.ResidualWords.{nth}
 use Rattle.tree_ways.specs.declared.takes.Tree.{Tree}
 use Rattle.tree_ways.specs.Takes.{TreeAt, Takes}

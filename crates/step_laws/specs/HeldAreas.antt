@@ -16,15 +16,15 @@ use Rattle.tree_ways.specs.Takes.{TreeAt, Takes}
 use Rattle.residuals.specs.Residual.{Residual, leaf, after, after_all}
 use Rattle.residuals.specs.Slots.{slots_of}
 use Rattle.monitor_spec.specs.Valid.{held}
-use Rattle.monitor_spec.specs.Valid.Laws.{SlotOf}
-use Rattle.monitor_spec.specs.Valid.Residuals.{held_some, read_back, slot_sixteen, slots_all, slots_after}
+use Rattle.monitor_spec.proofs.Valid.Laws.{SlotOf}
+use Rattle.monitor_spec.proofs.Valid.Residuals.{held_some, read_back, slot_sixteen, slots_all, slots_after}
 use Rattle.monitor_spec.specs.State.{Monitor, areas_measured, slot_count, even, choose, chunks, fill, laid}
 use Rattle.slots.specs.Canon.{Sixteen}
-use Rattle.slots.specs.Canon.Areas.{length_fill}
-use Rattle.monitor_spec.specs.State.Areas.{choose_twice, chunks_fill}
+use Rattle.slots.proofs.Canon.Areas.{length_fill}
+use Rattle.monitor_spec.proofs.State.Areas.{choose_twice, chunks_fill}
 use Rattle.monitor_spec.specs.Consistent.{consistent}
-use Rattle.monitor_spec.specs.Consistent.Reading.{consistent_laid}
-use Rattle.monitor_spec.specs.Regular.Laws.{regular}
+use Rattle.monitor_spec.proofs.Consistent.Reading.{consistent_laid}
+use Rattle.monitor_spec.proofs.Regular.Laws.{regular}
 use Rattle.monitor_spec.specs.Sensible.{Laid}
 use Rattle.step_laws.specs.Asks.{tree_at, takes_some}
 use Rattle.monitor_spec.specs.Holds.{AreaHolds, held_in}

@@ -10,16 +10,16 @@ use Rattle.table.specs.Rules.{Rules}
 use Rattle.meaning.specs.Figure1.{body_count}
 use Rattle.residuals.specs.Residual.{Residual, resolve_def, after_all, run, from_definition}
 use Rattle.residuals.specs.Slots.{slots_of}
-use Rattle.monitor_spec.specs.Regular.Laws.{regular}
+use Rattle.monitor_spec.proofs.Regular.Laws.{regular}
 use Rattle.monitor_spec.specs.State.{fill}
 use Rattle.monitor_spec.specs.Proper.{Proper}
 use Rattle.monitor_spec.specs.Valid.{held}
-use Rattle.monitor_spec.specs.Valid.Residuals.{slots_after}
+use Rattle.monitor_spec.proofs.Valid.Residuals.{slots_after}
 use Rattle.slots.specs.declared.slots.Held.TheVariants.{Count, Exceeded}
 use Rattle.slots.specs.Holding.{held_as, put_all}
 use Rattle.slots.specs.Canon.{canon, SameMembers}
-use Rattle.slots.specs.Canon.Areas.{fill_none}
-use Rattle.slots.specs.Canon.Laws.{put_canon, put_exceeded_canon}
+use Rattle.slots.proofs.Canon.Areas.{fill_none}
+use Rattle.slots.proofs.Canon.Laws.{put_canon, put_exceeded_canon}
 use Rattle.set_step.specs.Stepped.{gathered, Source}
 use Rattle.set_step.specs.Successors.Laws.{stepped, exceeded}
 use Rattle.set_step.specs.Successors.Room.{Within, sixteen_words}

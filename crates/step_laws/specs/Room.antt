@@ -15,15 +15,15 @@ use Rattle.resolving.specs.ResidualWords.After.{after_not_kind}
 use Rattle.tree_walk.specs.Walk.{leaf_results, longest, room}
 use Rattle.set_step.specs.Stepped.{SoundSlot}
 use Rattle.tree_ways.specs.Members.{room_append, node_results}
-use Rattle.monitor_spec.specs.Regular.Laws.{regular}
+use Rattle.monitor_spec.proofs.Regular.Laws.{regular}
 use Rattle.residuals.specs.Residual.{Residual, leaf, pair, after}
-use Rattle.monitor_spec.specs.ResidualMeaning.After.{after_sound}
+use Rattle.monitor_spec.proofs.ResidualMeaning.After.{after_sound}
 use Rattle.monitor_spec.specs.Meaning.{Sound}
 use Rattle.residuals.specs.Slots.{nodes}
 use Rattle.monitor_spec.specs.Valid.{reach_sum}
 use Rattle.monitor_spec.specs.Proper.{Fitting, Proper}
-use Rattle.monitor_spec.specs.Proper.Laws.{after_fitting}
-use Rattle.monitor_spec.specs.Proper.Nodes.{nodes_reach, nodes_most}
+use Rattle.monitor_spec.proofs.Proper.Laws.{after_fitting}
+use Rattle.monitor_spec.proofs.Proper.Nodes.{nodes_reach, nodes_most}
 use Rattle.step_laws.specs.Trees.{valid_proper}
 use Rattle.step_laws.specs.Areas.{SlotAt, slot_count, slot_tree}
 

@@ -7,15 +7,15 @@ use Rattle.std.proofs.Math.Option.{some}
 use Rattle.table.specs.Table.{Table, Term, stop, fail, prefix, choice, par, call, term_count, term_at}
 use Rattle.table.specs.Memory.{Memory, digit}
 use Rattle.table.specs.Node.{term_of, kind_of}
-use Rattle.table.specs.Node.Numbers.{term_at_lem}
+use Rattle.table.proofs.Node.Numbers.{term_at_lem}
 use Rattle.table.specs.Rules.{Rules}
 use Rattle.residuals.specs.Residual.{Residual, leaf, pair}
-use Rattle.table.specs.Stands.Laws.{number_at, number_below}
+use Rattle.table.proofs.Stands.Laws.{number_at, number_below}
 use Rattle.monitor_spec.specs.Meaning.{IsLeaf, IsPar, Sound}
-use Rattle.monitor_spec.specs.Regular.Laws.{regular}
+use Rattle.monitor_spec.proofs.Regular.Laws.{regular}
 use Rattle.monitor_spec.specs.Proper.{Remembers, MemoriesFit, Proper}
-use Rattle.monitor_spec.specs.Valid.Laws.{some_same}
-use Rattle.monitor_spec.specs.Valid.Residuals.{digits_fit}
+use Rattle.monitor_spec.proofs.Valid.Laws.{some_same}
+use Rattle.monitor_spec.proofs.Valid.Residuals.{digits_fit}
 use Rattle.tree_walk.specs.Forest.{ValidNode, Valid}
 
 -- ---- memory

@@ -1,28 +1,28 @@
 -- A proof of each claim of `specs/Claims.antt`, in its order and under its name. Assumes nothing.
 use Rattle.numbers.specs.Number.Laws.{read_written, read_is_written}
 use Rattle.table.specs.Tokens.{list_tokens}
-use Rattle.table.specs.Tokens.Laws.{follows_list, list_follows}
+use Rattle.table.proofs.Tokens.Laws.{follows_list, list_follows}
 use Rattle.table.specs.Writing.{numbers_of}
-use Rattle.table.specs.Grammar.Whole.{table_ok_sound, table_ok_complete}
-use Rattle.table.specs.Fields.Laws.{fields_in, fields_out}
-use Rattle.table.specs.Branches.Capped.{capped_few, capped_term}
+use Rattle.table.proofs.Grammar.Whole.{table_ok_sound, table_ok_complete}
+use Rattle.table.proofs.Fields.Laws.{fields_in, fields_out}
+use Rattle.table.proofs.Branches.Capped.{capped_few, capped_term}
 use Rattle.table.specs.Branches.{branches}
-use Rattle.table.specs.Width.Reach as width
-use Rattle.table.specs.Judge.Laws.{list_out, list_in, bytes_out, bytes_in}
-use Rattle.table.specs.Marks.Written.{table_numbers}
-use Rattle.table.specs.Refusals.AtNumbers.{refused_out, refused_in}
-use Rattle.table.specs.Refusals.Terms.{many_at}
-use Rattle.table.specs.Refusals.Lowest.{many_in}
-use Rattle.table.specs.Marks.Exact.{marks_out, marks_in}
-use Rattle.table.specs.BytesRefused.Exact.{refused_bytes_out}
-use Rattle.table.specs.BytesRefused.Given.{refused_bytes_in}
-use Rattle.table.specs.Grammar.Rows.{passing_refused}
-use Rattle.table.specs.Before.Laws.{list_before, bytes_before, was_refused}
-use Rattle.table.specs.Equations.{branches_call, width_level}
-use Rattle.table.specs.Examples.Laws.{numbers_hold, tables_hold, counts_hold}
-use Rattle.table.specs.Bounds.Laws.{bounds_hold}
-use Rattle.table.specs.Operations.Laws as operations
-use Rattle.table.specs.Operations.Ways.{read_ways, write_ways}
+use Rattle.table.proofs.Width.Reach as width
+use Rattle.table.proofs.Judge.Laws.{list_out, list_in, bytes_out, bytes_in}
+use Rattle.table.proofs.Marks.Written.{table_numbers}
+use Rattle.table.proofs.Refusals.AtNumbers.{refused_out, refused_in}
+use Rattle.table.proofs.Refusals.Terms.{many_at}
+use Rattle.table.proofs.Refusals.Lowest.{many_in}
+use Rattle.table.proofs.Marks.Exact.{marks_out, marks_in}
+use Rattle.table.proofs.BytesRefused.Exact.{refused_bytes_out}
+use Rattle.table.proofs.BytesRefused.Given.{refused_bytes_in}
+use Rattle.table.proofs.Grammar.Rows.{passing_refused}
+use Rattle.table.proofs.Before.Laws.{list_before, bytes_before, was_refused}
+use Rattle.table.proofs.Equations.{branches_call, width_level}
+use Rattle.table.proofs.Examples.Laws.{numbers_hold, tables_hold, counts_hold}
+use Rattle.table.proofs.BoundLaws.{bounds_hold}
+use Rattle.table.proofs.Operations.Laws as operations
+use Rattle.table.proofs.Operations.Ways.{read_ways, write_ways}
 use Rattle.table.specs.Claims.{ReadLeaves, WriteLeaves}
 use Rattle.table.specs.Claims.{NumberReadsBack, NumberCanonical, TableReadsBack, TableCanonical}
 use Rattle.table.specs.Claims.{AcceptedExactly, AcceptedBytesExactly, AcceptedWritesBack, WrittenReadsBack}

@@ -2,7 +2,7 @@
 --     answer_of    an answer of Read or Write
 --     outcome     the answer with what stands in the output and the work area
 --     Said        an answer and an output, before the work area is cleared;  ReadSaid, WriteSaid: those of an operation
--- The law is in `Answers/Laws.antt`.
+-- The law is in `proofs/Answers/Laws.antt`.
 -- Assumes nothing.
 use Rattle.std.specs.Prelude.{ℕ, ◌≡◌, List}
 use Rattle.numbers.specs.Number.{list_bytes}
@@ -10,7 +10,6 @@ use Rattle.table.specs.declared.answer.Answer as code
 use Rattle.table.specs.declared.answer.Answer.TheVariants.{Count, Refused}
 use Rattle.table.specs.Judge.{judge_bytes, judge_list}
 use Rattle.table.specs.Operations.{Answer, done, refusal, Outcome, read_judged, write_judged}
-pub mod Laws
 
 -- "When the monitor declines": a refusal is its number and its place
 abbrev pub answer_of : code.Answer → Answer

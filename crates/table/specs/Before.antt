@@ -3,14 +3,13 @@
 --     judge_before                    what the numbers of an input were judged to be
 --     judge_list_before, judge_bytes_before  of a number list; of bytes
 --     FirstMost, FirstOver            the input's first number is at most so much, or over it
--- The laws are in `Before/Laws.antt`. Assumes nothing.
+-- The laws are in `proofs/Before/Laws.antt`. Assumes nothing.
 use Rattle.std.specs.Prelude.{ℕ, ◌<◌, ◌≤◌, ◌&&◌, cond, List, length, leb, ltb}
 use Rattle.table.specs.Table.{SetDef, Table}
 use Rattle.table.specs.Tokens.{Tokens, token, ended, broken, list_tokens, byte_tokens}
 use Rattle.table.specs.Parser.{Parser, number, pure, and_then, times}
 use Rattle.table.specs.Grammar.{set_of_kind, definitions_of}
 use Rattle.table.specs.Judge.{Judgement, declined, judge_read, sized}
-pub mod Laws
 
 -- 01, "Numbers and table": "A set is kind 0 and one row, or kind 1 and A rows"
 unfoldable pub event_set_before : ℕ → Parser SetDef

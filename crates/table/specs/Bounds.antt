@@ -5,10 +5,9 @@
 --     call_rows                                               the rules on calls
 --     width_rows, branch_rows                                 hands and openings
 --     order_rows                                              two refusals met at once
--- That every row holds is in `Bounds/Laws.antt`. Assumes nothing.
+-- That every row holds is in `proofs/BoundLaws.antt`. Assumes nothing.
 use Rattle.std.specs.Prelude.{ℕ, Bool, List, [], ◌∷◌, ◌++◌, replicate}
 use Rattle.table.specs.Examples.{bytes_are, list_is, S0, beside, balanced, copies}
-pub mod Laws
 
 -- ---- bounds that one number breaks
 

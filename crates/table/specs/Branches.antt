@@ -3,13 +3,12 @@
 --     all_branches       of each definition;  branches: of a term of a table
 --     branches_at        of one definition, in a list of each one's
 --     too_many_branches  the lowest body or follower above 256 (refusal 9)
--- The laws are in `Branches/Laws.antt`. Assumes nothing.
+-- The laws are in `proofs/Branches/Laws.antt`. Assumes nothing.
 use Rattle.std.specs.Prelude.{ℕ, suc, ◌+◌, ◌*◌, List, [], ◌∷◌, length, get_or, leb}
 use Rattle.std.proofs.Math.Option.{Option, none}
 use Rattle.table.specs.Table.{Term, stop, fail, prefix, choice, par, call, Definition, Table, size}
 use Rattle.table.specs.First.{or_else, unless}
 use Rattle.table.specs.Grow.{grow}
-pub mod Laws
 pub mod Capped
 
 -- "STOP 1, FAIL 0, prefix 1, choice the sum, parallel the product"

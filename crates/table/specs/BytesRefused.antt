@@ -13,11 +13,6 @@ use Rattle.table.specs.Writing.{numbers_of}
 use Rattle.table.specs.Fields.{Fields}
 use Rattle.table.specs.Marks.{Open}
 use Rattle.table.specs.Refusals.{OutOfRange, TrailingInput, BadReference, TooWide, TooManyBranches}
-pub mod Listed
-pub mod Stream
-pub mod Laws
-pub mod Given
-pub mod Exact
 
 unfoldable pub byte_place : List ℕ → ℕ → ℕ
 byte_place ns i = length (list_bytes (take i ns))

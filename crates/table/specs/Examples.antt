@@ -3,12 +3,11 @@
 --     in_numbers, bytes_are, list_is  a judgement as two numbers; what bytes, a number list are judged to be
 --     number_rows, table_rows      numbers and whole tables
 --     count_rows                   width, branches and the number of terms
--- That every row holds is in `Examples/Laws.antt`. Long tables, and what Read and Write leave, are rows of crate
+-- That every row holds is in `proofs/Examples/Laws.antt`. Long tables, and what Read and Write leave, are rows of crate
 -- `table_examples`. Assumes nothing.
 use Rattle.std.specs.Prelude.{ℕ, zero, suc, Bool, true, ◌&&◌, List, [], ◌∷◌, ◌++◌, length, eqb}
 use Rattle.numbers.specs.Number.{bytes_of}
 use Rattle.table.specs.Judge.{Judgement, accepted, declined, judge_bytes, judge_list}
-pub mod Laws
 
 -- a judgement as two numbers: refusal and place, or 0 and how many numbers the table has
 pub record InNumbers : Type 0 where

@@ -1,14 +1,13 @@
 -- The rules that a single number breaks (01, "Numbers and table"; refusal 5): bounds, order, terms.
 --     Ascending, EachRow, RefExists, ParamSmall, depth_of   what the rules speak of
 --     Fields                                               the rules
--- The laws are in `Fields/Laws.antt`. Assumes nothing.
+-- The laws are in `proofs/Fields/Laws.antt`. Assumes nothing.
 use Rattle.std.specs.Prelude.{ℕ, suc, ◌≤◌, ◌<◌, max, ◌≡◌, List, [], ◌∷◌, length, get_or}
 use Rattle.numbers.specs.Every.{All}
 use Rattle.table.specs.Table.{SetRef, fixed, family, Term, stop, fail, prefix, choice, par, call, SetDef, one}
 use Rattle.table.specs.Table.{each, Table, term_count}
 use Rattle.table.specs.Rows.{alphabet_most, rows_in, RowsFit}
 use Rattle.table.specs.Context.{Each}
-pub mod Laws
 
 -- each event is below all that come after it
 abbrev pub Ascending : List ℕ → Type 0

@@ -1,7 +1,7 @@
 -- Refusals 2 to 9 in their order (01, "When the monitor declines"): what a list of numbers, or of bytes, is.
 --     Judgement     accepted, with its numbers and its table, or refused with number and place
 --     judge_bytes   of bytes (Read);  judge_list: of a number list (Write, Open, Feed, Offer)
--- The laws are in `Judge/Laws.antt`. Assumes nothing.
+-- The laws are in `proofs/Judge/Laws.antt`. Assumes nothing.
 use Rattle.std.specs.Prelude.{ℕ, cond, List, length, ltb}
 use Rattle.std.proofs.Math.Option.{Option, none, some}
 use Rattle.table.specs.Table.{Table}
@@ -13,7 +13,6 @@ use Rattle.table.specs.Writing.{numbers_of}
 use Rattle.table.specs.References.{first_wrong}
 use Rattle.table.specs.Width.{too_wide}
 use Rattle.table.specs.Branches.{too_many_branches}
-pub mod Laws
 
 pub data Judgement : Type 0 where
   accepted : List ℕ → Table → Judgement

@@ -1,6 +1,6 @@
 -- The table layer, in reading order: the table, its inputs and its grammar; the rules and the refusals; Read and Write;
 -- then what the code answers and the terms as nodes; then the examples and what is proved. The laws of each file stand
--- below it. Assumes nothing.
+-- in `proofs/`. Assumes nothing.
 pub mod Table
 pub mod Rows
 pub mod Tokens

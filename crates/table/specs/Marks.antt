@@ -4,7 +4,7 @@
 --                                has a parameter just when its set is of kind 1
 --     Open, Fits                 numbers that begin a writing, each within its bound. Open: and the writing goes on;
 --                                Fits: it may also end there
--- That the grammar sees them so is in `Marks/Whole.antt`. Assumes nothing.
+-- That the grammar sees them so is in `proofs/Marks/Whole.antt`. Assumes nothing.
 use Rattle.std.specs.Prelude.{ℕ, zero, suc, ◌+◌, ◌≡◌, Bool, true, false, ◌&&◌, length, get_or, ltb, leb}
 use mathlib.Core.List.{List, [], ◌∷◌, ◌++◌, flat_map}
 use Rattle.numbers.specs.Every.{All}
@@ -14,15 +14,6 @@ use Rattle.table.specs.Rows.{alphabet_most, rows_of, rows_fit}
 use Rattle.table.specs.Context.{Each}
 use Rattle.table.specs.Fields.{FamilyRows, IsOne, IsEach, OfRef}
 use Rattle.table.specs.Parser.Mark.{Mark, mark, numbers, Pass}
-pub mod Sequence
-pub mod Sets
-pub mod References
-pub mod TooDeep
-pub mod Terms
-pub mod Definitions
-pub mod Whole
-pub mod Written
-pub mod Exact
 
 -- "events are 0 to A-1", "strictly ascending"
 unfoldable pub event_marks : ℕ → ℕ → List ℕ → List Mark

@@ -2,9 +2,8 @@
 --     Memory, no_memory   the last four events taken by enclosing prefixes, the nearest first; at a body's start
 --     digit               the k-th remembered event
 --     remember            a memory with one event more
--- The laws are in `Memory/Laws.antt`. Assumes nothing.
+-- The laws are in `proofs/Memory/Laws.antt`. Assumes nothing.
 use Rattle.std.specs.Prelude.{ℕ, zero, suc}
-pub mod Laws
 
 -- "Memory is four events"
 pub record Memory : Type 0 where

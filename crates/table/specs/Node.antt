@@ -4,18 +4,14 @@
 --     nodes, nodes_of   those of a term, of a table
 --     node_at, term_of  the node, the term of a number
 --     kind_of, left_size, ref_of, called_of  what a term's own numbers say
--- The laws are in `Node/Laws.antt` and `Node/Numbers.antt`; `Node/Parts.antt` and `Node/Homes.antt` prepare them.
--- Assumes nothing.
+-- The laws are in `proofs/Node/Laws.antt` and `proofs/Node/Numbers.antt`; `proofs/Node/Parts.antt` and
+-- `proofs/Node/Homes.antt` prepare them. Assumes nothing.
 use Rattle.std.specs.Prelude.{ℕ, suc, ◌+◌, length, get_or}
 use mathlib.Core.List.{List, [], ◌∷◌, ◌++◌, flat_map}
 use Rattle.table.specs.declared.terms.Spot.{Spot}
 use Rattle.table.specs.Table.{SetRef, fixed, family, Term, stop, fail, prefix, choice, par, call}
 use Rattle.table.specs.Table.{Definition, Table, size}
 use Rattle.table.specs.Writing.{ref_numbers, term_numbers, definition_numbers, set_numbers}
-pub mod Parts
-pub mod Homes
-pub mod Laws
-pub mod Numbers
 
 -- A Spot says how many prefixes are around a term in its definition, whether a parallel is (1 or 0), whether the term
 -- is a body or a prefix's follower (1 or 0), and the number of its definition.

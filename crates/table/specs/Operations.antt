@@ -2,13 +2,11 @@
 --     Answer, Outcome       a count, or a refusal with its place; and what stands in the lent areas afterwards
 --     read_of, write_of      what Read and Write give
 --     ReadWay, WriteWay     their ways, with every lent word of each
--- The laws are in `Operations/`: `Laws`, `Ways`. Assumes nothing.
+-- The laws are in `proofs/Operations/`: `Laws`, `Ways`. Assumes nothing.
 use Rattle.std.specs.Prelude.{ℕ, ◌-◌, ◌≤◌, ◌<◌, ◌≡◌, Bool, cond, ◌&&◌, List, ◌++◌, length, replicate, drop, eqb, leb}
 use Rattle.table.specs.Table.{Table}
 use Rattle.numbers.specs.Number.{list_bytes}
 use Rattle.table.specs.Judge.{Judgement, accepted, declined, judge_bytes, judge_list}
-pub mod Laws
-pub mod Ways
 
 pub data Answer : Type 0 where
   done : ℕ → Answer

@@ -6,12 +6,7 @@
 -- Assumes nothing.
 use Rattle.std.specs.Prelude.{ℕ, zero, suc, Bool, cond, List, [], ◌∷◌}
 use Rattle.table.specs.Tokens.{Tokens, token, ended, broken}
-pub mod Laws
-pub mod Local
 pub mod Mark
-pub mod Sees
-pub mod SeesThen
-pub mod Steps
 
 pub data Result (A : Type 0) : Type 0 where
   got : A → Tokens → Result A

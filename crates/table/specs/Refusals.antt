@@ -7,7 +7,8 @@
 --     Truncated, OutOfRange, TrailingInput                conditions 3, 5 and 6
 --     BadReference, TooWide, TooManyBranches, TooLong     conditions 7, 8, 9 and 2
 --     Refused         all of them
--- The laws are in `Refusals/`: `Laws`, `Judged`, `Stops`, `Exact`, `AtNumbers`, `Terms`, `Lowest`. Assumes nothing.
+-- The laws are in `proofs/Refusals/`: `Laws`, `Judged`, `Stops`, `Exact`, `AtNumbers`, `Terms`, `Lowest`. Assumes
+-- nothing.
 use Rattle.std.specs.Prelude.{ℕ, suc, ◌+◌, ◌<◌, ◌≡◌, Bool, true, length, take, replicate, leb}
 use mathlib.Core.List.{List, [], ◌∷◌, ◌++◌, flat_map, map}
 use Rattle.std.proofs.Math.Option.{some}
@@ -23,13 +24,6 @@ use Rattle.table.specs.Width.{all_widths}
 use Rattle.table.specs.Branches.{branches_with, branches_at, all_branches}
 use Rattle.table.specs.Rules.{Rules}
 use Rattle.table.specs.Marks.{Open, Fits}
-pub mod Laws
-pub mod Judged
-pub mod Stops
-pub mod Exact
-pub mod AtNumbers
-pub mod Terms
-pub mod Lowest
 
 -- ---- tests, number by number, term by term and level by level
 

@@ -4,10 +4,9 @@
 --     row_count, rows_of, rows_in    how many rows a set has, by its kind; a set; all sets together
 --     all_rows                       the rows of sets
 --     RowsFit, rows_fit             so many rows may stand; whether they may
--- The laws are in `Rows/Laws.antt`. Assumes nothing.
+-- The laws are in `proofs/RowLaws.antt`. Assumes nothing.
 use Rattle.std.specs.Prelude.{ℕ, zero, suc, ◌+◌, ◌<◌, ◌≤◌, Bool, ◌||◌, List, [], ◌∷◌, ◌++◌, leb}
 use Rattle.table.specs.Table.{SetDef, one, each}
-pub mod Laws
 
 -- 02, W6: "A may be 1 to 128"
 abbrev pub alphabet_most : ℕ

@@ -1,7 +1,7 @@
 -- What makes a table a table (01, "Numbers and table"), rule by rule, on the abstract table.
 --     InBodies    X holds of every term of every body, with its definition and where it stands
 --     Rules       the rules: `Fields` has those that one number breaks
--- The laws are in `Rules/Laws.antt`. Assumes nothing.
+-- The laws are in `proofs/Rules/Laws.antt`. Assumes nothing.
 use Rattle.std.specs.Prelude.{ℕ, ◌≤◌, ◌<◌, ◌≡◌, length, T}
 use Rattle.numbers.specs.Every.{All, AllFrom}
 use Rattle.table.specs.Table.{Term, Definition, Table}

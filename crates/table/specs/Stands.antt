@@ -2,12 +2,10 @@
 -- table"; ours: as a relation to go by).
 --     Stands             x is the term of number n over definitions, in definition h, under c prefixes
 --     SomewhereStands    in some definition, under some prefixes
--- The laws are in `Stands/Laws.antt` and, of the definition, `Stands/Home.antt`. Assumes nothing.
+-- The laws are in `proofs/Stands/Laws.antt` and, of the definition, `proofs/Stands/Home.antt`. Assumes nothing.
 use Rattle.std.specs.Prelude.{ℕ, suc, ◌+◌, ◌<◌, List, length, take}
 use Rattle.table.specs.Table.{SetRef, Term, prefix, choice, par, size, Definition, sizes}
 use Rattle.table.specs.Branches.{body_in}
-pub mod Laws
-pub mod Home
 
 pub data Stands (ds : List Definition) : ℕ → ℕ → ℕ → Term → Type 0 where
   body_stands : {h : ℕ} → h < length ds → Stands ds h 0 (sizes (take h ds)) (body_in ds h)

@@ -4,10 +4,9 @@
 --     size, body_number   terms are numbered in reading order: the number of each body
 --     term_at             the term of a number
 --     enclosing           of a term number: how many prefixes are around it
--- The laws are in `Table/Laws.antt`. Assumes nothing.
+-- The laws are in `proofs/Table/Laws.antt`. Assumes nothing.
 use Rattle.std.specs.Prelude.{ℕ, suc, ◌+◌, ◌-◌, true, false, List, [], ◌∷◌, get_or, take, eqb, ltb}
 use Rattle.std.proofs.Math.Option.{Option, none, some}
-pub mod Laws
 
 -- "A set reference is a set number and, for a kind 1 set, a parameter k"
 pub data SetRef : Type 0 where

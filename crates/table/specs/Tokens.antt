@@ -4,11 +4,10 @@
 --     byte_tokens  of bytes, at byte places;  list_tokens: of a number list, at list places
 --     trailing     the place of the first input after this point, if there is any
 --     place_of      the place of the i-th number of a stream
--- The laws are in `Tokens/Laws.antt`. Assumes nothing.
+-- The laws are in `proofs/Tokens/Laws.antt`. Assumes nothing.
 use Rattle.std.specs.Prelude.{ℕ, zero, suc, ◌+◌, cond, List, [], ◌∷◌, length, drop, eqb}
 use Rattle.std.proofs.Math.Option.{Option, none, some}
 use Rattle.numbers.specs.Number.{Scan, value, truncated, malformed, read_number}
-pub mod Laws
 
 -- `ended at end`: from place `at` on there is no whole number, and the input is `end` long;
 -- `broken at`: at place `at` stands a number not written as it should be

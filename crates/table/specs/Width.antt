@@ -2,15 +2,13 @@
 --     width_with    of a term, where a call counts as given
 --     level_width   of a level;  reach: of a term
 --     too_wide      the lowest level above 8 (refusal 8)
--- The laws are in `Width/Laws.antt` and `Width/Reach.antt`. Assumes nothing.
+-- The laws are in `proofs/Width/Laws.antt` and `proofs/Width/Reach.antt`. Assumes nothing.
 use Rattle.std.specs.Prelude.{ℕ, suc, ◌+◌, max, cond, List, [], ◌∷◌, length, get_or, leb, eqb}
 use Rattle.std.proofs.Math.Option.{Option, none}
 use Rattle.table.specs.Table.{Term, stop, fail, prefix, choice, par, call, Definition, Table}
 use Rattle.table.specs.First.{or_else, unless}
 use Rattle.table.specs.References.{level_in}
 use Rattle.table.specs.Grow.{grow}
-pub mod Laws
-pub mod Reach
 
 -- "STOP and FAIL 1; prefix those of its follower; choice the larger; parallel the sum"
 unfoldable pub width_with : (ℕ → ℕ) → Term → ℕ

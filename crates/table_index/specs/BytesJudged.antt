@@ -15,22 +15,22 @@ use Rattle.numbers.specs.Number.{list_bytes, Incomplete, IllWritten}
 use Rattle.table.specs.declared.answer.Refusal.{Refusal}
 use Rattle.table.specs.declared.answer.Judged.{Judged}
 use Rattle.table.specs.declared.answer.Judged.TheVariants.{Accepted, Declined}
-use Rattle.table.specs.First.Laws.{first_short}
+use Rattle.table.proofs.FirstLaws.{first_short}
 use Rattle.table.specs.Table.{Table}
 use Rattle.table.specs.Tokens.{ended, list_tokens}
-use Rattle.table.specs.Tokens.Laws.{Follows, whole_list, list_whole, nothing_left}
+use Rattle.table.proofs.Tokens.Laws.{Follows, whole_list, list_whole, nothing_left}
 use Rattle.table.specs.Writing.{numbers_of}
 use Rattle.table.specs.Fields.{Fields}
 use Rattle.table.specs.Judge.{Judgement, accepted, declined, judge, judge_bytes}
-use Rattle.table.specs.Judge.Laws.{Accepts, judge_in, judge_out, list_declined, bytes_in}
+use Rattle.table.proofs.Judge.Laws.{Accepts, judge_in, judge_out, list_declined, bytes_in}
 use Rattle.table.specs.Refusals.{links, TooLong}
 use Rattle.table.specs.Refusals.{Refused, too_long, truncated_list, out_of_range, trailing_input}
 use Rattle.table.specs.Refusals.{bad_reference, too_wide, too_many_branches}
-use Rattle.table.specs.Refusals.Laws.{length_links}
-use Rattle.table.specs.Refusals.AtNumbers.{refused_out}
+use Rattle.table.proofs.Refusals.Laws.{length_links}
+use Rattle.table.proofs.Refusals.AtNumbers.{refused_out}
 use Rattle.table.specs.BytesRefused.{byte_place, Decoded, short_bytes, malformed_number, off_bytes}
 use Rattle.table.specs.BytesRefused.{over_number, over_bytes, wrong_bytes, wide_bytes, branches_bytes}
-use Rattle.table.specs.BytesRefused.Given.{refused_bytes_in}
+use Rattle.table.proofs.BytesRefused.Given.{refused_bytes_in}
 use Rattle.table_index.specs.Index.{table_in}
 use Rattle.table_index.specs.Judging.{Decoding}
 

@@ -14,7 +14,7 @@ use Rattle.residuals.specs.Slots.{slots_of}
 use Rattle.monitor_spec.specs.State.{Monitor, slot_count, fill}
 use Rattle.monitor_spec.specs.Fold.{went, stops}
 use Rattle.monitor_spec.specs.Feed.{next_slots, taking, event_refused, take_event}
-use Rattle.monitor_spec.specs.Feed.Laws.{met_by}
+use Rattle.monitor_spec.proofs.Feed.Laws.{met_by}
 use Rattle.monitor_spec.specs.Sensible.{Laid}
 use Rattle.taking.specs.declared.event.Next.{Next}
 use Rattle.taking.specs.declared.event.Next.TheVariants.{Count, Refused}

@@ -6,8 +6,8 @@ use Rattle.timetable_spec.specs.Claims.{GoodExactly, WashExactly, ChangesExactly
 use Rattle.timetable_spec.specs.Examples.{lists, questions, judged_all, asked_all, Examples}
 use Rattle.timetable_spec.specs.Timetable.{good_window, good_from, good_timetable, holds, wash_at, in_force}
 use Rattle.timetable_spec.specs.Timetable.{some_window, distance, begins_by, begins, gaps_from, changes}
-use Rattle.timetable_spec.specs.Timetable.Exact.{changes_out, changes_in, week_out, week_in}
-use Rattle.timetable_spec.specs.Windows.Laws.{good_out, good_in, held_out, held_in}
+use Rattle.timetable_spec.proofs.Timetable.Exact.{changes_out, changes_in, week_out, week_in}
+use Rattle.timetable_spec.proofs.Windows.Laws.{good_out, good_in, held_out, held_in}
 
 pub good_exactly : GoodExactly
 unfolding GoodExactly

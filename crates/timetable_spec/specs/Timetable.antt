@@ -5,11 +5,8 @@
 --     wash_at, in_force      whether the table for wash hours is in force, at a minute of the week, at an absolute one
 --     Changes                whether the table in force changes between two minutes, over every minute between them
 --     changes                the same by one pass over the windows;  claim ChangesExactly says that they agree
--- The laws are in `Timetable/`. Assumes nothing.
+-- The laws are in `proofs/Timetable/`. Assumes nothing.
 use Rattle.std.specs.Prelude.{ℕ, ◌+◌, ◌-◌, ◌%◌, ◌≤◌, ◌<◌, Bool, true, false, cond, ◌&&◌, ◌||◌, List, [], ◌∷◌, ◌≢◌, ltb, leb}
-pub mod Laws
-pub mod Exact
-pub mod Pairs
 
 -- "remainder by 10,080"
 abbrev pub week : ℕ

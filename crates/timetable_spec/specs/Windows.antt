@@ -4,10 +4,9 @@
 --     Holds, Held           whether a window holds a minute of the week;  whether one of some windows does
 --     GoodWindow, Before    what is asked of a window, and of an earlier and a later one
 --     Windows               a list that is a timetable
--- The laws are in `Windows/Laws.antt`. Assumes nothing.
+-- The laws are in `proofs/Windows/Laws.antt`. Assumes nothing.
 use Rattle.std.specs.Prelude.{ℕ, ◌≤◌, ◌<◌, ◌≡◌, List, [], ◌∷◌, ◌⊎◌}
 use Rattle.numbers.specs.Every.{All}
-pub mod Laws
 
 -- "pairs, first minute, .. and last"
 pub record Window : Type 0 where

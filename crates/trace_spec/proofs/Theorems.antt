@@ -1,11 +1,11 @@
 -- What `specs/Claims.antt` says, proved. Assumes nothing.
-use Rattle.trace_spec.specs.TraceLine.Laws.{in_ascending, in_exact}
-use Rattle.trace_spec.specs.Trace.Begun.{read_list}
-use Rattle.line_spec.specs.Line.Heads.{parts_more, over_more, loose_more}
-use Rattle.trace_spec.specs.Trace.Last.{last_line}
-use Rattle.trace_spec.specs.Reads.Laws as reading
-use Rattle.trace_spec.specs.Ways.Each.{trace_ways, refusal_last, refusal_stands}
-use Rattle.trace_spec.specs.Ways.Offers.{lines_offer}
+use Rattle.trace_spec.proofs.TraceLine.Laws.{in_ascending, in_exact}
+use Rattle.trace_spec.proofs.Trace.Begun.{read_list}
+use Rattle.line_spec.proofs.Line.Heads.{parts_more, over_more, loose_more}
+use Rattle.trace_spec.proofs.Trace.Last.{last_line}
+use Rattle.trace_spec.proofs.ReadLaws as reading
+use Rattle.trace_spec.proofs.Ways.Each.{trace_ways, refusal_last, refusal_stands}
+use Rattle.trace_spec.proofs.Ways.Offers.{lines_offer}
 use Rattle.trace_spec.specs.Claims.{LastIsLine, LinesAreOffers, OneEach, RefusalIsLast, ReadsJoin, FrontsStand}
 use Rattle.trace_spec.specs.Claims.{TableIsRead, EventsAreBits, Rows}
 use Rattle.trace_spec.proofs.Rows as computed

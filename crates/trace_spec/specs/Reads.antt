@@ -5,7 +5,7 @@
 --     reads_of                   the lines of an input, and then of each read after it
 --     Decided                   an input whose head is the same, whatever follows
 -- The relation that a loop over reads keeps is `reached_by s ≡ at t m`, where s is all that was read: the lines of s
--- are said, and the next event meets m on the table t. The laws are in `Reads/Laws.antt`. Assumes nothing.
+-- are said, and the next event meets m on the table t. The laws are in `proofs/ReadLaws.antt`. Assumes nothing.
 use Rattle.std.specs.Prelude.{ℕ, ◌≡◌, List, [], ◌∷◌, ◌++◌}
 use Rattle.std.proofs.Math.Option.{Option, none, some}
 use Rattle.table.specs.Table.{Table}
@@ -15,7 +15,6 @@ use Rattle.monitor_spec.specs.Feed.{take_event}
 use Rattle.line_spec.specs.Line.{parts, wrong, head_of}
 use Rattle.trace_spec.specs.TraceLine.{TraceLine}
 use Rattle.trace_spec.specs.Trace.{Beginning, begins, declines, beginning_of, event_lines, trace_of}
-pub mod Laws
 
 -- "A refusal is its last line"
 pub data Configuration : Type 0 where

@@ -6,8 +6,8 @@
 --     event_lines                the lines of events, from a monitor on
 --     trace_of                   the lines of an input
 --     line_by                    what `line_monitor` would print in a line's place
--- The laws are in `Trace/`: `Begun`, what a beginning is, by the input; `Lines`, of the lines of events; `Last`, of the
--- last one. Assumes nothing.
+-- The laws are in `proofs/Trace/`: `Begun`, what a beginning is, by the input; `Lines`, of the lines of events; `Last`,
+-- of the last one. Assumes nothing.
 use Rattle.std.specs.Prelude.{ℕ, ◌≤◌, ◌≡◌, List, [], ◌∷◌}
 use Rattle.table.specs.Table.{Table}
 use Rattle.table.specs.Judge.{Judgement, accepted, declined, judge_bytes, judge_list}
@@ -19,9 +19,6 @@ use Rattle.monitor_spec.specs.Offer.{EventBits, offer_bits}
 use Rattle.line_spec.specs.Line.{Head, parts, wrong, head_of, Line, state_line, fresh, monitor_left}
 use Rattle.line_spec.specs.Line as line
 use Rattle.trace_spec.specs.TraceLine.{TraceLine, starts, takes, refuses}
-pub mod Begun
-pub mod Lines
-pub mod Last
 
 -- ---- before the first event
 

@@ -4,11 +4,10 @@
 --     Reports, TakesEvent      a line with this record and these words; a line after this event
 --     OneFor, LineAt           a line for each event of a list; the line at a place, with a record and words
 --     events_from, events_in   the events of a word; of Offer's two words, ascending
--- The laws are in `TraceLine/Laws.antt`. Assumes nothing.
+-- The laws are in `proofs/TraceLine/Laws.antt`. Assumes nothing.
 use Rattle.std.specs.Prelude.{ℕ, zero, suc, ◌/◌, ◌%◌, ◌≡◌, true, false, List, [], ◌∷◌, ◌++◌, length, eqb}
 use Rattle.monitor_spec.specs.State.{State}
 use Rattle.monitor_spec.specs.Offer.{EventBits, word_bits}
-pub mod Laws
 
 -- the record has events taken, verdict with its place, residuals and peak; the two words are Offer's, of the events
 -- permitted next

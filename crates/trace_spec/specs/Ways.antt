@@ -1,7 +1,7 @@
 -- What a trace is, by its input (ours).
 --     TraceWay        a refusal; or a line at the start, one for each event taken, and a refusal or nothing
 --     OffersThere     what a line's record and words are
--- The laws are in `Ways/`: `Each`, `Offers`. Assumes nothing.
+-- The laws are in `proofs/Ways/`: `Each`, `Offers`. Assumes nothing.
 use Rattle.std.specs.Prelude.{ℕ, ◌≡◌, List, [], ◌∷◌, ◌++◌, length}
 use Rattle.table.specs.Table.{Table}
 use Rattle.table.specs.Judge.{accepted, judge_bytes}
@@ -13,8 +13,6 @@ use Rattle.monitor_spec.specs.Joined.{extend}
 use Rattle.line_spec.specs.Line.{parts, head_of, refused, line_of, monitor_left}
 use Rattle.trace_spec.specs.TraceLine.{TraceLine, starts, refuses, OneFor}
 use Rattle.trace_spec.specs.Trace.{Begins}
-pub mod Each
-pub mod Offers
 
 -- "prints a line at the start and after each event"; "A refusal is its last line": the events taken are 01's, "Every
 -- event before that goes to the list's end"

@@ -2,7 +2,7 @@
 use mathlib.Core.Path.{◌≡◌, refl}
 use mathlib.Core.List.{[], ◌∷◌}
 use Rattle.decimal.specs.Decimal.{decimal_within, decimal}
-use Rattle.decimal.specs.Decimal.Laws.{is_decimal}
+use Rattle.decimal.proofs.Decimal.Laws.{is_decimal}
 use Rattle.monitor_spec.specs.Offer.{word_bits}
 use Rattle.format.specs.Text.{spelled, text_of}
 use Rattle.trace_spec.specs.TraceLine.{events_from, events_in}

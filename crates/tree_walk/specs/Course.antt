@@ -6,8 +6,8 @@
 --     leaf_rest               what is left of a leaf's results
 -- A store has the residual's slot from 0 on, and for a leaf at k the number of its results at k * 257 and their indices
 -- after it; for a pair 1 there where it can take the event, 0 only where it cannot. What stands behind the nodes' parts
--- the walk does not read. The laws are in `Course/`: `Nodes` (node words), `Turns` (the first tree at a place), `Places`,
--- `Pairs` and `Leaves` (the walk). Assumes nothing.
+-- the walk does not read. The laws are in `Course/`: `Nodes` (node words), `Turns` (the first tree at a place),
+-- `Places`, `Pairs` and `Leaves` (the walk). Assumes nothing.
 use Rattle.std.specs.Prelude.{ℕ, ◌+◌, ◌-◌, ◌*◌, ◌/◌, ◌%◌, ◌<◌, ◌≤◌, ◌^◌, ◌≡◌, true, ◌⊎◌, List, [], ◌∷◌, length, get_or, drop}
 use Rattle.table.specs.Table.{Table}
 use Rattle.table.specs.Memory.{remember}

@@ -10,7 +10,7 @@ use Rattle.table.specs.Node.{term_of, kind_of, ref_of}
 use Rattle.table.specs.Memory.{Memory, remember}
 use Rattle.table.specs.Member.{member}
 use Rattle.node_word.specs.Word.{pack, Digits}
-use Rattle.node_word.specs.Word.Laws.{term_pack, memory_pack}
+use Rattle.node_word.proofs.Word.Laws.{term_pack, memory_pack}
 use Rattle.residuals.specs.Residual.{Residual, leaf, pair, pairs, resolve, after}
 use Rattle.residuals.specs.Slots.{nodes}
 use Rattle.resolving.specs.ResidualWords.{nth}
@@ -20,7 +20,7 @@ use Rattle.tree_walk.specs.Forest.{Valid, after_kept}
 use Rattle.tree_walk.specs.Forest.Words.{nodes_pairs}
 use Rattle.numbers.specs.Some.{any_append_left, any_append_right, any_append_cases}
 use Rattle.slots.specs.Canon.{In, SameMembers}
-use Rattle.slots.specs.Canon.Members.{Sub, map_in, map_out, sub_map, same_refl, same_append}
+use Rattle.slots.proofs.Canon.Members.{Sub, map_in, map_out, sub_map, same_refl, same_append}
 use Rattle.tree_ways.specs.Covering.{follower, leaf_both}
 
 -- ---- products and unions

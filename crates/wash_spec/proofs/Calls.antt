@@ -17,27 +17,27 @@ use Rattle.numbers.specs.Choice.{T_true, true_T}
 use Rattle.table.specs.Table.{Table}
 use Rattle.table.specs.Judge.{accepted, judge_list}
 use Rattle.monitor_spec.specs.Regular.{Regular}
-use Rattle.monitor_spec.specs.Valid.Laws.{and_split}
+use Rattle.monitor_spec.proofs.Valid.Laws.{and_split}
 use Rattle.monitor_spec.specs.State.{work_measured}
-use Rattle.monitor_spec.specs.State.Areas.{both_true}
+use Rattle.monitor_spec.proofs.State.Areas.{both_true}
 use Rattle.monitor_spec.specs.Fold.{Ended, through, took, extend_by, extend_all}
-use Rattle.monitor_spec.specs.Fold.Laws as fold
-use Rattle.monitor_spec.specs.Fold.Joined.{Follows, extended}
-use Rattle.monitor_spec.specs.Refusals.Laws.{accepts, clash}
+use Rattle.monitor_spec.proofs.Fold.Laws as fold
+use Rattle.monitor_spec.proofs.Fold.Joined.{Follows, extended}
+use Rattle.monitor_spec.proofs.Refusals.Laws.{accepts, clash}
 use Rattle.timetable_spec.specs.Timetable.{good_timetable}
 use Rattle.wash_spec.specs.Timed.{TimedMonitor, TimedAnswer, given, stopped, TimedOutcome}
 use Rattle.wash_spec.specs.Taking.{take_timed}
-use Rattle.wash_spec.specs.Taking.Laws.{timed_range}
+use Rattle.wash_spec.proofs.Taking.Laws.{timed_range}
 use Rattle.wash_spec.specs.Entering.{timed_measured}
-use Rattle.wash_spec.specs.Entering.Laws.{timed_1, timed_open}
+use Rattle.wash_spec.proofs.Entering.Laws.{timed_1, timed_open}
 use Rattle.wash_spec.specs.Feed.{timed_pairs, timed_ending, timed_refusing, timed_of}
-use Rattle.wash_spec.specs.Feed.Laws.{timed_shut, timed_admits, none_given, some_stopped}
+use Rattle.wash_spec.proofs.Feed.Laws.{timed_shut, timed_admits, none_given, some_stopped}
 use Rattle.wash_spec.specs.Joined.{TimedCall, looked_at, timed_halts}
-use Rattle.wash_spec.specs.Joined.Laws.{looked, unlooked}
+use Rattle.wash_spec.proofs.Joined.Laws.{looked, unlooked}
 use Rattle.wash_spec.specs.History.{timed_standing, timed_call_on, timed_history, Paired, TimedEventful, TimedAlong}
 use Rattle.wash_spec.specs.History.{TimedJoins}
 use Rattle.wash_spec.specs.Expected.{timed_after}
-use Rattle.wash_spec.specs.Expected.Steps.{TimedFed, follows}
+use Rattle.wash_spec.proofs.Expected.Steps.{TimedFed, follows}
 use Rattle.wash_spec.proofs.Standing.{areas_right, agrees_after}
 
 -- ---- what the next call gets

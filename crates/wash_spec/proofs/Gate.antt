@@ -15,24 +15,24 @@ use Rattle.numbers.specs.Choice.{T_true, true_T}
 use Rattle.table.specs.Table.{Table}
 use Rattle.table.specs.Judge.{Judgement, accepted, declined, judge_list}
 use Rattle.table.specs.Operations.{zeros}
-use Rattle.table.specs.Refusals.AtNumbers.{refused_in, refused_out}
-use Rattle.monitor_spec.specs.Valid.Laws.{and_split}
+use Rattle.table.proofs.Refusals.AtNumbers.{refused_in, refused_out}
+use Rattle.monitor_spec.proofs.Valid.Laws.{and_split}
 use Rattle.monitor_spec.specs.State.{areas_measured, work_measured}
 use Rattle.monitor_spec.specs.Fold.{Ended, through}
 use Rattle.monitor_spec.specs.Refusals.{IsTable}
-use Rattle.monitor_spec.specs.Refusals.Laws.{measured_in, is_table_in, is_table_out, accepts, clash}
+use Rattle.monitor_spec.proofs.Refusals.Laws.{measured_in, is_table_in, is_table_out, accepts, clash}
 use Rattle.timetable_spec.specs.Timetable.{good_timetable}
 use Rattle.timetable_spec.specs.Windows.{Windows}
-use Rattle.timetable_spec.specs.Windows.Laws.{good_in, good_out}
+use Rattle.timetable_spec.proofs.Windows.Laws.{good_in, good_out}
 use Rattle.wash_spec.specs.Timed.{TimedMonitor, TimedAnswer, refused, TimedOutcome}
 use Rattle.wash_spec.specs.Taking.{take_timed}
 use Rattle.wash_spec.specs.Entering.{timed_measured, timed_consistent}
-use Rattle.wash_spec.specs.Entering.Laws.{timed_1, timed_everyday, timed_wash, timed_16, timed_10, timed_open}
+use Rattle.wash_spec.proofs.Entering.Laws.{timed_1, timed_everyday, timed_wash, timed_16, timed_10, timed_open}
 use Rattle.wash_spec.specs.Feed.{timed_pairs, timed_ending, timed_refusing, timed_of}
-use Rattle.wash_spec.specs.Feed.Laws.{timed_shut, timed_admits, none_given, some_stopped}
+use Rattle.wash_spec.proofs.Feed.Laws.{timed_shut, timed_admits, none_given, some_stopped}
 use Rattle.wash_spec.specs.Refusals.{TimedMeasured, TimedLaid, TimedRefused, wrong_length, bad_everyday, bad_wash}
 use Rattle.wash_spec.specs.Refusals.{bad_timetable, inconsistent, TimedWorkLeft}
-use Rattle.wash_spec.specs.Refusals.Laws.{timed_in, timed_out, untimed_in, untimed_out, laid_in, laid_out}
+use Rattle.wash_spec.proofs.Refusals.Laws.{timed_in, timed_out, untimed_in, untimed_out, laid_in, laid_out}
 use Rattle.wash_spec.specs.Progress.{TimedEnters}
 use Rattle.wash_spec.proofs.Forms.{refused_same, refused_given, refused_stopped}
 

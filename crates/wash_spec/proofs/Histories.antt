@@ -16,33 +16,33 @@ use Rattle.table.specs.Judge.{accepted, judge_list}
 use Rattle.meaning.specs.Figure1.{Term}
 use Rattle.meaning.specs.Figure2.{TraceSet, Model}
 use Rattle.monitor_spec.specs.State.{Outcome, work_measured, slot_count, choose}
-use Rattle.monitor_spec.specs.State.Areas.{both_true}
+use Rattle.monitor_spec.proofs.State.Areas.{both_true}
 use Rattle.monitor_spec.specs.Fold.{StepEnd, through, extend_by, extend_all}
-use Rattle.monitor_spec.specs.Fold.Joined.{Follows, extend_snoc, all_keeps, begins_keeps, one_fold, fold_begins}
+use Rattle.monitor_spec.proofs.Fold.Joined.{Follows, extend_snoc, all_keeps, begins_keeps, one_fold, fold_begins}
 use Rattle.monitor_spec.specs.Feed.{take_event, ending_of}
 use Rattle.monitor_spec.specs.Open.{open_of}
 use Rattle.monitor_spec.specs.Joined.{residual_count}
 use Rattle.monitor_spec.specs.Expected.{record_of, monitor_after}
-use Rattle.monitor_spec.specs.Expected.Steps.{Fed}
+use Rattle.monitor_spec.proofs.Expected.Steps.{Fed}
 use Rattle.monitor_spec.specs.History.{Leaves, AfterEvents}
-use Rattle.monitor_spec.specs.History.Begun.{open_goes}
-use Rattle.monitor_spec.specs.History.Peaks.{record_greatest}
-use Rattle.monitor_spec.specs.History.After.{after_events}
+use Rattle.monitor_spec.proofs.History.Begun.{open_goes}
+use Rattle.monitor_spec.proofs.History.Peaks.{record_greatest}
+use Rattle.monitor_spec.proofs.History.After.{after_events}
 use Rattle.monitor_spec.specs.Refusals.{Measured}
-use Rattle.monitor_spec.specs.Refusals.Laws.{measured_in, accepts}
+use Rattle.monitor_spec.proofs.Refusals.Laws.{measured_in, accepts}
 use Rattle.timetable_spec.specs.Timetable.{good_timetable, in_force}
 use Rattle.wash_spec.specs.Timed.{TimedMonitor, stamped, TimedOutcome}
 use Rattle.wash_spec.specs.Taking.{drawing_at, take_timed}
 use Rattle.wash_spec.specs.Feed.{events_of, minutes_of, timed_ending, timed_of}
-use Rattle.wash_spec.specs.Feed.Laws.{pairs_back}
+use Rattle.wash_spec.proofs.Feed.Laws.{pairs_back}
 use Rattle.wash_spec.specs.Joined.{TimedCall, looked_at, Stretch, grown, stretch_from, stretch, timed_halts}
 use Rattle.wash_spec.specs.Joined.{timed_joined}
-use Rattle.wash_spec.specs.Joined.Laws.{stretch_snoc}
+use Rattle.wash_spec.proofs.Joined.Laws.{stretch_snoc}
 use Rattle.wash_spec.specs.History.{unstarted, timed_history, TimedLeaves, TimedAlong, TimedJoins, AfterStart}
 use Rattle.wash_spec.specs.History.{TimedAfter}
 use Rattle.wash_spec.specs.Expected.{after_minute, after_stretch, timed_after}
-use Rattle.wash_spec.specs.Expected.Fresh.{Runs}
-use Rattle.wash_spec.specs.Expected.Steps.{FedAt}
+use Rattle.wash_spec.proofs.Expected.Fresh.{Runs}
+use Rattle.wash_spec.proofs.Expected.Steps.{FedAt}
 use Rattle.wash_spec.proofs.Standing.{says_at}
 use Rattle.wash_spec.proofs.Calls as calls-of
 

@@ -6,3 +6,10 @@ pub mod Onward
 pub mod Standing
 pub mod Calls
 pub mod Histories
+pub mod Entering
+pub mod Expected
+pub mod Feed
+pub mod Joined
+pub mod Progress
+pub mod Refusals
+pub mod Taking

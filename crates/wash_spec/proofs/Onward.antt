@@ -9,17 +9,17 @@ use lib.Dec.{T}
 use Rattle.table.specs.Table.{Table}
 use Rattle.monitor_spec.specs.Regular.{Regular}
 use Rattle.monitor_spec.specs.Fold.{through}
-use Rattle.monitor_spec.specs.Refusals.Laws.{is_table_in, accepts}
+use Rattle.monitor_spec.proofs.Refusals.Laws.{is_table_in, accepts}
 use Rattle.timetable_spec.specs.Timetable.{good_timetable}
-use Rattle.timetable_spec.specs.Windows.Laws.{good_in}
+use Rattle.timetable_spec.proofs.Windows.Laws.{good_in}
 use Rattle.wash_spec.specs.Timed.{TimedMonitor, TimedOutcome}
 use Rattle.wash_spec.specs.Taking.{drawing_at, take_timed}
 use Rattle.wash_spec.specs.Feed.{timed_pairs, timed_ending, timed_of}
-use Rattle.wash_spec.specs.Feed.Laws.{pairs_back, events_back, minutes_back}
+use Rattle.wash_spec.proofs.Feed.Laws.{pairs_back, events_back, minutes_back}
 use Rattle.wash_spec.specs.History.{TimedLeaves}
 use Rattle.wash_spec.specs.Progress.{TimedMeets, TimedRuns, Zips, TimedLeavesAt, TimedEnters, TimedStops}
 use Rattle.wash_spec.specs.Progress.{TimedGives}
-use Rattle.wash_spec.specs.Progress.Lists.{runs_ends, stops_ends, Passed, all, upto, passed}
+use Rattle.wash_spec.proofs.Progress.Lists.{runs_ends, stops_ends, Passed, all, upto, passed}
 use Rattle.wash_spec.proofs.Forms.{given_same, stopped_same, refused_given, refused_stopped, given_stopped}
 use Rattle.wash_spec.proofs.Forms.{monitor_same}
 use Rattle.wash_spec.proofs.Gate.{on_open, opens}

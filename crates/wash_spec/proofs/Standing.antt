@@ -16,18 +16,18 @@ use Rattle.table.specs.Judge.{accepted, judge_list}
 use Rattle.table.specs.Operations.{zeros}
 use Rattle.monitor_spec.specs.Regular.{Regular}
 use Rattle.monitor_spec.specs.State.{areas_measured, choose}
-use Rattle.monitor_spec.specs.State.Areas.{both_true, zero_zeros}
-use Rattle.monitor_spec.specs.History.Laws.{after_measured, after_consistent}
-use Rattle.monitor_spec.specs.Refusals.Laws.{accepts}
+use Rattle.monitor_spec.proofs.State.Areas.{both_true, zero_zeros}
+use Rattle.monitor_spec.proofs.History.Laws.{after_measured, after_consistent}
+use Rattle.monitor_spec.proofs.Refusals.Laws.{accepts}
 use Rattle.timetable_spec.specs.Timetable.{good_timetable, in_force}
 use Rattle.wash_spec.specs.Timed.{TimedMonitor}
 use Rattle.wash_spec.specs.Taking.{drawing_at}
-use Rattle.wash_spec.specs.Taking.Laws.{drawing_regular}
+use Rattle.wash_spec.proofs.Taking.Laws.{drawing_regular}
 use Rattle.wash_spec.specs.Entering.{agrees_by, timed_consistent}
 use Rattle.wash_spec.specs.Joined.{stretch}
 use Rattle.wash_spec.specs.History.{unstarted}
 use Rattle.wash_spec.specs.Expected.{after_minute, after_stretch, timed_after}
-use Rattle.wash_spec.specs.Expected.Steps.{FedAt, TimedFed}
+use Rattle.wash_spec.proofs.Expected.Steps.{FedAt, TimedFed}
 
 module _ (l k windows ns os : List ℕ) (t u : Table) (says : judge_list l ≡ accepted ns t)
     (tells : judge_list k ≡ accepted os u) (good : T (good_timetable windows)) (n : ℕ) (low : 1 ≤ n) (top : n ≤ 256) where

@@ -4,7 +4,7 @@ use mathlib.Core.Bool.{Bool, true, false}
 use lib.Dec.{T}
 use Rattle.monitor_spec.specs.State.{choose}
 use Rattle.timetable_spec.specs.Timetable.{in_force}
-use Rattle.timetable_spec.specs.Windows.Laws.{good_in}
+use Rattle.timetable_spec.proofs.Windows.Laws.{good_in}
 use Rattle.wash_spec.specs.Taking.{drawing_at}
 use Rattle.wash_spec.specs.Claims.{DrawingExactly, TimedRefusedExactly, TimedStopsExactly, TimedGivesExactly}
 use Rattle.wash_spec.specs.Claims.{TimedBuffers, TimedHistories, JoinsBeforeRefused}

@@ -3,7 +3,7 @@
 --     timed_measured                   lent lengths
 --     timed_consistent                 10 is not met
 --     TimedEntrance, timed_entrance    refused, by number, place and the work words then; or both tables
--- The laws are in `Entering/Laws.antt`. Assumes nothing.
+-- The laws are in `proofs/Entering/Laws.antt`. Assumes nothing.
 use Rattle.std.specs.Prelude.{ℕ, Bool, true, false, ◌&&◌, List, length, eqb}
 use Rattle.table.specs.Table.{Table}
 use Rattle.table.specs.Judge.{judge_list}
@@ -14,7 +14,6 @@ use Rattle.monitor_spec.specs.Entering.{judging, entrance, entering}
 use Rattle.timetable_spec.specs.Timetable.{good_timetable}
 use Rattle.wash_spec.specs.Timed.{TimedState, not_started, started, TimedMonitor, plain}
 use Rattle.wash_spec.specs.Taking.{drawing_at}
-pub mod Laws
 
 -- "Each event brings an absolute minute": as many minutes as events, else 1 (docs/DECISIONS.md)
 unfoldable pub timed_measured : TimedMonitor → List ℕ → List ℕ → List ℕ → Bool

@@ -1,6 +1,6 @@
 -- The monitor that a joined list calls for (ours; 02, W5).
 --     after_stretch, timed_after  by the last minute and the events since the last start; by the list
--- The laws are in `Expected/`: `Fresh`, `Steps`. Assumes nothing.
+-- The laws are in `proofs/Expected/`: `Fresh`, `Steps`. Assumes nothing.
 use Rattle.std.specs.Prelude.{ℕ, List}
 use Rattle.std.proofs.Math.Option.{Option, none, some}
 use Rattle.table.specs.Table.{Table}
@@ -9,8 +9,6 @@ use Rattle.wash_spec.specs.Timed.{TimedMonitor, stamped}
 use Rattle.wash_spec.specs.Taking.{drawing_at}
 use Rattle.wash_spec.specs.Joined.{Stretch, stretch}
 use Rattle.wash_spec.specs.History.{unstarted}
-pub mod Fresh
-pub mod Steps
 
 unfoldable pub after_minute : Table → Table → List ℕ → ℕ → Option ℕ → List ℕ → TimedMonitor
 after_minute everyday wash windows n none es = unstarted n

@@ -2,7 +2,7 @@
 --     timed_pairs    the events, each with its minute;  events_of, minutes_of: back
 --     timed_ending   where the events end;  timed_refusing: a refusal that keeps the areas
 --     timed_of       answer, areas and work words of a call
--- The laws are in `Feed/Laws.antt`. Assumes nothing.
+-- The laws are in `proofs/Feed/Laws.antt`. Assumes nothing.
 use Rattle.std.specs.Prelude.{ℕ, List, [], ◌∷◌, map, length}
 use Rattle.std.proofs.Math.Option.{none, some}
 use Rattle.table.specs.Operations.{zeros}
@@ -10,7 +10,6 @@ use Rattle.monitor_spec.specs.Fold.{Ended, through}
 use Rattle.wash_spec.specs.Timed.{TimedMonitor, given, refused, stopped, TimedOutcome}
 use Rattle.wash_spec.specs.Taking.{take_timed}
 use Rattle.wash_spec.specs.Entering.{TimedEntrance, shut, admits, timed_measured, timed_entrance}
-pub mod Laws
 
 -- "Each event brings an absolute minute"
 unfoldable pub timed_pairs : List ℕ → List ℕ → List (ℕ × ℕ)

@@ -4,7 +4,7 @@
 --     Stretch, stretch        of a joined list: its last minute, and the events since its last start
 --     timed_halts             the call stops before this event
 --     timed_joined            the list after a list of calls
--- The laws are in `Joined/Laws.antt`. Assumes nothing.
+-- The laws are in `proofs/Joined/Laws.antt`. Assumes nothing.
 use Rattle.std.specs.Prelude.{ℕ, Bool, true, false, ◌&&◌, ◌||◌, List, [], ◌∷◌, ◌++◌, map, length, eqb, leb, ltb}
 use Rattle.std.proofs.Math.Option.{Option, none, some}
 use Rattle.table.specs.Table.{Table}
@@ -14,7 +14,6 @@ use Rattle.monitor_spec.specs.Joined.{residual_count, halts}
 use Rattle.timetable_spec.specs.Timetable.{minute_bound, changes}
 use Rattle.wash_spec.specs.Taking.{drawing_at}
 use Rattle.wash_spec.specs.Feed.{timed_pairs}
-pub mod Laws
 
 -- 01: "Events and work area are each call's own, of any content and length."; "Each event brings an absolute minute"
 pub record TimedCall : Type 0 where

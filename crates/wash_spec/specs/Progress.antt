@@ -4,7 +4,7 @@
 --     TimedMeets, TimedTakes an event is refused; it is taken, and what it leaves
 --     TimedRuns              the events of a list are taken
 --     TimedStops, TimedGives the call stops at an event; it takes all events
--- The laws are in `Progress/`: `Tests`, `Laws`, `Lists`. Assumes nothing.
+-- The laws are in `proofs/Progress/`: `Tests`, `Laws`, `Lists`. Assumes nothing.
 use Rattle.std.specs.Prelude.{ℕ, ◌≤◌, ◌<◌, ◌≡◌, List, [], ◌∷◌, ◌++◌, ◌⊎◌, length}
 use Rattle.table.specs.Table.{Table}
 use Rattle.residuals.specs.Residual.{Residual, residuals_of}
@@ -21,9 +21,6 @@ use Rattle.wash_spec.specs.Timed.{TimedOutcome}
 use Rattle.wash_spec.specs.Taking.{drawing_at}
 use Rattle.wash_spec.specs.Feed.{events_of, minutes_of}
 use Rattle.wash_spec.specs.Refusals.{TimedMeasured, TimedLaid}
-pub mod Tests
-pub mod Laws
-pub mod Lists
 
 -- "17 clock back, a minute below the last or 2^48 or more"
 abbrev pub ClockBack : TimedState → ℕ → Type 0

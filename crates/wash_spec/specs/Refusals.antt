@@ -3,7 +3,7 @@
 --     TimedLaid         the record and areas are those of residuals, or zero before the first event
 --     TimedRefused      1; 2 to 9, of the everyday table and then of the wash table; 16; 10
 --     TimedWorkLeft     what stands in the work area after a call
--- The laws are in `Refusals/Laws.antt`. What a call does with its events is in `Progress.antt`. Assumes nothing.
+-- The laws are in `proofs/Refusals/Laws.antt`. What a call does with its events is in `Progress.antt`. Assumes nothing.
 use Rattle.std.specs.Prelude.{ℕ, ◌≡◌, List, length}
 use Rattle.table.specs.Table.{Table}
 use Rattle.table.specs.Refusals.{Refused}
@@ -14,7 +14,6 @@ use Rattle.monitor_spec.specs.Refusals.{Measured, IsTable}
 use Rattle.timetable_spec.specs.Windows.{Windows}
 use Rattle.wash_spec.specs.Timed.{TimedState, not_started, started, TimedMonitor, plain}
 use Rattle.wash_spec.specs.Taking.{drawing_at}
-pub mod Laws
 
 -- 01: "Lent areas 0 and 1 .."; "Each event brings an absolute minute"
 pub record TimedMeasured (m : TimedMonitor) (es ms w : List ℕ) : Type 0 where

@@ -3,7 +3,7 @@
 --     clock_back, start_due  17 is met; the monitor starts afresh
 --     take_fresh, take_on    the event on a fresh start; on what stands
 --     take_timed             the monitor after it, or the refusal
--- The laws are in `Taking/Laws.antt`. Assumes nothing.
+-- The laws are in `proofs/Taking/Laws.antt`. Assumes nothing.
 use Rattle.std.specs.Prelude.{ℕ, Bool, true, false, ◌||◌, List, [], length, ltb, leb}
 use Rattle.table.specs.Table.{Table}
 use Rattle.residuals.specs.Residual.{residuals_of}
@@ -14,7 +14,6 @@ use Rattle.monitor_spec.specs.Feed.{take_event}
 use Rattle.monitor_spec.specs.Open.{fresh_monitor}
 use Rattle.timetable_spec.specs.Timetable.{minute_bound, in_force, changes}
 use Rattle.wash_spec.specs.Timed.{TimedState, not_started, started, TimedMonitor, plain, stamped}
-pub mod Laws
 
 -- "In wash hours another drawing applies."
 unfoldable pub drawing_at : Table → Table → List ℕ → ℕ → Table

@@ -1,7 +1,7 @@
 -- A proof of each claim of `specs/Claims.antt`. Assumes nothing.
 use mathlib.Core.Path.{refl}
-use Rattle.wash_words.specs.Words.Laws.{not_started_in, started_in, timed_back}
-use Rattle.wash_words.specs.Call.Laws.{timed_way}
+use Rattle.wash_words.proofs.Words.Laws.{not_started_in, started_in, timed_back}
+use Rattle.wash_words.proofs.Call.Laws.{timed_way}
 use Rattle.wash_words.specs.Words.{timed_words}
 use Rattle.wash_words.specs.Claims.{TimedReadsBack, TimedWritten, TimedReads, TimedTells, ZeroExactly}
 use Rattle.wash_words.proofs.Zero.{timed_zero}

@@ -4,13 +4,12 @@
 --     TimedTold                                    the promise of `tell_timed`
 --     timed_call                                   of all that is lent
 --     TimedWay                                     the same by the operation's answer: every word of each way
--- The laws are in `Call/Laws.antt`. Assumes nothing.
+-- The laws are in `proofs/Call/Laws.antt`. Assumes nothing.
 use Rattle.std.specs.Prelude.{ℕ, ◌≡◌, Bool, true, false, List, length}
 use Rattle.words_spec.specs.Calls.{MonitorCall, unmeasured}
 use Rattle.wash_spec.specs.Timed.{TimedState, TimedMonitor, TimedAnswer, given, refused, stopped, TimedOutcome}
 use Rattle.wash_spec.specs.Feed.{timed_of}
 use Rattle.wash_words.specs.Words.{timed_record_measured, timed_in, timed_words}
-pub mod Laws
 
 -- ---- an answer
 

@@ -3,11 +3,10 @@
 --     timed_record_measured  a lent record is of seven words
 --     timed_in               what seven words hold
 --     timed_words            the words of a record, or of none yet
--- The laws are in `Words/Laws.antt`. Assumes nothing.
+-- The laws are in `proofs/Words/Laws.antt`. Assumes nothing.
 use Rattle.std.specs.Prelude.{ℕ, Bool, true, false, List, [], ◌∷◌, ◌++◌, length, get_or, replicate, eqb}
 use Rattle.words_spec.specs.Words.{state_in, words_of}
 use Rattle.wash_spec.specs.Timed.{TimedState, not_started, started}
-pub mod Laws
 
 -- a record slice that is not of seven words is refusal 1, "a lent length is not as above"
 unfoldable pub timed_record_measured : List ℕ → Bool

@@ -3,3 +3,7 @@ pub mod Theorems
 pub mod Zero
 pub mod Shows
 pub mod Rows
+pub mod Calls
+pub mod Tables
+pub mod Ways
+pub mod Words

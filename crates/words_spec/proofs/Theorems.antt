@@ -1,7 +1,7 @@
 -- A proof of each claim of `specs/Claims.antt`. Assumes nothing.
-use Rattle.words_spec.specs.Words.Laws.{read_back}
-use Rattle.words_spec.specs.Ways.Laws.{read_way, write_way, open_call_way, feed_way, try_way, offer_way}
-use Rattle.words_spec.specs.Ways.Laws.{view_way}
+use Rattle.words_spec.proofs.Words.Laws.{read_back}
+use Rattle.words_spec.proofs.Ways.Laws.{read_way, write_way, open_call_way, feed_way, try_way, offer_way}
+use Rattle.words_spec.proofs.Ways.Laws.{view_way}
 use Rattle.words_spec.specs.Claims.{RecordReadsBack, CallsTell, ZeroExactly, ViewShows, Rows}
 use Rattle.words_spec.proofs.Zero.{read_zero, write_zero, open_zero, feed_zero, try_zero, offer_zero}
 use Rattle.words_spec.proofs.Shows.{shows}

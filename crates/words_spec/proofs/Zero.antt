@@ -18,15 +18,15 @@ use Rattle.residuals.specs.Residual.{residuals_of}
 use Rattle.residuals.specs.Slots.{slots_of}
 use Rattle.monitor_spec.specs.Fold.{Ended}
 use Rattle.monitor_spec.specs.Open.{fresh_monitor, open_accepted, open_of}
-use Rattle.monitor_spec.specs.Open.Laws.{open_shut, open_admits}
+use Rattle.monitor_spec.proofs.Open.Laws.{open_shut, open_admits}
 use Rattle.monitor_spec.specs.Feed.{take_event, ending_of, feed_of}
-use Rattle.monitor_spec.specs.Feed.Laws.{feed_shut, feed_admits}
+use Rattle.monitor_spec.proofs.Feed.Laws.{feed_shut, feed_admits}
 use Rattle.monitor_spec.specs.Try.{further_measured, on_copy, try_of}
-use Rattle.monitor_spec.specs.Try.Laws.{try_alike, try_unlike}
+use Rattle.monitor_spec.proofs.Try.Laws.{try_alike, try_unlike}
 use Rattle.monitor_spec.specs.Entering.{Entrance, shut, admits, entrance, entrance_on, refusing}
-use Rattle.monitor_spec.specs.Entering.Laws.{shut_all, on_all}
+use Rattle.monitor_spec.proofs.Entering.Laws.{shut_all, on_all}
 use Rattle.monitor_spec.specs.Offer.{OfferOutcome, offering, offer_of}
-use Rattle.monitor_spec.specs.Offer.Laws.{offer_shut, offer_admits}
+use Rattle.monitor_spec.proofs.Offer.Laws.{offer_shut, offer_admits}
 use Rattle.words_spec.specs.Nonzero.{list_some, bytes_some, Why, event_stop, through_why}
 use Rattle.words_spec.specs.Words.{record_measured}
 use Rattle.words_spec.specs.Tables as tables

@@ -5,7 +5,7 @@
 --     try_call                              of Try, in the further record and areas
 --     OfferCall, OfferTold, offer_call      of Offer
 --     ViewCall, view_call                   of View
--- The laws are in `Calls/Laws.antt`. Assumes nothing.
+-- The laws are in `proofs/Calls/Laws.antt`. Assumes nothing.
 use Rattle.std.specs.Prelude.{ℕ, ◌≡◌, Bool, true, false, ◌&&◌, List, length, eqb}
 use Rattle.monitor_spec.specs.State.{Monitor, Answer, given, refused, stopped, Outcome}
 use Rattle.monitor_spec.specs.Open.{open_of}
@@ -15,7 +15,6 @@ use Rattle.monitor_spec.specs.Offer.{Offered, offers, OfferOutcome, offer_of}
 use Rattle.monitor_spec.specs.Offer as operation
 use Rattle.monitor_spec.specs.View.{Part, view_part}
 use Rattle.words_spec.specs.Words.{record_measured, state_in, words_of}
-pub mod Laws
 
 -- ---- Open and Feed
 

@@ -12,15 +12,15 @@ use Rattle.table.specs.Table.{Table}
 use Rattle.table.specs.Judge.{declined, judge_list, judge_bytes}
 use Rattle.table.specs.Refusals.{Refused, too_long, truncated_list, out_of_range, trailing_input, bad_reference}
 use Rattle.table.specs.Refusals.{too_wide, too_many_branches}
-use Rattle.table.specs.Refusals.AtNumbers.{refused_out}
+use Rattle.table.proofs.Refusals.AtNumbers.{refused_out}
 use Rattle.table.specs.BytesRefused.{RefusedBytes, long_bytes, short_bytes, malformed_number, off_bytes, over_number}
 use Rattle.table.specs.BytesRefused.{over_bytes, wrong_bytes, wide_bytes, branches_bytes}
-use Rattle.table.specs.BytesRefused.Exact.{refused_bytes_out}
+use Rattle.table.proofs.BytesRefused.Exact.{refused_bytes_out}
 use Rattle.residuals.specs.Residual.{Residual}
 use Rattle.monitor_spec.specs.State.{Monitor}
 use Rattle.monitor_spec.specs.Fold.{StepEnd, went, stops, through}
 use Rattle.monitor_spec.specs.Feed.{take_event}
-use Rattle.monitor_spec.specs.Feed.Laws.{EventCase, meets, passes, event_case, met_by, take_refused, take_passes}
+use Rattle.monitor_spec.proofs.Feed.Laws.{EventCase, meets, passes, event_case, met_by, take_refused, take_passes}
 use Rattle.monitor_spec.specs.Progress.{Meets, unknown, full, exceeded}
 
 -- ---- the table layer

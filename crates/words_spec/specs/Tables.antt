@@ -3,10 +3,9 @@
 --     TableTold               a number and a value are those of an answer
 --     table_call              the call of an outcome of Read or Write
 --     read_call, write_call   of the words lent
--- The laws are in `Tables/Laws.antt`. Assumes nothing.
+-- The laws are in `proofs/Tables/Laws.antt`. Assumes nothing.
 use Rattle.std.specs.Prelude.{ℕ, ◌≡◌, Bool, true, false, List}
 use Rattle.table.specs.Operations.{Answer, done, refusal, Outcome, read_of, write_of}
-pub mod Laws
 
 pub record TableCall : Type 0 where
   pub number : ℕ

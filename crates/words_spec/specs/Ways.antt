@@ -4,7 +4,7 @@
 --     OfferWay    of Offer
 --     ViewWay     of View, whose part of an area is given
 --     TableWay    of Read and Write
--- The laws are in `Ways/Laws.antt`. Assumes nothing.
+-- The laws are in `proofs/Ways/Laws.antt`. Assumes nothing.
 use Rattle.std.specs.Prelude.{ℕ, ◌<◌, ◌%◌, ◌≡◌, List, length}
 use Rattle.std.proofs.Math.Option.{none, some}
 use Rattle.table.specs.Operations.{done, refusal}
@@ -16,7 +16,6 @@ use Rattle.monitor_spec.specs.Offer as operation
 use Rattle.words_spec.specs.Words.{state_in, words_of}
 use Rattle.words_spec.specs.Tables.{TableCall}
 use Rattle.words_spec.specs.Calls.{MonitorCall, OpenCall, OfferCall, ViewCall}
-pub mod Laws
 
 pub data CallWay (r a b w : List ℕ) (o : Outcome) : MonitorCall → Type 0 where
   -- a record that is not of five words (ours): "a lent length is not as above", 1 at place 0, all kept

@@ -3,10 +3,9 @@
 --     record_measured   a lent record is of five words
 --     state_in          the record that five words hold
 --     words_of           the words of a record
--- The laws are in `Words/Laws.antt`. Assumes nothing.
+-- The laws are in `proofs/Words/Laws.antt`. Assumes nothing.
 use Rattle.std.specs.Prelude.{ℕ, Bool, true, false, List, [], ◌∷◌, ◌++◌, length, get_or, eqb}
 use Rattle.monitor_spec.specs.State.{Verdict, running, failed_at, State}
-pub mod Laws
 
 -- a record slice that is not of five words is refusal 1, "a lent length is not as above"
 unfoldable pub record_measured : List ℕ → Bool

@@ -19,7 +19,7 @@ use Rattle.numbers.specs.Position.{read_at}
 use Rattle.numbers.specs.Position.Laws.{value_read, truncated_read, malformed_read}
 use Rattle.numbers.specs.declared.Reading.TheVariants.{Value, Truncated, Malformed}
 use Rattle.table_index.specs.Judging.{Decoding}
-use Rattle.table.specs.BytesRefused.Listed.{bytes_last}
+use Rattle.table.proofs.BytesRefused.Listed.{bytes_last}
 
 -- a slice of bytes has bytes only
 pub bytes_of_lem : (s : List ℕ) → ((i : ℕ) → get_or s i 0 < 256) → Bytes s

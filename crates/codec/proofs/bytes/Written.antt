@@ -13,7 +13,7 @@ use Rattle.numbers.specs.Number.{bytes_of, list_bytes}
 use Rattle.numbers.specs.Position.{end_at, stored_at}
 use Rattle.numbers.specs.Position.Laws.{next_stored, full_kept}
 use Rattle.numbers.specs.declared.Written.TheVariants.{Next, Full}
-use Rattle.table.specs.BytesRefused.Listed.{bytes_more, length_more}
+use Rattle.table.proofs.BytesRefused.Listed.{bytes_more, length_more}
 
 pub record OutputFilled (l out₀ out : List ℕ) (i p : ℕ) : Type 0 where
   pub output : out ≡ list_bytes (take i l) ++ drop p out₀

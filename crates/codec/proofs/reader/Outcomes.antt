@@ -24,7 +24,7 @@ use Rattle.table_index.specs.BytesJudged.{on_bytes, JudgedAs, PlaceInside}
 use Rattle.table_index.specs.BytesJudged.{on_accepted, on_after, judged_bytes, place_within}
 use Rattle.table.specs.Operations.{zeros, measured, read_judged, read_of}
 use Rattle.table.specs.Answers.{answer_of, outcome, Said}
-use Rattle.table.specs.Answers.Laws.{said_outcome}
+use Rattle.table.proofs.Answers.Laws.{said_outcome}
 use Rattle.table_index.specs.Index.{table_in}
 use Rattle.table_index.specs.Judging.{Decoding, JudgeDone}
 

@@ -21,10 +21,10 @@ use Rattle.table.specs.Judge.{Judgement, accepted, declined, judge_list}
 use Rattle.table.specs.BytesRefused.{byte_place}
 use Rattle.table.specs.Operations.{zeros, measured, write_judged, write_of, Outcome}
 use Rattle.table.specs.Answers.{outcome, Said}
-use Rattle.table.specs.Answers.Laws.{said_outcome}
+use Rattle.table.proofs.Answers.Laws.{said_outcome}
 use Rattle.table_index.specs.Index.{table_in}
 use Rattle.table_index.specs.Judging.{CheckDone}
-use Rattle.table.specs.BytesRefused.Listed.{place_all}
+use Rattle.table.proofs.BytesRefused.Listed.{place_all}
 
 -- ---- answer and output
 pub room : (l : List ℕ) (n m : ℕ) → n ≡ byte_place l (length l) → n ≤ m → length (list_bytes l) ≤ m

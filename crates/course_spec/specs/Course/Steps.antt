@@ -14,8 +14,8 @@ use Rattle.monitor_spec.specs.State.{Monitor}
 use Rattle.state.specs.declared.record.State.{State}
 use Rattle.state.specs.Record.{state_of, monitor_of}
 use Rattle.state.specs.Answers.{bits_of}
-use Rattle.line_spec.specs.Judged.Laws.{flatten_last}
-use Rattle.line_spec.specs.Judged.Taken.{event_took}
+use Rattle.line_spec.proofs.Judged.Laws.{flatten_last}
+use Rattle.line_spec.proofs.Judged.Taken.{event_took}
 use Rattle.trace_spec.specs.TraceLine.{TraceLine, takes, refuses}
 use Rattle.trace_spec.specs.Trace.{trace_of}
 use Rattle.trace_spec.specs.Reads.{reached_by}

@@ -15,11 +15,11 @@ use Rattle.table.specs.declared.answer.Refusal.{Refusal}
 use Rattle.table.specs.declared.answer.Judged.{Judged}
 use Rattle.table.specs.declared.answer.Judged.TheVariants.{Accepted, Declined}
 use Rattle.monitor_spec.specs.State.{Monitor, areas_measured, work_measured}
-use Rattle.monitor_spec.specs.Valid.Laws.{and_split}
+use Rattle.monitor_spec.proofs.Valid.Laws.{and_split}
 use Rattle.monitor_spec.specs.Consistent.{consistent}
 use Rattle.monitor_spec.specs.Entering.{Entrance, shut, admits, entrance, entrance_on}
-use Rattle.monitor_spec.specs.Entering.Laws.{entrance_unmeasured, entrance_declined, entrance_accepted, entrance_admits}
-use Rattle.monitor_spec.specs.Entering.Laws.{on_shut, on_inconsistent, on_consistent, on_admits}
+use Rattle.monitor_spec.proofs.Entering.Laws.{entrance_unmeasured, entrance_declined, entrance_accepted, entrance_admits}
+use Rattle.monitor_spec.proofs.Entering.Laws.{on_shut, on_inconsistent, on_consistent, on_admits}
 use Rattle.entering.specs.Entered.{Entered}
 
 -- ---- from the answer

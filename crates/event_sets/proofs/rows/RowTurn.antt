@@ -18,8 +18,8 @@ use lib.Pow.{pow_mono}
 use borrow.Author.Tests.{lt-ltb, le-ltb, le-leb, lt-leb}
 use Rattle.table.specs.Tokens.{tokens_at}
 use Rattle.table.specs.Parser.{Parser, Result, got, refused, number}
-use Rattle.table.specs.Parser.Steps.{number_got, number_off, number_short, then_got, then_stop}
-use Rattle.table.specs.Parser.Steps.{Reads, none, reads_snoc, Repeats, all_done, all_stop}
+use Rattle.table.proofs.Parser.Steps.{number_got, number_off, number_short, then_got, then_stop}
+use Rattle.table.proofs.Parser.Steps.{Reads, none, reads_snoc, Repeats, all_done, all_stop}
 use Rattle.table.specs.Grammar as grammar
 use Rattle.table.specs.Grammar.{row}
 use Rattle.table.specs.Rows.{alphabet_most}

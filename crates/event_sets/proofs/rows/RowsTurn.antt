@@ -13,10 +13,10 @@ use Rattle.table.specs.declared.rows.Row.{Row}
 use Rattle.table.specs.declared.rows.Row.TheVariants.{Mask, NoRow}
 use Rattle.table.specs.Tokens.{tokens_at}
 use Rattle.table.specs.Parser.{refused, got, times}
-use Rattle.table.specs.Parser.Steps.{ReadsPlain, none, reads_snoc, times_done, times_stop}
+use Rattle.table.proofs.Parser.Steps.{ReadsPlain, none, reads_snoc, times_done, times_stop}
 use Rattle.table.specs.Grammar.{row}
 use Rattle.table.specs.Rows.{RowsFit}
-use Rattle.table.specs.Rows.Laws.{fit_less}
+use Rattle.table.proofs.RowLaws.{fit_less}
 use Rattle.table_index.specs.Layout.{rows_most}
 use Rattle.table_index.specs.Index.{mask_of}
 use Rattle.table_index.specs.Parse.{row_stored, RowsStored, RowFound, RowRead, RowsFound}

@@ -22,9 +22,9 @@ use Rattle.table.specs.declared.answer.Place.TheVariants.{At, Stop}
 use Rattle.table.specs.Table.{SetDef, one, each}
 use Rattle.table.specs.Tokens.{Tokens, tokens_at}
 use Rattle.table.specs.Parser.{Parser, Result, got, refused, pure, next, and_then, number, times}
-use Rattle.table.specs.Parser.Steps.{number_got, number_off, number_short, then_got, then_stop}
+use Rattle.table.proofs.Parser.Steps.{number_got, number_off, number_short, then_got, then_stop}
 use Rattle.table.specs.Rows.{large_above, large_rows_most, row_count, rows_of, RowsFit, rows_fit}
-use Rattle.table.specs.Rows.Laws.{fits_out, fits_small, fits_large, fits_no}
+use Rattle.table.proofs.RowLaws.{fits_out, fits_small, fits_large, fits_no}
 use Rattle.table.specs.Grammar.{row, set_of_kind, kind_fits, event_set}
 use Rattle.table_index.specs.Layout.{rows_most}
 use Rattle.table_index.specs.Index.{mask_of, set_masks, kind_of_set}

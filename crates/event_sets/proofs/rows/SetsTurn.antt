@@ -16,7 +16,7 @@ use Rattle.table.specs.Table.{SetDef, one, each}
 use Rattle.table.specs.Rows.{large_above, rows_of, RowsFit}
 use Rattle.table.specs.Tokens.{tokens_at}
 use Rattle.table.specs.Parser.{refused, got}
-use Rattle.table.specs.Parser.Steps.{Reads, none, reads_snoc, Repeats, all_done, all_stop}
+use Rattle.table.proofs.Parser.Steps.{Reads, none, reads_snoc, Repeats, all_done, all_stop}
 use Rattle.table.specs.Grammar as grammar
 use Rattle.table_index.specs.Layout.{rows_most, sets_at}
 use Rattle.table_index.specs.Index.{set_masks, kind_of_set, SetsIndexed}

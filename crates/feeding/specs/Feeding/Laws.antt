@@ -13,12 +13,12 @@ use Rattle.table.specs.declared.answer.Refusal.{Refusal}
 use Rattle.table.specs.declared.answer.Judged.{Judged}
 use Rattle.table.specs.declared.answer.Judged.TheVariants.{Accepted, Declined}
 use Rattle.index.specs.Facts.{indexed_rules}
-use Rattle.monitor_spec.specs.Regular.Laws.{regular}
+use Rattle.monitor_spec.proofs.Regular.Laws.{regular}
 use Rattle.monitor_spec.specs.State.{Monitor, slot_count}
-use Rattle.monitor_spec.specs.Consistent.Reading.{consistent_laid}
+use Rattle.monitor_spec.proofs.Consistent.Reading.{consistent_laid}
 use Rattle.monitor_spec.specs.Entering.{entrance_on, refusing}
 use Rattle.monitor_spec.specs.Feed.{feed_of}
-use Rattle.monitor_spec.specs.Feed.Laws.{feed_shut, feed_admits}
+use Rattle.monitor_spec.proofs.Feed.Laws.{feed_shut, feed_admits}
 use Rattle.state.specs.declared.answer.Answer.{Answer}
 use Rattle.state.specs.declared.answer.Answer.TheVariants.{Refused}
 use Rattle.state.specs.Answers.{outcome}

@@ -12,7 +12,7 @@ use Rattle.numbers.specs.Position.{read_at}
 use Rattle.numbers.specs.Position.Laws.{value_read, truncated_read, malformed_read}
 use Rattle.format.specs.declared.answer.Head as head
 use Rattle.format.specs.declared.answer.Head.TheVariants.{Parts, Wrong}
-use Rattle.line_spec.specs.Line.Laws as line
+use Rattle.line_spec.proofs.Line.Laws as line
 use Rattle.line_spec.specs.Line.{Head, parts, wrong, cut, head_by, head_of}
 use Rattle.format.specs.Head.{HeadIs, HeadSaid, CutSaid}
 

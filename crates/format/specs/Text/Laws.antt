@@ -7,7 +7,7 @@ use Rattle.std.proofs.Common.{arith, pow-suc, sym, lt-ltb}
 use Rattle.std.proofs.Math.Decide.{dec_lt}
 use Rattle.io.specs.Digits.{hex_digit_ascii, last_digits, IsDigitCount}
 use Rattle.decimal.specs.Decimal.{decimal_within, decimal}
-use Rattle.decimal.specs.Decimal.Laws.{within_one, within_more}
+use Rattle.decimal.proofs.Decimal.Laws.{within_one, within_more}
 
 pow_positive : (k : ℕ) → 1 ≤ 10 ^ k
 pow_positive zero = omega arith

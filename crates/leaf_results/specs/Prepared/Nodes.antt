@@ -13,7 +13,7 @@ use Rattle.table.specs.Table.{Table, term_count}
 use Rattle.table.specs.Node.{term_of, kind_of}
 use Rattle.table.specs.Memory.{remember}
 use Rattle.node_word.specs.Word.{digit_bound, term_of_word, memory_of}
-use Rattle.node_word.specs.Word.Laws.{events_fit}
+use Rattle.node_word.proofs.Word.Laws.{events_fit}
 use Rattle.residuals.specs.Slots.{nodes}
 use Rattle.residuals.specs.Residual.{Residual, leaf, pair, resolve}
 use Rattle.resolving.specs.Lawful.{Lawful, follower_in}

@@ -19,7 +19,8 @@ use Rattle.line.specs.declared.answer.Opened.TheVariants.{Started, Refused}
 use Rattle.line_spec.specs.Line.{fresh_on}
 use Rattle.line.specs.Answers.{opened_said, open_said}
 use Rattle.line_spec.specs.Opening.{refuses, OpenOutcome, open_refused, start_answer, started_on, open_input_of}
-use Rattle.line_spec.specs.Opening.Front.{open_unfit, open_wrong, open_accepted_lem, open_declined, open_began}
+use Rattle.line_spec.proofs.Opening.Front.{open_accepted_lem, open_declined}
+use Rattle.line_spec.proofs.Opening.Front.{open_unfit, open_wrong, open_began}
 use Rattle.table_reading.specs.declared.answer.TableRead.{TableRead}
 use Rattle.table_reading.specs.declared.answer.TableRead.TheVariants.{Numbers}
 use Rattle.table_reading.specs.declared.answer.TableRead.TheVariants as table

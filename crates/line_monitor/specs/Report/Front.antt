@@ -15,11 +15,12 @@ use Rattle.state.specs.Record.{monitor_of}
 use Rattle.line_spec.specs.Line.{refused}
 use Rattle.line_spec.specs.Pieces.{over, conclude_of, after_piece}
 use Rattle.line_spec.specs.Opening.{open_input_of, course_by, open_course}
-use Rattle.line_spec.specs.Opening.Front.{Lengths, lent_in}
+use Rattle.line_spec.specs.Opening.Front.{Lengths}
+use Rattle.line_spec.proofs.Opening.Front.{lent_in}
 use Rattle.line_spec.specs.Whole.{ResumeOutcome, resume_of}
 use Rattle.line_spec.specs.Lent.{resume_first, front_events, next_by, resume_next, resume_all, with_course}
 use Rattle.line_spec.specs.Judged.{front_left, piece_end, stands_after}
-use Rattle.line_spec.specs.Judged.Laws.{front_line, follows_judged}
+use Rattle.line_spec.proofs.Judged.Laws.{front_line, follows_judged}
 use Rattle.format.specs.declared.answer.Line as code
 use Rattle.format.specs.Line.{line_said}
 use Rattle.line.specs.declared.answer.Opened.{Opened}

@@ -11,7 +11,7 @@ use Rattle.state.specs.Record.{state_of, monitor_of}
 use Rattle.line_spec.specs.Whole.{ResumeOutcome, resume_of}
 use Rattle.line_spec.specs.Lent.{next_by, resume_next}
 use Rattle.line_spec.specs.Judged.{piece_end, Took, Goes, ComesTo}
-use Rattle.line_spec.specs.Judged.Laws.{goes_next, goes_took, goes_over}
+use Rattle.line_spec.proofs.Judged.Laws.{goes_next, goes_took, goes_over}
 use Rattle.format.specs.declared.answer.Line as code
 use Rattle.format.specs.Line.{line_said}
 use Rattle.resuming.specs.declared.answer.Course.{Course}

@@ -11,17 +11,17 @@ use Rattle.std.proofs.Math.Path.{refl, ap, sym}
 use Rattle.numbers.specs.Every.{All}
 use Rattle.slots.specs.Insertion.{stored}
 use Rattle.slots.specs.Canon.{Sixteen}
-use Rattle.slots.specs.Canon.Areas.{length_fill}
+use Rattle.slots.proofs.Canon.Areas.{length_fill}
 use Rattle.table.specs.Table.{Table}
 use Rattle.residuals.specs.Residual.{Residual}
 use Rattle.residuals.specs.Slots.{slots_of}
 use Rattle.monitor_spec.specs.Regular.{Regular}
-use Rattle.monitor_spec.specs.Valid.Residuals.{slot_sixteen, slots_all}
+use Rattle.monitor_spec.proofs.Valid.Residuals.{slot_sixteen, slots_all}
 use Rattle.monitor_spec.specs.State.{Monitor, even, choose, chunks, fill, laid}
-use Rattle.monitor_spec.specs.State.Areas.{present_even, present_odd, chunks_fill, cleared_fill}
+use Rattle.monitor_spec.proofs.State.Areas.{present_even, present_odd, chunks_fill, cleared_fill}
 use Rattle.monitor_spec.specs.Sensible.{Laid}
-use Rattle.monitor_spec.specs.Expected.Laid.{monitor_path, laid_lengths}
-use Rattle.monitor_spec.specs.Consistent.Reading.{length_chunks}
+use Rattle.monitor_spec.proofs.Expected.Laid.{monitor_path, laid_lengths}
+use Rattle.monitor_spec.proofs.Consistent.Reading.{length_chunks}
 use Rattle.state.specs.declared.record.State.{State}
 use Rattle.state.specs.Record.{state_of, monitor_of}
 use Rattle.monitor_spec.specs.Holds.{AreaHolds}

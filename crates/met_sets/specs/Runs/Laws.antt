@@ -19,18 +19,18 @@ use Rattle.residuals.specs.Residual.{Residual, after_all}
 use Rattle.residuals.specs.Slots.{slots_of}
 use Rattle.monitor_spec.specs.Regular.{Regular}
 use Rattle.monitor_spec.specs.Valid.{held}
-use Rattle.monitor_spec.specs.Valid.Residuals.{slot_sixteen, slots_all, slots_after}
+use Rattle.monitor_spec.proofs.Valid.Residuals.{slot_sixteen, slots_all, slots_after}
 use Rattle.monitor_spec.specs.State.{State as Record, state_after, holding, Monitor, even, chunks, fill, laid}
-use Rattle.monitor_spec.specs.State.Areas.{choose_twice, chunks_fill}
+use Rattle.monitor_spec.proofs.State.Areas.{choose_twice, chunks_fill}
 use Rattle.monitor_spec.specs.Fold.{StepEnd, went, stops, through}
-use Rattle.monitor_spec.specs.Fold.Laws.{through_went}
+use Rattle.monitor_spec.proofs.Fold.Laws.{through_went}
 use Rattle.monitor_spec.specs.Feed.{counter_most, present_slots, take_event}
-use Rattle.monitor_spec.specs.Feed.Laws.{event_unknown, take_refused}
+use Rattle.monitor_spec.proofs.Feed.Laws.{event_unknown, take_refused}
 use Rattle.monitor_spec.specs.Sensible.{Sensible, Laid}
-use Rattle.monitor_spec.specs.Expected.Laid.{laid_present}
-use Rattle.monitor_spec.specs.Expected.Steps.{sift, laid_sift}
-use Rattle.monitor_spec.specs.Consistent.Laws.{sift_out, next_sensible, take_laid}
-use Rattle.monitor_spec.specs.Consistent.Reading.{length_chunks}
+use Rattle.monitor_spec.proofs.Expected.Laid.{laid_present}
+use Rattle.monitor_spec.proofs.Expected.Steps.{sift, laid_sift}
+use Rattle.monitor_spec.proofs.Consistent.Laws.{sift_out, next_sensible, take_laid}
+use Rattle.monitor_spec.proofs.Consistent.Reading.{length_chunks}
 use Rattle.state.specs.declared.record.State.{State}
 use Rattle.state.specs.Record.{state_of, monitor_of}
 use Rattle.met_sets.specs.Sets.{count_at, slots_at, SetStands, Leads, Met}

@@ -16,9 +16,9 @@ use Rattle.std.proofs.lemmas.List.{length-replicate, get_or-replicate, replicate
 use Rattle.std.proofs.Math.Seq.{get_or-take, get_or-append-add, length-take-le, length_paste_head}
 use Rattle.monitor_spec.specs.State.{chunks, fill}
 use Rattle.slots.specs.Insertion.{stored}
-use Rattle.slots.specs.Insertion.Gap.{stored_step}
-use Rattle.slots.specs.Canon.Areas.{fill_none}
-use Rattle.monitor_spec.specs.Consistent.Reading.{length_chunks, flatten_chunks}
+use Rattle.slots.proofs.Insertion.Gap.{stored_step}
+use Rattle.slots.proofs.Canon.Areas.{fill_none}
+use Rattle.monitor_spec.proofs.Consistent.Reading.{length_chunks, flatten_chunks}
 
 -- ---- word by word
 

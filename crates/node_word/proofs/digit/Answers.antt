@@ -1,8 +1,8 @@
 -- `node_word::digit` meets its contract: the match says which event it is. Assumes nothing.
 use native.Mathlib.Omega.{arith}
 use Rattle.node_word.specs.Word.{memory_bound, digit_bound, digit_bits}
-use Rattle.node_word.specs.Word.Laws.{first_unit, second_unit}
-use Rattle.node_word.specs.Word.Laws.{digit_0, digit_1, digit_2, digit_3}
+use Rattle.node_word.proofs.Word.Laws.{first_unit, second_unit}
+use Rattle.node_word.proofs.Word.Laws.{digit_0, digit_1, digit_2, digit_3}
 use Rattle.node_word.proofs.digit.Goals as goal
 
 pub returns-in-0 : goal.returns-in-0

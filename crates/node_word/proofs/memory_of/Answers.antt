@@ -1,7 +1,7 @@
 -- `node_word::memory_of` meets its contract. Assumes nothing.
 use Rattle.node_word.specs.Word.{memory_bound, digit_bound, digit_bits}
-use Rattle.node_word.specs.Word.Laws.{first_unit, second_unit}
-use Rattle.node_word.specs.Word.Laws.{memory_word}
+use Rattle.node_word.proofs.Word.Laws.{first_unit, second_unit}
+use Rattle.node_word.proofs.Word.Laws.{memory_word}
 use Rattle.node_word.proofs.memory_of.Goals as goal
 
 pub returns : goal.returns

@@ -1,8 +1,8 @@
 -- `node_word::node` meets its contract. Assumes nothing.
 use borrow.Author.Rules.{rules}
 use Rattle.node_word.specs.Word.{memory_bound, digit_bound, digit_bits}
-use Rattle.node_word.specs.Word.Laws.{first_unit, second_unit}
-use Rattle.node_word.specs.Word.Laws.{node_word_lem}
+use Rattle.node_word.proofs.Word.Laws.{first_unit, second_unit}
+use Rattle.node_word.proofs.Word.Laws.{node_word_lem}
 use Rattle.node_word.proofs.node.Goals as goal
 
 pub overflow_mul-result : goal.overflow_mul-result

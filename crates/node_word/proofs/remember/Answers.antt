@@ -1,8 +1,8 @@
 -- `node_word::remember` meets its contract. Assumes nothing.
 use borrow.Author.Rules.{rules}
 use Rattle.node_word.specs.Word.{memory_bound, digit_bound, digit_bits}
-use Rattle.node_word.specs.Word.Laws.{first_unit, second_unit}
-use Rattle.node_word.specs.Word.Laws.{remember_word}
+use Rattle.node_word.proofs.Word.Laws.{first_unit, second_unit}
+use Rattle.node_word.proofs.Word.Laws.{remember_word}
 use Rattle.node_word.proofs.remember.Goals as goal
 
 pub overflow_mul-result : goal.overflow_mul-result

@@ -9,7 +9,7 @@ use lib.Pow.{pow_pos, pow_mono}
 use Rattle.table.specs.Table.{Table}
 use Rattle.residuals.specs.Residual.{Residual, after_all}
 use Rattle.monitor_spec.specs.Offer.{bit_of, bits_from, word_bits}
-use Rattle.monitor_spec.specs.Offer.Laws.{bits_small}
+use Rattle.monitor_spec.proofs.Offer.Laws.{bits_small}
 
 -- a bit is the lowest bit, shifted
 bit_shifted : (k : ℕ) (l : List Residual) → bit_of k l ≡ bit_of 0 l * 2 ^ k

@@ -10,7 +10,7 @@ use Rattle.state.specs.declared.record.State.{State}
 use Rattle.state.specs.declared.record.Verdict.{Verdict}
 use Rattle.state.specs.declared.record.Verdict.TheVariants.{Running, Failed}
 use Rattle.monitor_spec.specs.State.{areas_measured, even, choose}
-use Rattle.monitor_spec.specs.State.Areas.{present_even, present_odd}
+use Rattle.monitor_spec.proofs.State.Areas.{present_even, present_odd}
 use Rattle.monitor_spec.specs.Consistent.{consistent}
 use Rattle.monitor_spec.specs.Feed.{present_slots}
 use Rattle.monitor_spec.specs.Offer.{all_bits, offer_bits}

@@ -16,7 +16,7 @@ use Rattle.monitor_spec.specs.State.{Monitor, areas_measured}
 use Rattle.monitor_spec.specs.Consistent.{consistent}
 use Rattle.monitor_spec.specs.Entering.{entrance_on}
 use Rattle.monitor_spec.specs.Offer.{EventBits, offers, offer_bits, offering, offer_of}
-use Rattle.monitor_spec.specs.Offer.Laws.{offer_shut, offer_admits}
+use Rattle.monitor_spec.proofs.Offer.Laws.{offer_shut, offer_admits}
 use Rattle.state.specs.declared.answer.EventBits as code
 use Rattle.state.specs.declared.answer.Offered.TheVariants.{Offers, Refused}
 use Rattle.state.specs.Answers.{bits_of, offer_outcome}

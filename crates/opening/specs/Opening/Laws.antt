@@ -21,23 +21,23 @@ use Rattle.index.specs.Facts.{indexed_rules}
 use Rattle.meaning.specs.Figure1.{body_count, last}
 use Rattle.slots.specs.declared.slots.Held.{Held}
 use Rattle.slots.specs.declared.slots.Held.TheVariants.{Count, Exceeded}
-use Rattle.slots.specs.Canon.Areas.{fill_none}
+use Rattle.slots.proofs.Canon.Areas.{fill_none}
 use Rattle.slots.specs.Holding.{put_all, Gave}
 use Rattle.set_step.specs.Started.{ResolvesAll, initial}
 use Rattle.residuals.specs.Residual.{from_definition, residuals_of}
 use Rattle.residuals.specs.Slots.{slots_of}
-use Rattle.monitor_spec.specs.Consistent.Reading.{areas_length}
+use Rattle.monitor_spec.proofs.Consistent.Reading.{areas_length}
 use Rattle.monitor_spec.specs.State.{fresh_state, Monitor, refused, lengths_fit, areas_measured, work_measured}
 use Rattle.monitor_spec.specs.State.{slot_count, fill}
-use Rattle.monitor_spec.specs.Regular.Laws.{regular}
+use Rattle.monitor_spec.proofs.Regular.Laws.{regular}
 use Rattle.monitor_spec.specs.Entering.{Entrance, entrance, refusing}
 use Rattle.monitor_spec.specs.Fold.{through}
 use Rattle.monitor_spec.specs.Feed.{take_event, ending_of}
 use Rattle.monitor_spec.specs.Joined.{residual_count}
 use Rattle.monitor_spec.specs.Sensible.{Laid}
 use Rattle.monitor_spec.specs.Open.{fresh_monitor, open_of}
-use Rattle.monitor_spec.specs.Open.Laws.{exceeded_of, accepted_exceeds, accepted_runs, open_shut, open_admits}
-use Rattle.monitor_spec.specs.History.Begun.{fresh_laid}
+use Rattle.monitor_spec.proofs.Open.Laws.{exceeded_of, accepted_exceeds, accepted_runs, open_shut, open_admits}
+use Rattle.monitor_spec.proofs.History.Begun.{fresh_laid}
 use Rattle.state.specs.declared.answer.Answer.{Answer}
 use Rattle.state.specs.declared.answer.Answer.TheVariants.{Refused}
 use Rattle.state.specs.declared.record.State as code

@@ -11,7 +11,7 @@ use Rattle.table.specs.Table.{Term, stop, fail, prefix, choice, par, call, Table
 use Rattle.table.specs.Memory.{Memory, remember}
 use Rattle.table.specs.Member.{member}
 use Rattle.table.specs.Node.{term_of, kind_of, ref_of}
-use Rattle.table.specs.Node.Numbers.{term_at_lem}
+use Rattle.table.proofs.Node.Numbers.{term_at_lem}
 use Rattle.residuals.specs.Residual.{Residual, leaf, pair, pairs, resolve, after_leaf, after_pair, after}
 use Rattle.resolving.specs.ResidualWords.Resolved.{term_beyond, term_none}
 

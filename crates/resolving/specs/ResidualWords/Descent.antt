@@ -13,7 +13,7 @@ use Rattle.table.specs.Branches.{branches}
 use Rattle.table.specs.Branches.Capped.{capped}
 use Rattle.table.specs.Node.{term_of, kind_of, called_of, left_size}
 use Rattle.node_word.specs.Word.{memory_bound, pack, memory_of}
-use Rattle.node_word.specs.Word.Laws.{memory_zero, zero_below}
+use Rattle.node_word.proofs.Word.Laws.{memory_zero, zero_below}
 use Rattle.residuals.specs.Keep.{keep}
 use Rattle.resolving.specs.declared.descent.Landed.{Landed}
 use Rattle.resolving.specs.declared.descent.Landed.TheVariants.{Nothing, Leaf, Pair}

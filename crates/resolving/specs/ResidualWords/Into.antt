@@ -15,8 +15,8 @@ use Rattle.table.specs.Memory.{Memory, no_memory}
 use Rattle.table.specs.Branches.{body_in, branches}
 use Rattle.table.specs.Branches.Capped.{capped}
 use Rattle.table.specs.Node.{term_of, kind_of}
-use Rattle.table.specs.Node.Parts.{size_positive}
-use Rattle.table.specs.Node.Laws.{body_node}
+use Rattle.table.proofs.Node.Parts.{size_positive}
+use Rattle.table.proofs.Node.Laws.{body_node}
 use Rattle.node_word.specs.Word.{pack}
 use Rattle.residuals.specs.Keep.{keep}
 use Rattle.residuals.specs.Residual.{pair, pairs, resolve}
@@ -24,7 +24,7 @@ use Rattle.residuals.specs.Slots.{nodes}
 use Rattle.resolving.specs.Lawful.{Lawful}
 use Rattle.resolving.specs.ResidualWords.{nth, pushed, push_all, Resolves, resolved_into}
 use Rattle.resolving.specs.ResidualWords.{ResolvesDefinition, definition_into}
-use Rattle.residuals.specs.Residual.Counts.{length_pairs}
+use Rattle.residuals.proofs.Residual.Counts.{length_pairs}
 use Rattle.resolving.specs.ResidualWords.Resolved.{length_resolved, resolved_definition}
 use Rattle.resolving.specs.ResidualWords.Kinds.{resolved_leaf, resolved_none, TwoSides, Calls}
 use Rattle.resolving.specs.ResidualWords.Nth.{nth_left, nth_right, nth_pairs, factor_positive}

@@ -12,8 +12,8 @@ use Rattle.table.specs.Memory.{Memory}
 use Rattle.table.specs.Fields.{depth_of}
 use Rattle.table.specs.Branches.{branches_with, branches}
 use Rattle.table.specs.Node.{Node, node_at, term_of, kind_of, left_size, called_of}
-use Rattle.table.specs.Node.Parts.{size_positive}
-use Rattle.table.specs.Node.Laws.{choice_nodes, par_nodes}
+use Rattle.table.proofs.Node.Parts.{size_positive}
+use Rattle.table.proofs.Node.Laws.{choice_nodes, par_nodes}
 use Rattle.meaning.specs.Figure1.{body_count}
 use Rattle.residuals.specs.Keep.{keep}
 use Rattle.residuals.specs.Residual.{Residual, leaf, pairs, resolve_in, resolve_def, resolve}

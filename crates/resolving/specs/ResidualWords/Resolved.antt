@@ -10,17 +10,17 @@ use Rattle.std.proofs.Math.Path.{ap}
 use Rattle.std.proofs.Math.Option.{none}
 use Rattle.std.proofs.Math.ListN.{length, get_or-eq_default}
 use Rattle.table.specs.Table.{fail, Table, term_count, body_number, term_at}
-use Rattle.table.specs.Table.Laws.{none_beyond}
+use Rattle.table.proofs.Table.Laws.{none_beyond}
 use Rattle.table.specs.Memory.{Memory, no_memory}
 use Rattle.table.specs.Branches.{branches_with, branches}
 use Rattle.table.specs.Node.{Node, no_node, nodes_of, node_at, term_of}
-use Rattle.table.specs.Node.Laws.{length_nodes_of}
-use Rattle.table.specs.Node.Numbers.{term_at_lem}
+use Rattle.table.proofs.Node.Laws.{length_nodes_of}
+use Rattle.table.proofs.Node.Numbers.{term_at_lem}
 use Rattle.meaning.specs.Figure1.{body_count}
-use Rattle.meaning.specs.Formed.{guarded_table}
+use Rattle.meaning.proofs.Formed.{guarded_table}
 use Rattle.residuals.specs.Residual.{resolve_in, resolve_def, resolve}
-use Rattle.residuals.specs.Residual.Calls.{resolve_def_body}
-use Rattle.residuals.specs.Residual.Counts.{resolve_length}
+use Rattle.residuals.proofs.Residual.Calls.{resolve_def_body}
+use Rattle.residuals.proofs.Residual.Counts.{resolve_length}
 use Rattle.resolving.specs.Lawful.{Lawful}
 
 -- ---- the term of a number

@@ -10,15 +10,15 @@ use Rattle.table.specs.Memory.{no_memory}
 use Rattle.table.specs.Branches.{branches, body_in}
 use Rattle.table.specs.Branches.Capped.{capped}
 use Rattle.table.specs.Node.{term_of}
-use Rattle.table.specs.Node.Parts.{size_positive}
-use Rattle.table.specs.Node.Laws.{body_node}
+use Rattle.table.proofs.Node.Parts.{size_positive}
+use Rattle.table.proofs.Node.Laws.{body_node}
 use Rattle.meaning.specs.Figure1.{body_count}
 use Rattle.residuals.specs.Residual.{Residual, resolve_def}
 use Rattle.residuals.specs.Slots.{nodes, slot_of}
 use Rattle.slots.specs.declared.slots.Held.{Held}
 use Rattle.slots.specs.declared.slots.Held.TheVariants.{Count, Exceeded}
 use Rattle.slots.specs.Holding.{held_as, put_one, put_all, Gave}
-use Rattle.slots.specs.Holding.Laws.{put_none, put_single, put_then, put_stop}
+use Rattle.slots.proofs.Holding.Laws.{put_none, put_single, put_then, put_stop}
 use Rattle.resolving.specs.Lawful.{Lawful}
 use Rattle.resolving.specs.ResidualWords.{nth, definition_into}
 use Rattle.resolving.specs.ResidualWords.Resolved.{length_resolved, resolved_definition}

@@ -10,9 +10,9 @@ use Rattle.table.specs.Table.{Table}
 use Rattle.slots.specs.declared.slots.Held.{Held}
 use Rattle.slots.specs.declared.slots.Held.TheVariants.{Count, Exceeded}
 use Rattle.slots.specs.Holding.{held_as, put_all}
-use Rattle.slots.specs.Holding.Laws.{put_none, put_then, put_stop}
+use Rattle.slots.proofs.Holding.Laws.{put_none, put_then, put_stop}
 use Rattle.slots.specs.Canon.{SameMembers}
-use Rattle.slots.specs.Canon.Members.{same_refl, same_trans, same_append}
+use Rattle.slots.proofs.Canon.Members.{same_refl, same_trans, same_append}
 use Rattle.resolving.specs.Lawful.{Lawful}
 use Rattle.resolving.specs.Distinct.{window, empty}
 use Rattle.tree_walk.specs.Walk.{results, onto}

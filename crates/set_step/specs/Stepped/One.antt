@@ -17,9 +17,9 @@ use Rattle.residuals.specs.Slots.{nodes, nodes_all}
 use Rattle.slots.specs.declared.slots.Held.{Held}
 use Rattle.slots.specs.declared.slots.Held.TheVariants.{Count}
 use Rattle.slots.specs.Holding.{put_one, put_all, Gave}
-use Rattle.slots.specs.Holding.Laws.{put_none, put_single}
+use Rattle.slots.proofs.Holding.Laws.{put_none, put_single}
 use Rattle.slots.specs.Canon.{SameMembers}
-use Rattle.slots.specs.Canon.Members.{same_refl, same_sym, same_map}
+use Rattle.slots.proofs.Canon.Members.{same_refl, same_sym, same_map}
 use Rattle.resolving.specs.Distinct.{window, empty}
 use Rattle.resolving.specs.Distinct.Laws.{at_window, length_window}
 use Rattle.resolving.specs.ResidualWords.{push_all}

@@ -14,10 +14,10 @@ use Rattle.residuals.specs.Slots.{nodes, slots_of}
 use Rattle.slots.specs.declared.slots.Held.TheVariants.{Count, Exceeded}
 use Rattle.slots.specs.Holding.{held_as, put_all}
 use Rattle.slots.specs.Canon.{canon, fill, AllSixteen, SameMembers}
-use Rattle.slots.specs.Canon.Areas.{fill_none}
-use Rattle.slots.specs.Canon.Laws.{put_canon, put_exceeded_canon}
-use Rattle.slots.specs.Canon.Canonical.{canon_members}
-use Rattle.slots.specs.Canon.Members.{sub_map, slots_in}
+use Rattle.slots.proofs.Canon.Areas.{fill_none}
+use Rattle.slots.proofs.Canon.Laws.{put_canon, put_exceeded_canon}
+use Rattle.slots.proofs.Canon.Canonical.{canon_members}
+use Rattle.slots.proofs.Canon.Members.{sub_map, slots_in}
 use Rattle.resolving.specs.ResidualWords.{push_all}
 use Rattle.resolving.specs.Distinct.{empty}
 use Rattle.tree_walk.specs.Walk.{results, room, joins, onto}

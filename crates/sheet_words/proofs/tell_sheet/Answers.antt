@@ -1,5 +1,5 @@
 -- `sheet_words::tell_sheet` meets its contract, by the cases of an answer. Assumes nothing.
-use Rattle.sheet_words.specs.Call.Laws.{tell_given, tell_refused}
+use Rattle.sheet_words.proofs.Call.Laws.{tell_given, tell_refused}
 use Rattle.sheet_words.proofs.tell_sheet.Goals as goal
 
 pub returns-in-Given : goal.returns-in-Given

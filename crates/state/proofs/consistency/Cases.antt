@@ -13,7 +13,7 @@ use Rattle.state.specs.declared.record.State.{State}
 use Rattle.state.specs.declared.record.Verdict.{Verdict as VerdictCode}
 use Rattle.state.specs.declared.record.Verdict.TheVariants.{Running, Failed}
 use Rattle.monitor_spec.specs.State.{Verdict, slot_count, even, choose, chunks}
-use Rattle.monitor_spec.specs.State.Areas.{present_even, present_odd}
+use Rattle.monitor_spec.proofs.State.Areas.{present_even, present_odd}
 use Rattle.monitor_spec.specs.Valid.{valid_slot}
 use Rattle.monitor_spec.specs.Consistent.{every, ascends, all_zero, verdict_fits, peak_fits, record_fits, area_fits}
 use Rattle.monitor_spec.specs.Consistent.{consistent}

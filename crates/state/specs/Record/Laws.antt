@@ -3,7 +3,7 @@ use Rattle.std.specs.Prelude.{ℕ, max, ◌≡◌, refl, List, length}
 use Rattle.std.proofs.Common.{arith, ap, sym, ◌∙◌, eq-eqb, ne_eqb}
 use Rattle.monitor_spec.specs.State.{Verdict, running, failed_at, State, next_verdict, counted, holding, fresh_state}
 use Rattle.monitor_spec.specs.State.{state_after, lengths_fit, areas_measured}
-use Rattle.monitor_spec.specs.State.Records.{state_path, next_some, next_none, next_failed}
+use Rattle.monitor_spec.proofs.State.Records.{state_path, next_some, next_none, next_failed}
 use Rattle.monitor_spec.specs.Feed.{counter_most}
 use Rattle.state.specs.declared.record.Verdict.{Verdict as VerdictCode}
 use Rattle.state.specs.declared.record.Verdict.TheVariants.{Running, Failed}

@@ -11,7 +11,7 @@ use Rattle.state.specs.declared.record.Verdict.TheVariants.{Running, Failed}
 use Rattle.state.specs.declared.viewer.Part.{Part as PartCode}
 use Rattle.monitor_spec.specs.State.{running, choose}
 use Rattle.monitor_spec.specs.View.{Part, no_part, part_by, view_part, words_in}
-use Rattle.monitor_spec.specs.View.Laws as view
+use Rattle.monitor_spec.proofs.View.Laws as view
 use Rattle.state.specs.Record.{verdict_of, state_of, monitor_of}
 use Rattle.state.specs.Viewed.{part_of, Viewed}
 

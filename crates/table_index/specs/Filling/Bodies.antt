@@ -8,7 +8,7 @@ use Rattle.std.proofs.Math.Decide.{dec_le}
 use Rattle.table.specs.Table.{Table, term_count, body_number}
 use Rattle.table.specs.Table.{sizes}
 use Rattle.table_index.specs.References.Nodes.{node_links}
-use Rattle.table.specs.Node.Laws.{own_node, spot_of}
+use Rattle.table.proofs.Node.Laws.{own_node, spot_of}
 use Rattle.table_index.specs.Layout.{terms_at, bodies_at, term_count_at, branches_digit}
 use Rattle.table_index.specs.Index.{Structured}
 use Rattle.table_index.specs.Filling.{ReachKept, BranchesKnown, prefixes_at, FillAsked, CallsReady}

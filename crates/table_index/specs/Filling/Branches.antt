@@ -9,10 +9,11 @@ use Rattle.std.proofs.Math.Path.{sym, ap, ap₂}
 use Rattle.table.specs.Table.{Term, stop, fail, prefix, choice, par, call, Table, size, body_number}
 use Rattle.table_index.specs.References.Nodes.{node_links}
 use Rattle.table.specs.Branches.{branches_with, branches}
-use Rattle.table.specs.Branches.Capped.{capped, capped_add, capped_mul}
-use Rattle.table.specs.Equations.{branches_guarded}
+use Rattle.table.specs.Branches.Capped.{capped}
+use Rattle.table.proofs.Branches.Capped.{capped_add, capped_mul}
+use Rattle.table.proofs.Equations.{branches_guarded}
 use Rattle.table.specs.Node.{term_of, kind_of, left_size}
-use Rattle.table.specs.Node.Laws.{choice_nodes, par_nodes, body_node}
+use Rattle.table.proofs.Node.Laws.{choice_nodes, par_nodes, body_node}
 use Rattle.table_index.specs.Layout.{terms_at, bodies_at, branch_counts, kind_digit, right_digit, target_digit}
 use Rattle.table_index.specs.Layout.{branches_digit}
 use Rattle.table_index.specs.Index.{target_of}

@@ -17,7 +17,7 @@ use borrow.Author.Tests.{eq-eqb, ne_eqb, le-leb, lt-leb, lt-ltb, le-ltb, not-tru
 use Rattle.table.specs.declared.answer.First.TheVariants.{Nowhere, Broken}
 use Rattle.table.specs.declared.terms.Spot.{Spot}
 use Rattle.table.specs.First.{or_else, unless, first_false}
-use Rattle.table.specs.First.Laws.{or_else_assoc, first_false_append, first_in, pass_in}
+use Rattle.table.proofs.FirstLaws.{or_else_assoc, first_false_append, first_in, pass_in}
 use Rattle.table.specs.Table.{Term, stop, fail, prefix, choice, par, call, Definition, Table, size, term_count}
 use Rattle.table.specs.Fields.{Fields}
 use Rattle.table.specs.Writing.{ref_numbers, term_numbers, definition_numbers}
@@ -26,7 +26,7 @@ use Rattle.table.specs.Branches.{follower_above, body_above, too_many_branches}
 use Rattle.table.specs.Branches.Capped.{capped}
 use Rattle.table.specs.Node.{Node, node, nodes, definition_nodes, nodes_of, definitions_at, node_at, no_node, term_of}
 use Rattle.table.specs.Node.{body_spot, follower_spot, side_spot, beside_spot}
-use Rattle.table.specs.Node.Laws.{length_nodes, length_nodes_of}
+use Rattle.table.proofs.Node.Laws.{length_nodes, length_nodes_of}
 use Rattle.table_index.specs.Layout.{terms_at, term_count_at, entry_digit, branches_digit}
 use Rattle.table_index.specs.Index.{Reaching, table_in}
 use Rattle.table_index.specs.Index.Laws.{digits}

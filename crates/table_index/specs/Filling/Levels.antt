@@ -17,7 +17,7 @@ use Rattle.table_index.specs.References.Nodes.{node_links}
 use Rattle.table.specs.Width.{width_with, widest}
 use Rattle.table.specs.Branches.{body_in}
 use Rattle.table.specs.Node.{term_of}
-use Rattle.table.specs.Node.Laws.{body_node, own_node}
+use Rattle.table.proofs.Node.Laws.{body_node, own_node}
 use Rattle.table_index.specs.Layout.{terms_at, sets_at, bodies_at, levels_at, widths_at, width_digit}
 use Rattle.table_index.specs.Index.{Structured}
 use Rattle.table_index.specs.Filling.{KeptOutside, stored_call, CallCounted, WidthsAsked, WidthsFilled}

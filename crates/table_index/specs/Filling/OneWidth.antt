@@ -13,7 +13,7 @@ use Rattle.table.specs.Table.{Term, stop, fail, prefix, choice, par, call, Table
 use Rattle.table.specs.References.{level_in}
 use Rattle.table.specs.Width.{width_with}
 use Rattle.table.specs.Node.{term_of, kind_of, left_size}
-use Rattle.table.specs.Node.Laws.{follower_node, choice_nodes, par_nodes, node_fits}
+use Rattle.table.proofs.Node.Laws.{follower_node, choice_nodes, par_nodes, node_fits}
 use Rattle.table_index.specs.Layout.{terms_at, levels_at, widths_at, kind_digit, right_digit, target_digit, width_digit}
 use Rattle.table_index.specs.Index.{target_of, Structured}
 use Rattle.table_index.specs.Index.Laws.{WordDigits, digits}

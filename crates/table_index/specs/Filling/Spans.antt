@@ -14,16 +14,16 @@ use Rattle.std.proofs.Math.Option.{none}
 use Rattle.numbers.specs.Every.{AllFrom, from_imp}
 use Rattle.table.specs.Table.{Table, term_count, body_number}
 use Rattle.table.specs.Context.{outermost, Throughout}
-use Rattle.table.specs.Context.Laws.{throughout_imp}
+use Rattle.table.proofs.Context.Laws.{throughout_imp}
 use Rattle.table.specs.Fields.{OfCall, Fields}
-use Rattle.table.specs.Fields.Laws.{of_call_imp}
+use Rattle.table.proofs.Fields.Laws.{of_call_imp}
 use Rattle.table.specs.References.{level_in, first_wrong}
-use Rattle.table.specs.References.Laws.{CallOk, Linked, BodyLinked, from_out}
-use Rattle.table.specs.Width.Reach.{levels_at_lem}
-use Rattle.table.specs.Equations.{Guarded, Lower}
+use Rattle.table.proofs.References.Laws.{CallOk, Linked, BodyLinked, from_out}
+use Rattle.table.proofs.Width.Reach.{levels_at_lem}
+use Rattle.table.proofs.Equations.{Guarded, Lower}
 use Rattle.table.specs.Branches.{body_in}
 use Rattle.table.specs.Node.{node_at}
-use Rattle.table.specs.Node.Laws.{body_node, home_node, own_node, node_fits}
+use Rattle.table.proofs.Node.Laws.{body_node, home_node, own_node, node_fits}
 use Rattle.table_index.specs.Layout.{terms_at, bodies_at, levels_at, structure_of}
 use Rattle.table_index.specs.Index.{Structured}
 use Rattle.table_index.specs.Index.Laws.{structured_kept}

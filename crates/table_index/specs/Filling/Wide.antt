@@ -15,22 +15,22 @@ use Rattle.std.proofs.Math.ListN.{length, get_or, get_or-eq_default}
 use borrow.Author.Tests.{eq-eqb, ne_eqb, le-leb, lt-leb}
 use Rattle.table.specs.declared.answer.First.TheVariants.{Nowhere, Broken}
 use Rattle.table.specs.Grow.{grow}
-use Rattle.table.specs.Grow.Laws.{length_grow, get_d_grow, grow_stable}
+use Rattle.table.proofs.Grow.Laws.{length_grow, get_d_grow, grow_stable}
 use Rattle.table.specs.First.{or_else, unless}
 use Rattle.table.specs.Table.{Table, term_count}
 use Rattle.table.specs.Context.{Each}
-use Rattle.table.specs.Context.Laws.{each_imp}
+use Rattle.table.proofs.Context.Laws.{each_imp}
 use Rattle.table.specs.Branches.{body_in}
 use Rattle.table.specs.Node.{term_of}
-use Rattle.table.specs.Node.Laws.{each_node}
+use Rattle.table.proofs.Node.Laws.{each_node}
 use Rattle.table.specs.Fields.{Fields}
 use Rattle.table.specs.References.{level_in, first_wrong}
 use Rattle.table_index.specs.References.Nodes.{node_links}
 use Rattle.table.specs.Width.{width_with, widest, call_width, next_width, all_widths, level_width}
 use Rattle.table.specs.Width.{reach, first_above, too_wide}
-use Rattle.table.specs.Width.Laws.{above_in}
-use Rattle.table.specs.Width.Reach.{bodies_all, reach_linked}
-use Rattle.table.specs.Equations.{widest_agree}
+use Rattle.table.proofs.Width.Laws.{above_in}
+use Rattle.table.proofs.Width.Reach.{bodies_all, reach_linked}
+use Rattle.table.proofs.Equations.{widest_agree}
 use Rattle.table_index.specs.Layout.{terms_at, widths_at, term_count_at, structure_of, width_digit}
 use Rattle.table_index.specs.Layout.Laws.{reach_same}
 use Rattle.table_index.specs.Index.{Structured, Reaching, table_in}

@@ -9,7 +9,7 @@ use Rattle.std.proofs.Math.Decide.{dec_le}
 use Rattle.table.specs.Table.{Table}
 use Rattle.table.specs.Width.{width_with}
 use Rattle.table.specs.Node.{term_of}
-use Rattle.table.specs.Node.Laws.{node_fits}
+use Rattle.table.proofs.Node.Laws.{node_fits}
 use Rattle.table_index.specs.Layout.{terms_at, width_digit, with_width}
 use Rattle.table_index.specs.Layout.Laws.{width_structure, width_same}
 use Rattle.table_index.specs.Filling.{stored_call, WidthKnown, WidthAsked, WidthGiven, WidthsAsked, WidthsFilled}

@@ -14,7 +14,7 @@ use Rattle.table.specs.Table.{Definition, Table, term_count}
 use Rattle.table.specs.Writing.{ref_numbers, term_numbers, definition_numbers}
 use Rattle.table.specs.Node.{Node, nodes, definition_nodes, nodes_of, node_at, term_of, no_node, definitions_at, kind_of}
 use Rattle.table.specs.Node.{ref_of, parameter_of, body_spot, follower_spot, side_spot, beside_spot}
-use Rattle.table.specs.Node.Laws.{length_nodes_of}
+use Rattle.table.proofs.Node.Laws.{length_nodes_of}
 
 unfoldable pub head_length : Term → ℕ
 head_length stop = 1

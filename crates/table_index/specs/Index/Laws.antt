@@ -10,7 +10,7 @@ use Rattle.table.specs.Table.{SetRef, fixed, family, Term, stop, fail, prefix, c
 use Rattle.table.specs.Table.{Table, size, term_count}
 use Rattle.table.specs.Fields.{Fields, OfRef, ParamSmall}
 use Rattle.table.specs.Node.{node_at, term_of, kind_of, left_size, ref_of, parameter_of}
-use Rattle.table.specs.Node.Laws.{spot_of, node_fits, each_node}
+use Rattle.table.proofs.Node.Laws.{spot_of, node_fits, each_node}
 use Rattle.table_index.specs.Layout.{terms_at, sets_at, bodies_at, levels_at, widths_at, alphabet_at, definition_count_at}
 use Rattle.table_index.specs.Layout.{term_count_at, start_at, parameter_unit, parallel_unit, entry_unit, prefixes_unit}
 use Rattle.table_index.specs.Layout.{own_unit, right_unit, target_unit, kind_digit, parameter_digit, parallel_digit}

@@ -10,16 +10,16 @@ use Rattle.table.specs.declared.terms.Spot.{Spot}
 use Rattle.table.specs.Table.{fixed, family, Term, stop, fail, prefix, choice, par, call}
 use Rattle.table.specs.Table.{Definition, Table, term_count}
 use Rattle.table.specs.Tokens.{list_tokens}
-use Rattle.table.specs.Tokens.Laws.{follows_list}
+use Rattle.table.proofs.Tokens.Laws.{follows_list}
 use Rattle.table.specs.Parser.{Result, got, refused}
 use Rattle.table.specs.Grammar.{table}
-use Rattle.table.specs.Grammar.Whole.{table_ok_sound}
+use Rattle.table.proofs.Grammar.Whole.{table_ok_sound}
 use Rattle.table.specs.Fields.{Fields}
 use Rattle.table.specs.Writing.{ref_numbers, term_numbers, definition_numbers, set_numbers, numbers_of}
 use Rattle.table.specs.Node.{Node, node_at, term_of, ref_of, parameter_of, definitions_at}
-use Rattle.table.specs.Node.Parts.{Part, here, follower, choice_left, choice_right, par_left, par_right}
-use Rattle.table.specs.Node.Homes.{NodeStands, first, later}
-use Rattle.table.specs.Node.Laws.{in_at}
+use Rattle.table.proofs.Node.Parts.{Part, here, follower, choice_left, choice_right, par_left, par_right}
+use Rattle.table.proofs.Node.Homes.{NodeStands, first, later}
+use Rattle.table.proofs.Node.Laws.{in_at}
 use Rattle.table_index.specs.Index.{table_in, table_got}
 
 abbrev extent : Term → ℕ

@@ -16,12 +16,12 @@ use Rattle.table.specs.declared.answer.First.TheVariants.{Nowhere, Broken}
 use Rattle.table.specs.declared.answer.Refusal.{Refusal}
 use Rattle.table.specs.declared.answer.Judged.{Judged}
 use Rattle.table.specs.declared.answer.Judged.TheVariants.{Accepted, Declined}
-use Rattle.table.specs.First.Laws.{first_out, first_short}
+use Rattle.table.proofs.FirstLaws.{first_out, first_short}
 use Rattle.table.specs.Tokens.{list_tokens, trailing, place_of}
-use Rattle.table.specs.Tokens.Laws.{Follows, list_whole, nothing_left}
-use Rattle.table.specs.Grammar.Whole.{TableOk, table_ok_sound}
+use Rattle.table.proofs.Tokens.Laws.{Follows, list_whole, nothing_left}
+use Rattle.table.proofs.Grammar.Whole.{TableOk, table_ok_sound}
 use Rattle.table.specs.Fields.{Fields}
-use Rattle.table.specs.Fields.Laws.{fields_out}
+use Rattle.table.proofs.Fields.Laws.{fields_out}
 use Rattle.table.specs.Writing.{numbers_of}
 use Rattle.table.specs.References.{first_wrong}
 use Rattle.table.specs.Width.{too_wide}
@@ -29,9 +29,9 @@ use Rattle.table.specs.Branches.{too_many_branches}
 use Rattle.table.specs.Judge.{accepted, declined, unless_met, placed, judge_read, judge, sized}
 use Rattle.table.specs.Judge.{judge_list}
 use Rattle.table.specs.Refusals.{links}
-use Rattle.table.specs.Refusals.Laws.{length_links, wrong_first}
+use Rattle.table.proofs.Refusals.Laws.{length_links, wrong_first}
 use Rattle.table.specs.BytesRefused.{byte_place}
-use Rattle.table.specs.BytesRefused.Listed.{place_all}
+use Rattle.table.proofs.BytesRefused.Listed.{place_all}
 use Rattle.table_index.specs.Index.{Indexed, table_in}
 use Rattle.table_index.specs.Parse.{Parsed}
 use Rattle.table_index.specs.Judging.{Judging, first_of, Filled, CheckDone, Checked}

@@ -15,7 +15,7 @@ use Rattle.table.specs.Tokens.{Tokens, list_tokens, tokens_at, trailing}
 use Rattle.table.specs.Rows.{alphabet_most}
 use Rattle.table.specs.Parser.{got, refused, number, pure}
 use Rattle.std.proofs.lemmas.Bool.{lt-leb}
-use Rattle.table.specs.Parser.Steps.{tokens_in, number_got, number_off, number_short, then_got, then_stop}
+use Rattle.table.proofs.Parser.Steps.{tokens_in, number_got, number_off, number_short, then_got, then_stop}
 use Rattle.table.specs.Grammar.{event_sets, definitions_of, table}
 use Rattle.table.specs.Judge.{declined, unless_met, judge_read, judge}
 use Rattle.table_index.specs.Index.{sets_in, sets_got, table_in, table_got}

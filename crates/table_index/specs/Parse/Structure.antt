@@ -12,10 +12,10 @@ use Rattle.std.proofs.Math.ListN.{get_or, length-set}
 use Rattle.std.proofs.Math.Seq.{get_or-set_same, get_or-set_other}
 use Rattle.table.specs.Table.{SetDef, Table, sizes, term_count, body_number}
 use Rattle.table.specs.Tokens.{list_tokens, tokens_at}
-use Rattle.table.specs.Tokens.Laws.{follows_list}
+use Rattle.table.proofs.Tokens.Laws.{follows_list}
 use Rattle.table.specs.Parser.{got, number}
 use Rattle.table.specs.Grammar.{event_sets, table}
-use Rattle.table.specs.Grammar.Sets.{sets_sound}
+use Rattle.table.proofs.Grammar.Sets.{sets_sound}
 use Rattle.table.specs.Writing.{set_numbers}
 use Rattle.table.specs.Node.{definition_nodes, definitions_at, nodes_of, node_at, no_node}
 use Rattle.table_index.specs.Layout.{terms_at, sets_at, bodies_at, levels_at, alphabet_at, definition_count_at, term_count_at}

@@ -14,14 +14,14 @@ use Rattle.table.specs.declared.terms.Spot.{Spot}
 use Rattle.table.specs.Table.{family, Term, stop, fail, prefix, choice, par, call}
 use Rattle.table.specs.Table.{Definition, Table, term_count}
 use Rattle.table.specs.First.{or_else, unless}
-use Rattle.table.specs.First.Laws.{or_else_assoc, or_else_out, unless_out}
+use Rattle.table.proofs.FirstLaws.{or_else_assoc, or_else_out, unless_out}
 use Rattle.table.specs.Context.{Context, outermost, under_prefix, under_parallel}
 use Rattle.table.specs.Writing.{ref_numbers, term_numbers, definition_numbers}
 use Rattle.table.specs.Node.{Node, nodes, definition_nodes, nodes_of, no_node, node_at, term_of, ref_of, definitions_at}
 use Rattle.table.specs.Node.{body_spot, follower_spot, side_spot, beside_spot}
-use Rattle.table.specs.Node.Laws.{length_nodes_of}
+use Rattle.table.proofs.Node.Laws.{length_nodes_of}
 use Rattle.table.specs.References.{level_in, param_fits, call_fits, wrong_ref, wrong_in, wrong_from, first_wrong}
-use Rattle.table.specs.References.Laws.{CallOk, in_out}
+use Rattle.table.proofs.References.Laws.{CallOk, in_out}
 
 -- ---- a term by itself
 

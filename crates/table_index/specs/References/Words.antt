@@ -27,7 +27,7 @@ use Rattle.table.specs.Node.{node_at, term_of, kind_of, ref_of, parameter_of}
 use Rattle.table_index.specs.Layout.{terms_at, levels_at, definition_count_at, kind_digit, parameter_digit, parallel_digit}
 use Rattle.table_index.specs.Layout.{prefixes_digit, own_digit, target_digit}
 use Rattle.table_index.specs.Index.{target_of, Structured, table_in}
-use Rattle.table.specs.Node.Laws.{home_node}
+use Rattle.table.proofs.Node.Laws.{home_node}
 use Rattle.table_index.specs.Index.Laws.{WordDigits, digits}
 use Rattle.table_index.specs.Index.Places.{place_in_list, some_numbers, long_numbers}
 use Rattle.table_index.specs.Judging.{Judging, first_of}

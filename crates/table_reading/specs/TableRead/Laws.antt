@@ -10,7 +10,7 @@ use Rattle.std.proofs.Math.ListN.{take}
 use Rattle.std.proofs.Math.Seq.{take-append_seam}
 use Rattle.table.specs.Judge.{Judgement, accepted, declined, judge_bytes}
 use Rattle.table.specs.Operations.{zeros, done, refusal, read_judged, read_of}
-use Rattle.table.specs.Operations.Laws.{length_zeros}
+use Rattle.table.proofs.Operations.Laws.{length_zeros}
 use Rattle.table.specs.Operations as read
 use Rattle.table.specs.Answers as tableAnswers
 use Rattle.table.specs.declared.answer.Refusal.{Refusal}
@@ -21,8 +21,8 @@ use Rattle.format.specs.declared.answer.Head.TheVariants.{Parts, Wrong}
 use Rattle.format.specs.Head.{HeadIs, HeadSaid}
 use Rattle.line_spec.specs.Line.{head_of}
 use Rattle.line_spec.specs.Opening.{lent}
-use Rattle.line_spec.specs.Opening.Laws.{read_right}
-use Rattle.line_spec.specs.Opening.Front.{lent_out}
+use Rattle.line_spec.proofs.Opening.Laws.{read_right}
+use Rattle.line_spec.proofs.Opening.Front.{lent_out}
 use Rattle.table_reading.specs.declared.answer.TableRead.{TableRead}
 use Rattle.table_reading.specs.declared.answer.TableRead.TheVariants.{Numbers, Refused}
 use Rattle.table_reading.specs.TableRead.{NumbersRead, TableRefused, refused_lengths, refused_head, refused_table, TableSaid}

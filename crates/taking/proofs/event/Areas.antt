@@ -11,13 +11,13 @@ use Rattle.numbers.specs.Every.{All}
 use Rattle.table.specs.Table.{Table}
 use Rattle.table.specs.Operations.{zeros}
 use Rattle.table.specs.Rules.{Rules}
-use Rattle.monitor_spec.specs.Regular.Laws.{regular}
+use Rattle.monitor_spec.proofs.Regular.Laws.{regular}
 use Rattle.residuals.specs.Residual.{Residual}
 use Rattle.residuals.specs.Slots.{slots_of}
-use Rattle.monitor_spec.specs.Valid.Residuals.{slot_sixteen, slots_all}
+use Rattle.monitor_spec.proofs.Valid.Residuals.{slot_sixteen, slots_all}
 use Rattle.monitor_spec.specs.State.{slot_count, fill}
 use Rattle.slots.specs.Canon.{Sixteen}
-use Rattle.monitor_spec.specs.State.Areas.{slot_count_fill, cleared_fill}
+use Rattle.monitor_spec.proofs.State.Areas.{slot_count_fill, cleared_fill}
 use Rattle.monitor_spec.specs.Holds.{held_in}
 use Rattle.taking.specs.declared.event.Next.{Next}
 use Rattle.taking.specs.declared.event.Next.TheVariants.{Count, Refused}

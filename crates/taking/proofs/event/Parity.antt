@@ -12,10 +12,10 @@ use Rattle.monitor_spec.specs.Regular.{Regular}
 use Rattle.residuals.specs.Residual.{Residual, after_all}
 use Rattle.residuals.specs.Slots.{slots_of}
 use Rattle.monitor_spec.specs.State.{Monitor, slot_count, even, choose, fill, laid}
-use Rattle.monitor_spec.specs.State.Areas.{present_even, present_odd}
+use Rattle.monitor_spec.proofs.State.Areas.{present_even, present_odd}
 use Rattle.monitor_spec.specs.Feed.{present_slots, next_slots, taking, event_refused}
-use Rattle.monitor_spec.specs.Feed.Laws.{met_by}
-use Rattle.monitor_spec.specs.Expected.Laid.{laid_lengths}
+use Rattle.monitor_spec.proofs.Feed.Laws.{met_by}
+use Rattle.monitor_spec.proofs.Expected.Laid.{laid_lengths}
 use Rattle.state.specs.declared.record.State.{State}
 use Rattle.state.specs.Record.{state_of, monitor_of}
 use Rattle.monitor_spec.specs.Holds.{held_in}

@@ -16,9 +16,9 @@ use Rattle.set_step.specs.Stepped.{SteppedSet}
 use Rattle.residuals.specs.Residual.{Residual, after_all}
 use Rattle.residuals.specs.Slots.{slots_of}
 use Rattle.monitor_spec.specs.State.{slot_count, fill}
-use Rattle.slots.specs.Canon.Areas.{length_fill, fill_none}
+use Rattle.slots.proofs.Canon.Areas.{length_fill, fill_none}
 use Rattle.monitor_spec.specs.Feed.{counter_most}
-use Rattle.monitor_spec.specs.Feed.Laws.{event_unknown, event_full, event_exceeded, event_passes}
+use Rattle.monitor_spec.proofs.Feed.Laws.{event_unknown, event_full, event_exceeded, event_passes}
 use Rattle.monitor_spec.specs.Holds.{AreaHolds, held_in}
 use Rattle.step_laws.specs.Filled.{Filled}
 use Rattle.step_laws.specs.Filled.Laws.{stepped_filled}

@@ -9,7 +9,7 @@ use Rattle.table.specs.Table.{Table}
 use Rattle.monitor_spec.specs.State.{state_after, Monitor}
 use Rattle.monitor_spec.specs.Fold.{went}
 use Rattle.monitor_spec.specs.Feed.{next_slots, taking}
-use Rattle.monitor_spec.specs.Feed.Laws.{event_case, passes_counts, met_by, take_refused, take_passes}
+use Rattle.monitor_spec.proofs.Feed.Laws.{event_case, passes_counts, met_by, take_refused, take_passes}
 use Rattle.state.specs.declared.record.State.{State}
 use Rattle.taking.specs.declared.event.Next.{Next}
 use Rattle.taking.specs.declared.event.Next.TheVariants.{Count, Refused}

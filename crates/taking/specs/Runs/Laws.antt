@@ -13,9 +13,9 @@ use Rattle.table.specs.Table.{Table}
 use Rattle.monitor_spec.specs.Regular.{Regular}
 use Rattle.monitor_spec.specs.State.{Monitor}
 use Rattle.monitor_spec.specs.Fold.{went, stops, through}
-use Rattle.monitor_spec.specs.Fold.Laws.{through_went, through_stops}
+use Rattle.monitor_spec.proofs.Fold.Laws.{through_went, through_stops}
 use Rattle.monitor_spec.specs.Feed.{take_event, ending_of}
-use Rattle.monitor_spec.specs.Consistent.Laws.{take_laid}
+use Rattle.monitor_spec.proofs.Consistent.Laws.{take_laid}
 use Rattle.state.specs.declared.record.State.{State}
 use Rattle.state.specs.declared.answer.Answer.{Answer}
 use Rattle.state.specs.declared.answer.Answer.TheVariants as answer

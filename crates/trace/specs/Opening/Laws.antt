@@ -12,23 +12,23 @@ use Rattle.std.proofs.Common.{subst, ◌∙◌}
 use mathlib.Core.List.{List, [], ◌∷◌}
 use Rattle.table.specs.Table.{Table}
 use Rattle.table.specs.Judge.{Judgement, accepted, declined, judge_list}
-use Rattle.table.specs.Judge.Laws.{list_out}
+use Rattle.table.proofs.Judge.Laws.{list_out}
 use Rattle.table.specs.Operations.{zeros}
 use Rattle.table.specs.declared.answer.Refusal.{Refusal}
 use Rattle.table.specs.declared.answer.Judged.{Judged}
 use Rattle.table.specs.declared.answer.Judged.TheVariants.{Accepted, Declined}
 use Rattle.table_index.specs.Index.{table_in, Indexed}
 use Rattle.slots.specs.declared.slots.Held.TheVariants.{Count, Exceeded}
-use Rattle.monitor_spec.specs.Regular.Laws.{regular}
+use Rattle.monitor_spec.proofs.Regular.Laws.{regular}
 use Rattle.monitor_spec.specs.State.{fresh_state, Monitor, work_measured, slot_count}
 use Rattle.monitor_spec.specs.Entering.{shut, judging, entrance}
-use Rattle.monitor_spec.specs.Entering.Laws.{shut_same, shut_admits, entrance_judged}
+use Rattle.monitor_spec.proofs.Entering.Laws.{shut_same, shut_admits, entrance_judged}
 use Rattle.monitor_spec.specs.Fold.{through}
 use Rattle.monitor_spec.specs.Joined.{residual_count}
 use Rattle.monitor_spec.specs.Sensible.{Laid}
 use Rattle.monitor_spec.specs.Open.{fresh_monitor}
 use Rattle.monitor_spec.specs.Offer as offer
-use Rattle.monitor_spec.specs.History.Begun.{fresh_laid}
+use Rattle.monitor_spec.proofs.History.Begun.{fresh_laid}
 use Rattle.state.specs.declared.record.State.{State}
 use Rattle.state.specs.declared.answer.EventBits.{EventBits}
 use Rattle.state.specs.Record.{verdict_of, state_of, monitor_of}
@@ -46,7 +46,7 @@ use Rattle.table_reading.specs.TableRead.Laws.{numbers_front, numbers_few, said_
 use Rattle.trace_spec.specs.TraceLine.{starts, refuses}
 use Rattle.trace_spec.specs.Trace.{begins, declines, begin_list, begin_table, begin_head, beginning_of}
 use Rattle.trace_spec.specs.Trace.{permitted_by, event_lines, start_line, trace_from, trace_of}
-use Rattle.trace_spec.specs.Trace.Begun.{list_exceeds, list_opens}
+use Rattle.trace_spec.proofs.Trace.Begun.{list_exceeds, list_opens}
 use Rattle.trace_spec.specs.Reads.{at, reached_in, reached_at, reached_after, reached_from, reached_by}
 use Rattle.tracing.specs.declared.answer.TraceLine.TheVariants as line
 use Rattle.trace.specs.declared.answer.Opened.{Opened}

@@ -14,8 +14,8 @@ use Rattle.numbers.specs.Number.{Scan, value, truncated, malformed, scan_with, r
 use Rattle.numbers.specs.Position.{read_at}
 use Rattle.numbers.specs.Position.Laws.{value_read, truncated_read, malformed_read}
 use Rattle.line_spec.specs.Line.{Head, parts, wrong, cut, head_by, head_of}
-use Rattle.line_spec.specs.Line.Laws.{cut_over, cut_missing, cut_there}
-use Rattle.line_spec.specs.Line.Heads.{value_more, truncated_short}
+use Rattle.line_spec.proofs.Line.Laws.{cut_over, cut_missing, cut_there}
+use Rattle.line_spec.proofs.Line.Heads.{value_more, truncated_short}
 use Rattle.trace_spec.specs.Reads.{Decided, table_there, length_over, length_loose}
 use Rattle.trace_front.specs.Wanted.{missing_of, wanted_by, wanted_of, Fronts, CutShort}
 use Rattle.trace_front.specs.Wanted.Scans.{truncated_last}

@@ -17,9 +17,9 @@ use Rattle.input.specs.declared.reading.End.{End}
 use Rattle.trace_spec.specs.TraceLine.{TraceLine, refuses}
 use Rattle.trace_spec.specs.Trace.{Beginning, begins, declines, beginning_of, event_lines, start_line, trace_from, trace_of}
 use Rattle.trace_spec.specs.Trace.{line_by}
-use Rattle.trace_spec.specs.Trace.Last.{last_same, last_line}
+use Rattle.trace_spec.proofs.Trace.Last.{last_same, last_line}
 use Rattle.trace_spec.specs.Reads.{at, ended, reached_in, reached_at, reached_after, reached_from, reached_by, Decided}
-use Rattle.trace_spec.specs.Reads.Laws.{ended_stands}
+use Rattle.trace_spec.proofs.ReadLaws.{ended_stands}
 use Rattle.saying.specs.declared.print.Said.{Said}
 use Rattle.course_spec.specs.declared.answer.Told.TheVariants.{Ended, Refused}
 use Rattle.saying.specs.Spoken.{said_line, Counted, Utterance, said_of, first_said}

@@ -8,7 +8,7 @@ use Rattle.std.proofs.Math.Decide.{ℕ_discrete}
 use Rattle.std.proofs.Common.{ap, sym, ◌∙◌, append_assoc, append-nil}
 use Rattle.monitor_spec.specs.Offer.{EventBits, word_bits}
 use Rattle.trace_spec.specs.TraceLine.{events_from, events_in}
-use Rattle.trace_spec.specs.TraceLine.Laws.{from_set, from_clear}
+use Rattle.trace_spec.proofs.TraceLine.Laws.{from_set, from_clear}
 use Rattle.trace_text.specs.TraceText.{number_text, numbers_text}
 
 pub numbers_join : (xs ys : List ℕ) → numbers_text (xs ++ ys) ≡ numbers_text xs ++ numbers_text ys

@@ -6,17 +6,17 @@
 -- Assumes nothing.
 use Rattle.std.specs.Prelude.{ℕ, ◌≡◌, refl, true, List, [], ◌∷◌, ◌++◌, length}
 use Rattle.std.proofs.Common.{ap, sym, ◌∙◌}
-use Rattle.table.specs.Judge.Laws.{list_out}
+use Rattle.table.proofs.Judge.Laws.{list_out}
 use Rattle.table_index.specs.Index.{table_in}
 use Rattle.monitor_spec.specs.Regular.{Regular}
-use Rattle.monitor_spec.specs.Regular.Laws.{regular}
+use Rattle.monitor_spec.proofs.Regular.Laws.{regular}
 use Rattle.monitor_spec.specs.State.{Monitor, areas_measured, lengths_fit}
 use Rattle.monitor_spec.specs.Consistent.{consistent}
-use Rattle.monitor_spec.specs.Consistent.Laws.{take_laid, laid_still}
+use Rattle.monitor_spec.proofs.Consistent.Laws.{take_laid, laid_still}
 use Rattle.monitor_spec.specs.Fold.{went}
 use Rattle.monitor_spec.specs.Feed.{take_event}
 use Rattle.monitor_spec.specs.Offer as offer
-use Rattle.monitor_spec.specs.Expected.Laid.{laid_lengths}
+use Rattle.monitor_spec.proofs.Expected.Laid.{laid_lengths}
 use Rattle.state.specs.declared.record.State.{State}
 use Rattle.state.specs.declared.answer.EventBits.{EventBits}
 use Rattle.state.specs.Record.{verdict_of, monitor_of}
@@ -27,7 +27,7 @@ use Rattle.feeding.specs.Feeding.{Standing, TakenBy}
 use Rattle.trace_spec.specs.TraceLine.{takes, refuses}
 use Rattle.trace_spec.specs.Trace.{permitted_by, trace_of}
 use Rattle.trace_spec.specs.Reads.{at, reached_by}
-use Rattle.trace_spec.specs.Reads.Laws.{reached_went, trace_went, trace_stops}
+use Rattle.trace_spec.proofs.ReadLaws.{reached_went, trace_went, trace_stops}
 use Rattle.tracing.specs.declared.answer.TraceLine.TheVariants.{Takes, Refuses}
 use Rattle.tracing.specs.Answers.{trace_line_said}
 use Rattle.tracing.specs.Tracing.{Tracing, TracedOn, RefusedEvent}

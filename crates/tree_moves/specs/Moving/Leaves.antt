@@ -28,7 +28,7 @@ use Rattle.resolving.specs.Distinct.{window}
 use Rattle.resolving.specs.Distinct.Laws.{window_cons}
 use Rattle.tree_walk.specs.Walk.{room, leaf_results, longest, onto}
 use Rattle.slots.specs.Holding.{Outcome, held_as, put_one, put_all, Gave}
-use Rattle.slots.specs.Holding.Laws.{put_none, put_single, put_then, put_stop}
+use Rattle.slots.proofs.Holding.Laws.{put_none, put_single, put_then, put_stop}
 use Rattle.tree_walk.specs.Walk.Leaves.{results_yes, nodes_short, nodes_at}
 use Rattle.tree_ways.specs.Only.{rebuilt, ending, tried, Rest}
 use Rattle.tree_ways.specs.Only.{Rebuilds}

@@ -17,7 +17,7 @@ use Rattle.resolving.specs.Distinct.Laws.{window_cons, window_none}
 use Rattle.tree_walk.specs.Walk.{onto}
 use Rattle.tree_walk.specs.Walk.Results.{onto_append, onto_head}
 use Rattle.slots.specs.Holding.{Outcome, held_as, put_all, Gave}
-use Rattle.slots.specs.Holding.Laws.{put_none, put_then, put_stop}
+use Rattle.slots.proofs.Holding.Laws.{put_none, put_then, put_stop}
 use Rattle.tree_ways.specs.Only.{grown, rebuilt, starting, tried_by, moved, Movable, Rest}
 use Rattle.tree_ways.specs.Only.{Carries}
 use Rattle.tree_ways.specs.Only.Marks.{grown_kept}

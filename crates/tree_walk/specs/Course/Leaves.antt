@@ -15,7 +15,7 @@ use Rattle.node_word.specs.Word.{term_of_word, memory_of}
 use Rattle.slots.specs.declared.slots.Held.{Held}
 use Rattle.slots.specs.declared.slots.Held.TheVariants.{Count, Exceeded}
 use Rattle.slots.specs.Holding.{held_as, put_all, Gave}
-use Rattle.slots.specs.Holding.Laws.{put_none, put_then, put_stop}
+use Rattle.slots.proofs.Holding.Laws.{put_none, put_then, put_stop}
 use Rattle.resolving.specs.ResidualWords.Pushed.{head_push_all}
 use Rattle.resolving.specs.ResidualWords.Popped.{clean_push_all, pop_back}
 use Rattle.resolving.specs.ResidualWords.Resolved.{length_resolved}

@@ -15,7 +15,7 @@ use Rattle.residuals.specs.Slots.{nodes}
 use Rattle.slots.specs.declared.slots.Held.{Held}
 use Rattle.slots.specs.declared.slots.Held.TheVariants.{Count, Exceeded}
 use Rattle.slots.specs.Holding.{put_all, Gave}
-use Rattle.slots.specs.Holding.Laws.{put_none, put_then, put_stop}
+use Rattle.slots.proofs.Holding.Laws.{put_none, put_then, put_stop}
 use Rattle.resolving.specs.Words.{kind_at, holds_at}
 use Rattle.resolving.specs.ResidualWords.{pushed, Clean}
 use Rattle.tree_walk.specs.Walk.{joins, before, results, onto}

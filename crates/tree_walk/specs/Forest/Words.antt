@@ -12,7 +12,7 @@ use Rattle.table.specs.Node.{term_of, kind_of, ref_of}
 use Rattle.table.specs.Memory.{Memory, remember}
 use Rattle.table.specs.Member.{member}
 use Rattle.node_word.specs.Word.{pack, Digits}
-use Rattle.node_word.specs.Word.Laws.{term_pack, memory_pack}
+use Rattle.node_word.proofs.Word.Laws.{term_pack, memory_pack}
 use Rattle.residuals.specs.Residual.{Residual, leaf, pair, pairs, resolve}
 use Rattle.residuals.specs.Slots.{nodes}
 use Rattle.resolving.specs.Words.{kind_at, holds_at, KnownWord}

@@ -16,7 +16,7 @@ use Rattle.tree_ways.specs.declared.only.Way.{Way}
 use Rattle.tree_ways.specs.declared.only.Way.TheVariants.{Still, Moving, Many}
 use Rattle.table.specs.Memory.{Memory}
 use Rattle.node_word.specs.Word.{pack, term_of_word}
-use Rattle.node_word.specs.Word.Laws.{term_pack}
+use Rattle.node_word.proofs.Word.Laws.{term_pack}
 use Rattle.residuals.specs.Residual.{Residual, leaf, after}
 use Rattle.residuals.specs.Slots.{nodes}
 use Rattle.resolving.specs.Words.{kind_at, holds_at}

@@ -16,7 +16,7 @@ use Rattle.node_word.specs.Word.{pack, Digits}
 use Rattle.residuals.specs.Residual.{Residual, leaf, pair, pairs, after}
 use Rattle.resolving.specs.Words.{kind_at, holds_at}
 use Rattle.resolving.specs.Lawful.{Lawful}
-use Rattle.residuals.specs.Residual.Counts.{length_pairs}
+use Rattle.residuals.proofs.Residual.Counts.{length_pairs}
 use Rattle.resolving.specs.ResidualWords.Resolved.{length_resolved}
 use Rattle.resolving.specs.ResidualWords.After.{after_held, after_not_held, after_not_kind, after_both, after_either}
 use Rattle.tree_walk.specs.Walk.{leaf_kept, leaf_results}

@@ -19,7 +19,7 @@ use Rattle.tree_ways.specs.declared.takes.Tree.{Tree}
 use Rattle.table.specs.Memory.{Memory}
 use Rattle.table.specs.Member.{member}
 use Rattle.node_word.specs.Word.{pack, term_of_word, Digits}
-use Rattle.node_word.specs.Word.Laws.{term_pack}
+use Rattle.node_word.proofs.Word.Laws.{term_pack}
 use Rattle.residuals.specs.Residual.{Residual, leaf, pair, after}
 use Rattle.residuals.specs.Slots.{nodes}
 use Rattle.resolving.specs.Words.{kind_at, holds_at, KnownWord}

@@ -18,7 +18,7 @@ use Rattle.table.specs.declared.answer.Judged.TheVariants.{Accepted, Declined}
 use Rattle.monitor_spec.specs.State.{Monitor}
 use Rattle.monitor_spec.specs.Entering.{entrance_on, refusing}
 use Rattle.monitor_spec.specs.Try.{further_measured, try_of}
-use Rattle.monitor_spec.specs.Try.Laws.{try_unlike, try_shut, try_admits}
+use Rattle.monitor_spec.proofs.Try.Laws.{try_unlike, try_shut, try_admits}
 use Rattle.state.specs.declared.record.State.{State}
 use Rattle.state.specs.declared.answer.Answer.{Answer}
 use Rattle.state.specs.declared.answer.Answer.TheVariants.{Refused}

@@ -7,7 +7,7 @@ use mathlib.Core.List.{List}
 use lib.ListN.{length, get_or, drop, drop_of_length-le}
 use lib.Seq.{drop-cons}
 use Rattle.slots.specs.Canon.{below, same, above, compare_words}
-use Rattle.slots.specs.Canon.Comparison.{cmp_lt, cmp_gt, cmp_eq}
+use Rattle.slots.proofs.Canon.Comparison.{cmp_lt, cmp_gt, cmp_eq}
 
 module _ (a b : List ℕ) (j : ℕ) where
   pub compare_below : j < length a → j < length b → get_or a j 0 < get_or b j 0

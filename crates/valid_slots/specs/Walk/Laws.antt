@@ -8,7 +8,7 @@ use Rattle.valid_slots.specs.declared.valid.Forest.{Forest}
 use Rattle.valid_slots.specs.declared.valid.Forest.TheVariants.{Broken, Trees}
 use Rattle.node_word.specs.Word.{term_of_word, memory_of}
 use Rattle.monitor_spec.specs.Valid.{memory_fits}
-use Rattle.monitor_spec.specs.Valid.Laws.{and_split}
+use Rattle.monitor_spec.proofs.Valid.Laws.{and_split}
 use Rattle.valid_slots.specs.Walk.{Few, with_leaf, paired, word_fits, planted_by, planted}
 
 -- ---- few trees

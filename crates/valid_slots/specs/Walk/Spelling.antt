@@ -13,17 +13,17 @@ use mathlib.Core.List.{List, [], ◌∷◌}
 use Rattle.std.proofs.Math.Option.{Option, none, some}
 use Rattle.table.specs.Table.{Table, Term, stop, fail, prefix, choice, par, call, term_count, term_at, enclosing}
 use Rattle.table.specs.Node.{term_of as nodeTerm}
-use Rattle.table.specs.Node.Numbers.{term_at_lem}
+use Rattle.table.proofs.Node.Numbers.{term_at_lem}
 use Rattle.table.specs.Memory.{Memory}
 use Rattle.table.specs.Width.{reach}
 use Rattle.valid_slots.specs.declared.valid.Forest.{Forest}
 use Rattle.valid_slots.specs.declared.valid.Forest.TheVariants.{Broken, Trees}
-use Rattle.table.specs.Stands.Laws.{number_at, number_below}
-use Rattle.monitor_spec.specs.Proper.Laws.{reach_at_at}
+use Rattle.table.proofs.Stands.Laws.{number_at, number_below}
+use Rattle.monitor_spec.proofs.Proper.Laws.{reach_at_at}
 use Rattle.residuals.specs.Residual.{Residual, leaf, pair}
 use Rattle.node_word.specs.Word.{term_of_word, memory_of}
 use Rattle.monitor_spec.specs.Valid.{join_trees, plant, plant_word, forest, memory_fits, memories_fit, reach_sum}
-use Rattle.monitor_spec.specs.Valid.Laws.{plant_none, plant_some, forest_none, forest_some}
+use Rattle.monitor_spec.proofs.Valid.Laws.{plant_none, plant_some, forest_none, forest_some}
 use Rattle.monitor_spec.specs.Consistent.{every}
 use Rattle.valid_slots.specs.Walk.{with_leaf, paired, word_fits, planted_by, planted, planted_all}
 use Rattle.valid_slots.specs.Walk.Laws.{paired_few, paired_two, planted_unfit, planted_fit}

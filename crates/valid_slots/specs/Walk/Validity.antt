@@ -17,13 +17,13 @@ use Rattle.valid_slots.specs.declared.valid.Forest.{Forest}
 use Rattle.residuals.specs.Residual.{Residual}
 use Rattle.slots.specs.Canon.{Order, below, same, above, compare_words}
 use Rattle.residuals.specs.Slots.{nodes, slot_of}
-use Rattle.slots.specs.Canon.Comparison.{cmp_refl, same_eq}
+use Rattle.slots.proofs.Canon.Comparison.{cmp_refl, same_eq}
 use Rattle.monitor_spec.specs.Valid.{forest, one_tree, memories_fit, reach_sum}
 use Rattle.monitor_spec.specs.Valid.{is_same, valid_slot}
-use Rattle.monitor_spec.specs.Valid.Laws.{slot_none, slot_some, valid_none, valid_at}
-use Rattle.monitor_spec.specs.State.Areas.{zero_zeros}
+use Rattle.monitor_spec.proofs.Valid.Laws.{slot_none, slot_some, valid_none, valid_at}
+use Rattle.monitor_spec.proofs.State.Areas.{zero_zeros}
 use Rattle.monitor_spec.specs.Consistent.{every, all_zero}
-use Rattle.monitor_spec.specs.Consistent.Reading.{zero_split}
+use Rattle.monitor_spec.proofs.Consistent.Reading.{zero_split}
 use Rattle.valid_slots.specs.Walk.{planted_all, is_whole}
 use Rattle.valid_slots.specs.Walk.Words.{one_words}
 use Rattle.valid_slots.specs.Walk.Spelling.{reach_all, counted_if, kept, planted_all_forest}

@@ -10,10 +10,10 @@ use Rattle.table.specs.Table.{Table, Term, stop, fail, prefix, choice, par, call
 use Rattle.table.specs.Memory.{Memory}
 use Rattle.residuals.specs.Residual.{Residual, leaf, pair}
 use Rattle.node_word.specs.Word.{pack, term_of_word, memory_of}
-use Rattle.node_word.specs.Word.Laws.{word_pack}
+use Rattle.node_word.proofs.Word.Laws.{word_pack}
 use Rattle.residuals.specs.Slots.{nodes, nodes_all}
 use Rattle.monitor_spec.specs.Valid.{join_trees, plant, plant_word, forest}
-use Rattle.monitor_spec.specs.Valid.Laws.{some_same, none_some, plant_none, plant_some, forest_none, forest_some}
+use Rattle.monitor_spec.proofs.Valid.Laws.{some_same, none_some, plant_none, plant_some, forest_none, forest_some}
 
 join_words : (n : ℕ) (m : Memory) (qs rs : List Residual) → join_trees n m qs ≡ some rs
     → nodes_all rs ≡ pack n m ∷ nodes_all qs

@@ -14,13 +14,13 @@ use Rattle.table.specs.Table.{Table}
 use Rattle.table.specs.Operations.{zeros}
 use Rattle.table_index.specs.Index.{table_in, Indexed}
 use Rattle.index.specs.Facts.{indexed_rules}
-use Rattle.monitor_spec.specs.Regular.Laws.{regular}
+use Rattle.monitor_spec.proofs.Regular.Laws.{regular}
 use Rattle.monitor_spec.specs.State.{State, holding, next_verdict, fresh_state, areas_measured, slot_count, even}
 use Rattle.monitor_spec.specs.State.{choose, chunks, fill}
-use Rattle.monitor_spec.specs.Valid.Laws.{and_split}
+use Rattle.monitor_spec.proofs.Valid.Laws.{and_split}
 use Rattle.monitor_spec.specs.Consistent.{every, ascends, all_zero, verdict_fits, peak_fits, record_fits, area_fits}
 use Rattle.monitor_spec.specs.Consistent.{consistent}
-use Rattle.monitor_spec.specs.Consistent.Reading.{zero_split, consistent_laid}
+use Rattle.monitor_spec.proofs.Consistent.Reading.{zero_split, consistent_laid}
 use Rattle.state.specs.declared.record.State as code
 use Rattle.state.specs.Record.{state_of, monitor_of}
 use Rattle.opening.specs.Opening.Laws.{areas_cleared}

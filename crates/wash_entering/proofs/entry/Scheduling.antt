@@ -20,10 +20,10 @@ use Rattle.table.specs.declared.answer.Judged.{Judged}
 use Rattle.table.specs.declared.answer.Judged.TheVariants.{Accepted, Declined}
 use Rattle.table_index.specs.Index.{table_in, Indexed}
 use Rattle.monitor_spec.specs.State.{lengths_fit, areas_measured, work_measured}
-use Rattle.monitor_spec.specs.Valid.Laws.{and_split}
+use Rattle.monitor_spec.proofs.Valid.Laws.{and_split}
 use Rattle.monitor_spec.specs.Entering.{judging, entrance, entering}
 use Rattle.monitor_spec.specs.Entering as before
-use Rattle.monitor_spec.specs.Entering.Laws.{entrance_judged, entrance_admits}
+use Rattle.monitor_spec.proofs.Entering.Laws.{entrance_judged, entrance_admits}
 use Rattle.state.specs.Record.Laws.{lengths_measured}
 use Rattle.entering.specs.Entered.{Entered}
 use Rattle.entering.specs.Entered.Laws.{entered_shut, entered_open}

@@ -15,17 +15,17 @@ use Rattle.residuals.specs.Residual.{residuals_of}
 use Rattle.residuals.specs.Slots.{slots_of}
 use Rattle.monitor_spec.specs.Regular.{Regular}
 use Rattle.monitor_spec.specs.State.{Monitor, slot_count, even, choose, fill, laid}
-use Rattle.monitor_spec.specs.State.Areas.{choose_twice, slot_count_fill}
+use Rattle.monitor_spec.proofs.State.Areas.{choose_twice, slot_count_fill}
 use Rattle.monitor_spec.specs.Fold.{went}
-use Rattle.monitor_spec.specs.Consistent.Laws.{take_laid}
+use Rattle.monitor_spec.proofs.Consistent.Laws.{take_laid}
 use Rattle.monitor_spec.specs.Open.{fresh_monitor}
 use Rattle.monitor_spec.specs.Joined.{residual_count}
-use Rattle.monitor_spec.specs.History.Begun.{fresh_laid}
+use Rattle.monitor_spec.proofs.History.Begun.{fresh_laid}
 use Rattle.state.specs.declared.record.State.{State}
 use Rattle.state.specs.Record.{monitor_of}
 use Rattle.feeding.specs.Feeding.{Empty, Standing}
 use Rattle.wash_spec.specs.Taking.{take_fresh, take_on}
-use Rattle.wash_spec.specs.Taking.Laws.{fresh_crowded, fresh_room}
+use Rattle.wash_spec.proofs.Taking.Laws.{fresh_crowded, fresh_room}
 use Rattle.wash_state.specs.declared.answer.TimedState.{TimedState}
 use Rattle.wash_state.specs.declared.answer.TimedState.TheVariants.{NotStarted, Started}
 use Rattle.wash_state.specs.Answers.{timed_state_of}

@@ -12,16 +12,16 @@ use lib.Dec.{ltb, leb}
 use borrow.Author.Tests.{ltb-false}
 use Rattle.table_index.specs.Index.{table_in, Indexed}
 use Rattle.index.specs.Facts.{indexed_rules}
-use Rattle.monitor_spec.specs.Regular.Laws.{regular}
+use Rattle.monitor_spec.proofs.Regular.Laws.{regular}
 use Rattle.state.specs.declared.record.State.{State}
 use Rattle.state.specs.Record.{monitor_of}
 use Rattle.taking.specs.declared.event.Taken.{Taken}
 use Rattle.taking.specs.declared.event.Taken.TheVariants.{Went, Stopped}
 use Rattle.feeding.specs.Feeding.{Standing}
 use Rattle.timetable_spec.specs.Timetable.{minute_bound, changes}
-use Rattle.timetable_spec.specs.Timetable.Exact.{unchanged_same}
+use Rattle.timetable_spec.proofs.Timetable.Exact.{unchanged_same}
 use Rattle.wash_spec.specs.Taking.{clock_back, start_due, take_on, at_minute, take_timed}
-use Rattle.wash_spec.specs.Taking.Laws.{take_back}
+use Rattle.wash_spec.proofs.Taking.Laws.{take_back}
 use Rattle.wash_state.specs.declared.answer.TimedState.{TimedState}
 use Rattle.wash_state.specs.declared.answer.TimedState.TheVariants.{NotStarted, Started}
 use Rattle.wash_state.specs.Answers.{timed_state_of, timed_monitor_of}

@@ -15,7 +15,7 @@ use borrow.Author.Tests.{leb-true}
 use Rattle.table.specs.Table.{Table}
 use Rattle.table.specs.Operations.{zeros}
 use Rattle.monitor_spec.specs.State.{areas_measured, slot_count, choose, fill}
-use Rattle.monitor_spec.specs.Valid.Laws.{and_split}
+use Rattle.monitor_spec.proofs.Valid.Laws.{and_split}
 use Rattle.monitor_spec.specs.Fold.{went, stops}
 use Rattle.state.specs.declared.record.State.{State}
 use Rattle.state.specs.Record.{monitor_of}

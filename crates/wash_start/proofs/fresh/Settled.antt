@@ -20,18 +20,18 @@ use Rattle.table_index.specs.Index.{table_in, Indexed}
 use Rattle.index.specs.Facts.{indexed_rules}
 use Rattle.slots.specs.declared.slots.Held.TheVariants.{Count, Exceeded}
 use Rattle.monitor_spec.specs.Regular.{Regular}
-use Rattle.monitor_spec.specs.Regular.Laws.{regular}
+use Rattle.monitor_spec.proofs.Regular.Laws.{regular}
 use Rattle.monitor_spec.specs.State.{holding, fresh_state, Monitor, areas_measured, work_measured, slot_count, even}
 use Rattle.monitor_spec.specs.State.{choose, fill}
 use Rattle.monitor_spec.specs.Fold.{went}
 use Rattle.monitor_spec.specs.Feed.{next_slots, taking, take_event}
-use Rattle.monitor_spec.specs.Feed.Laws.{met_by, take_refused, take_passes}
+use Rattle.monitor_spec.proofs.Feed.Laws.{met_by, take_refused, take_passes}
 use Rattle.monitor_spec.specs.Entering.{entrance}
-use Rattle.monitor_spec.specs.Entering.Laws.{entrance_accepted, shut_admits}
+use Rattle.monitor_spec.proofs.Entering.Laws.{entrance_accepted, shut_admits}
 use Rattle.monitor_spec.specs.Open.{fresh_monitor}
 use Rattle.monitor_spec.specs.Joined.{residual_count}
-use Rattle.monitor_spec.specs.Expected.Laid.{laid_count}
-use Rattle.monitor_spec.specs.History.Begun.{fresh_laid}
+use Rattle.monitor_spec.proofs.Expected.Laid.{laid_count}
+use Rattle.monitor_spec.proofs.History.Begun.{fresh_laid}
 use Rattle.state.specs.declared.record.State as code
 use Rattle.state.specs.Record.{state_of, monitor_of}
 use Rattle.entering.specs.Entered.{Entered}
@@ -40,7 +40,7 @@ use Rattle.opening.specs.Opening.Laws.{fresh_same}
 use Rattle.taking.specs.declared.event.Taken.{Taken}
 use Rattle.taking.specs.declared.event.Taken.TheVariants.{Went, Stopped}
 use Rattle.feeding.specs.Feeding.{TakenBy}
-use Rattle.wash_spec.specs.Taking.Laws.{fresh_crowded, fresh_room}
+use Rattle.wash_spec.proofs.Taking.Laws.{fresh_crowded, fresh_room}
 use Rattle.wash_start.specs.Fresh.{ListAccepted, FirstBy}
 use Rattle.wash_start.specs.Standing.Laws.{measured_same}
 

@@ -5,7 +5,7 @@
 use Rattle.std.specs.Prelude.{ℕ, ◌≡◌, true, false, List}
 use Rattle.table_index.specs.Index.{table_in}
 use Rattle.monitor_spec.specs.State.{areas_measured, slot_count, choose}
-use Rattle.monitor_spec.specs.State.Areas.{choose_ap}
+use Rattle.monitor_spec.proofs.State.Areas.{choose_ap}
 use Rattle.entering.specs.Entered.Laws.{areas_same}
 use Rattle.timetable_spec.specs.Timetable.{in_force}
 use Rattle.wash_spec.specs.Taking.{drawing_at}

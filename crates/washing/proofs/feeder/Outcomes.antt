@@ -16,12 +16,12 @@ use Rattle.table.specs.declared.answer.Judged.{Judged}
 use Rattle.table.specs.declared.answer.Judged.TheVariants.{Accepted, Declined}
 use Rattle.table_index.specs.Index.{table_in}
 use Rattle.monitor_spec.specs.State.{areas_measured, work_measured}
-use Rattle.monitor_spec.specs.Valid.Laws.{and_split}
+use Rattle.monitor_spec.proofs.Valid.Laws.{and_split}
 use Rattle.wash_spec.specs.Timed.{TimedMonitor}
 use Rattle.wash_spec.specs.Entering.{timed_measured, timed_entrance}
-use Rattle.wash_spec.specs.Entering.Laws.{timed_1}
+use Rattle.wash_spec.proofs.Entering.Laws.{timed_1}
 use Rattle.wash_spec.specs.Feed.{timed_refusing, timed_of}
-use Rattle.wash_spec.specs.Feed.Laws.{timed_shut, timed_admits}
+use Rattle.wash_spec.proofs.Feed.Laws.{timed_shut, timed_admits}
 use Rattle.wash_state.specs.declared.answer.TimedState.{TimedState}
 use Rattle.wash_state.specs.declared.answer.TimedAnswer.{TimedAnswer}
 use Rattle.wash_state.specs.declared.answer.TimedAnswer.TheVariants.{Refused}

@@ -17,7 +17,7 @@ use lib.Seq.{drop-cons}
 use Rattle.table_index.specs.Index.{table_in}
 use Rattle.monitor_spec.specs.State.{areas_measured}
 use Rattle.monitor_spec.specs.Fold.{Ended, through}
-use Rattle.monitor_spec.specs.Fold.Laws.{through_went, through_stops}
+use Rattle.monitor_spec.proofs.Fold.Laws.{through_went, through_stops}
 use Rattle.state.specs.declared.record.State.{State}
 use Rattle.taking.specs.declared.event.Taken.{Taken}
 use Rattle.taking.specs.declared.event.Taken.TheVariants.{Went, Stopped}

@@ -1,7 +1,7 @@
 -- `judge::checker::check_list` meets its contract: `judge` says all but 2, and the bytes of an accepted list are
 -- counted. Assumes nothing.
 use native.Mathlib.Omega.{arith}
-use Rattle.table.specs.Judge.Laws.{list_declined}
+use Rattle.table.proofs.Judge.Laws.{list_declined}
 use Rattle.table_index.specs.Judging.Laws.{listed_long, listed_short}
 use Rattle.judge.proofs.checker.check_list.Goals as goal
 

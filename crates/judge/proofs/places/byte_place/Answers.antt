@@ -3,7 +3,7 @@
 use native.Mathlib.Omega.{arith}
 use mathlib.Core.Path.{◌≡◌, ◌∙◌, ap}
 use Rattle.table.specs.BytesRefused.{byte_place}
-use Rattle.table.specs.BytesRefused.Listed.{place_none, place_more}
+use Rattle.table.proofs.BytesRefused.Listed.{place_none, place_more}
 use Rattle.judge.proofs.places.byte_place.Goals as goal
 
 pub loop-j-init : goal.loop-j-init

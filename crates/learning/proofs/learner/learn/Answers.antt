@@ -3,7 +3,7 @@ use Prim.Native.Nat.{ℕ, ◌+◌, ◌^◌, ◌<◌, ◌≤◌}
 use native.Mathlib.Omega.{arith}
 use mathlib.Core.Path.{◌≡◌, ◌∙◌}
 use Rattle.index.specs.Facts.{indexed_rules}
-use Rattle.monitor_spec.specs.Regular.Laws.{regular}
+use Rattle.monitor_spec.proofs.Regular.Laws.{regular}
 use Rattle.taking.specs.Runs.Laws.{ended_refused}
 use Rattle.learning.specs.OverSets.Laws.{out_reached, out_room, out_shape, learn_full, learn_link, learn_kept}
 use Rattle.learning.proofs.learner.learn.Goals as goal

@@ -7,7 +7,7 @@ use mathlib.Core.Path.{◌≡◌, refl, ◌∙◌}
 use lib.ListN.{length}
 use borrow.Author.Rules.{rules}
 use Rattle.line_spec.specs.Judged.{Goes}
-use Rattle.line_spec.specs.Judged.Laws.{goes_first}
+use Rattle.line_spec.proofs.Judged.Laws.{goes_first}
 use Rattle.resuming.specs.declared.answer.Course.TheVariants.{Going}
 use Rattle.resuming.specs.Answers.{resume_said}
 use Rattle.input.specs.Reading.Laws.{fills_part}

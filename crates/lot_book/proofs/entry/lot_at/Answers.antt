@@ -1,7 +1,7 @@
 -- `lot_book::entry::lot_at` meets its contract: one law for each number that is not there, and one for all four.
 -- Assumes nothing.
 use mathlib.Core.Path.{sym, ◌∙◌}
-use Rattle.lot_book.specs.Lot.Laws.{no_number, no_taken, no_mark, no_place, whole}
+use Rattle.lot_book.proofs.Lots.Laws.{no_number, no_taken, no_mark, no_place, whole}
 use Rattle.lot_book.proofs.entry.lot_at.Goals as goal
 
 pub returns-in_default : goal.returns-in_default

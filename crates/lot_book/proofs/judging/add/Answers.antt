@@ -1,6 +1,6 @@
 -- `lot_book::judging::add` meets its contract: each return is one case of `total_of`. Assumes nothing.
 use native.Mathlib.Omega.{arith}
-use Rattle.lot_book.specs.Book.Laws.{added_within, added_over, added_again}
+use Rattle.lot_book.proofs.Book.Laws.{added_within, added_over, added_again}
 use Rattle.lot_book.proofs.judging.add.Goals as goal
 
 pub returns-then-n-sum : goal.returns-then-n-sum

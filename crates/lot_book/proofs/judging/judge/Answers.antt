@@ -3,10 +3,10 @@
 use Prim.Native.Nat.{◌-◌}
 use native.Mathlib.Omega.{arith}
 use mathlib.Core.Path.{sym, ◌∙◌}
-use Rattle.lot_book.specs.Lot.Laws.{lot_stands}
-use Rattle.lot_book.specs.Book.Sound.{sound_out}
-use Rattle.lot_book.specs.Book.Judging.{judging_first, judging_next}
-use Rattle.lot_book.specs.Book.Judging.{judging_done, judging_unread, judging_unsound}
+use Rattle.lot_book.proofs.Lots.Laws.{lot_stands}
+use Rattle.lot_book.proofs.Book.Sound.{sound_out}
+use Rattle.lot_book.proofs.Book.Judging.{judging_first, judging_next}
+use Rattle.lot_book.proofs.Book.Judging.{judging_done, judging_unread, judging_unsound}
 use Rattle.lot_book.proofs.judging.judge.Goals as goal
 
 pub loop-at-init : goal.loop-at-init

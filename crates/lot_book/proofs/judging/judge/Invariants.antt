@@ -1,7 +1,7 @@
 -- The invariants and measures of `judging.judge`.
 use Prim.Native.Nat.{◌-◌}
 use lib.ListN.{length}
-use Rattle.lot_book.specs.Book.Judging.{Judging}
+use Rattle.lot_book.proofs.Book.Judging.{Judging}
 use Rattle.lot_book.proofs.judging.judge.Given as goal
 
 abbrev pub invariant-loop-at : goal.invariant-loop-at

@@ -1,8 +1,8 @@
 -- `lot_book::judging::sound` meets its contract: the tests before each return are the first ones of `sound`.
 -- Assumes nothing.
 use native.Mathlib.Omega.{arith}
-use Rattle.lot_book.specs.Book.Sound.{sound_low, sound_lot, sound_mark, sound_above}
-use Rattle.lot_book.specs.Book.Sound.{sound_place, sound_failed, sound_running}
+use Rattle.lot_book.proofs.Book.Sound.{sound_low, sound_lot, sound_mark, sound_above}
+use Rattle.lot_book.proofs.Book.Sound.{sound_place, sound_failed, sound_running}
 use Rattle.lot_book.proofs.judging.sound.Goals as goal
 
 pub returns-then-lot-floor : goal.returns-then-lot-floor

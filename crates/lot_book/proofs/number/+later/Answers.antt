@@ -3,7 +3,7 @@
 use Prim.Native.Nat.{◌-◌}
 use native.Mathlib.Omega.{arith}
 use borrow.Author.Rules.{rules}
-use Rattle.lot_book.specs.Number.Laws.{cut, zero_byte, large, last, short, more, lost, limit_under, value_small}
+use Rattle.lot_book.proofs.NumberLaws.{cut, zero_byte, large, last, short, more, lost, limit_under, value_small}
 use Rattle.lot_book.proofs.number.+later.Goals as goal
 
 pub returns-then-s-at : goal.returns-then-s-at

@@ -1,7 +1,7 @@
 -- `lot_book::number::read` meets its contract: the tests before each return are those of one case of `number_at`.
 -- Assumes nothing.
 use native.Mathlib.Omega.{arith}
-use Rattle.lot_book.specs.Number.Laws.{none, one, several, broken, limit_8, value_small}
+use Rattle.lot_book.proofs.NumberLaws.{none, one, several, broken, limit_8, value_small}
 use Rattle.lot_book.proofs.number.read.Goals as goal
 
 pub returns-then-s-at : goal.returns-then-s-at

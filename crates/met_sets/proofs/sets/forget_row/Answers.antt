@@ -4,7 +4,7 @@ use Prim.Native.Nat.{◌+◌, ◌*◌}
 use native.Mathlib.Omega.{arith}
 use mathlib.Core.Path.{◌≡◌, refl}
 use lib.ListN.{length-set}
-use Rattle.slots.specs.Insertion.Gap.{stored_none}
+use Rattle.slots.proofs.Insertion.Gap.{stored_none}
 use Rattle.met_sets.specs.Sets.Words.{forget_step}
 use Rattle.met_sets.proofs.sets.forget_row.Goals as goal
 

@@ -1,7 +1,7 @@
 -- `monitor_c::feeder::cspe_feed` meets its contract: the record's length is tried first; then the outcome is Feed's on
 -- the record that the words hold, told by `tell`. Assumes nothing.
 use borrow.Author.Rules.{rules}
-use Rattle.words_spec.specs.Calls.Laws.{feed_unmeasured, feed_told}
+use Rattle.words_spec.proofs.Calls.Laws.{feed_unmeasured, feed_told}
 use Rattle.monitor_c.proofs.feeder.cspe_feed.Statement.{statement}
 use Rattle.monitor_c.proofs.feeder.cspe_feed.Tie as tie
 

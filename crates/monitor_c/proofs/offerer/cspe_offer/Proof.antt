@@ -1,7 +1,7 @@
 -- `monitor_c::offerer::cspe_offer` meets its contract: the record's length is tried first; then the outcome is Offer's
 -- on the record that the words hold, told by `tell_offer`. Assumes nothing.
 use borrow.Author.Rules.{rules}
-use Rattle.words_spec.specs.Calls.Laws.{offer_unmeasured, offer_told}
+use Rattle.words_spec.proofs.Calls.Laws.{offer_unmeasured, offer_told}
 use Rattle.monitor_c.proofs.offerer.cspe_offer.Statement.{statement}
 use Rattle.monitor_c.proofs.offerer.cspe_offer.Tie as tie
 

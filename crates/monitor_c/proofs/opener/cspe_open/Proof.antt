@@ -1,7 +1,7 @@
 -- `monitor_c::opener::cspe_open` meets its contract: the record's length is tried first; then the outcome is Open's,
 -- told by `has_record` and `tell`. Assumes nothing.
 use borrow.Author.Rules.{rules}
-use Rattle.words_spec.specs.Calls.Laws.{open_unmeasured, open_told}
+use Rattle.words_spec.proofs.Calls.Laws.{open_unmeasured, open_told}
 use Rattle.monitor_c.proofs.opener.cspe_open.Statement.{statement}
 use Rattle.monitor_c.proofs.opener.cspe_open.Tie as tie
 

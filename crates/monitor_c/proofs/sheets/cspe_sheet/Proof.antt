@@ -1,6 +1,6 @@
 -- `monitor_c::sheets::cspe_sheet` meets its contract: the outcome is the sheet's, told by `tell_sheet`. Assumes nothing.
 use borrow.Author.Rules.{rules}
-use Rattle.sheet_words.specs.Call.Laws.{sheet_told}
+use Rattle.sheet_words.proofs.Call.Laws.{sheet_told}
 use Rattle.monitor_c.proofs.sheets.cspe_sheet.Statement.{statement}
 use Rattle.monitor_c.proofs.sheets.cspe_sheet.Tie as tie
 

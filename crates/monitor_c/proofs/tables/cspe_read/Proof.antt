@@ -1,6 +1,6 @@
 -- `monitor_c::tables::cspe_read` meets its contract: the outcome is Read's, told by `tell_table`. Assumes nothing.
 use borrow.Author.Rules.{rules}
-use Rattle.words_spec.specs.Tables.Laws.{read_told}
+use Rattle.words_spec.proofs.Tables.Laws.{read_told}
 use Rattle.monitor_c.proofs.tables.cspe_read.Statement.{statement}
 use Rattle.monitor_c.proofs.tables.cspe_read.Tie as tie
 

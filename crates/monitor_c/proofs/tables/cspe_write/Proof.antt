@@ -1,6 +1,6 @@
 -- `monitor_c::tables::cspe_write` meets its contract: the outcome is Write's, told by `tell_table`. Assumes nothing.
 use borrow.Author.Rules.{rules}
-use Rattle.words_spec.specs.Tables.Laws.{write_told}
+use Rattle.words_spec.proofs.Tables.Laws.{write_told}
 use Rattle.monitor_c.proofs.tables.cspe_write.Statement.{statement}
 use Rattle.monitor_c.proofs.tables.cspe_write.Tie as tie
 

@@ -1,7 +1,7 @@
 -- `monitor_c::timer::cspe_timed_feed` meets its contract: the record's length is tried first; then the outcome is that
 -- of `timed_feed` on the record that the words hold, told by `tell_timed`. Assumes nothing.
 use borrow.Author.Rules.{rules}
-use Rattle.wash_words.specs.Call.Laws.{timed_unmeasured, timed_told}
+use Rattle.wash_words.proofs.Call.Laws.{timed_unmeasured, timed_told}
 use Rattle.monitor_c.proofs.timer.cspe_timed_feed.Statement.{statement}
 use Rattle.monitor_c.proofs.timer.cspe_timed_feed.Tie as tie
 

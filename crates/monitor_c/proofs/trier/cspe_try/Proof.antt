@@ -1,7 +1,7 @@
 -- `monitor_c::trier::cspe_try` meets its contract: the lengths of both records are tried first; then the outcome is
 -- Try's on the record that the words hold, told by `tell`. Assumes nothing.
 use borrow.Author.Rules.{rules}
-use Rattle.words_spec.specs.Calls.Laws.{try_unread, try_unmeasured, try_told}
+use Rattle.words_spec.proofs.Calls.Laws.{try_unread, try_unmeasured, try_told}
 use Rattle.monitor_c.proofs.trier.cspe_try.Statement.{statement}
 use Rattle.monitor_c.proofs.trier.cspe_try.Tie as tie
 

@@ -1,7 +1,7 @@
 -- `monitor_c::viewer::cspe_view` meets its contract: the record's length is tried first; the part that View hands back
 -- is empty or not. Assumes nothing.
 use borrow.Author.Rules.{rules}
-use Rattle.words_spec.specs.Calls.Laws.{view_unmeasured, view_some, view_none}
+use Rattle.words_spec.proofs.Calls.Laws.{view_unmeasured, view_some, view_none}
 use Rattle.monitor_c.proofs.viewer.cspe_view.Statement.{statement}
 use Rattle.monitor_c.proofs.viewer.cspe_view.Tie as tie
 

@@ -5,7 +5,7 @@ use native.Mathlib.Omega.{arith}
 use mathlib.Core.Path.{sym, ◌∙◌}
 use mathlib.Core.Logic.{inl, inr}
 use Rattle.index.specs.Facts.{terms_few}
-use Rattle.node_word.specs.Word.Laws.{memory_zero, zero_below}
+use Rattle.node_word.proofs.Word.Laws.{memory_zero, zero_below}
 use Rattle.resolving.specs.Lawful.{lawful}
 use Rattle.resolving.specs.ResidualWords.Into.{into_definition}
 use Rattle.resolving.specs.ResidualWords.Ways.{beyond, way_first, way_leaf, way_none, way_call}

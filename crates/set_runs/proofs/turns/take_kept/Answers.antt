@@ -3,7 +3,7 @@ use Prim.Native.Nat.{ℕ, ◌≤◌}
 use native.Mathlib.Omega.{arith}
 use mathlib.Core.Path.{sym, subst, ◌∙◌}
 use Rattle.index.specs.Facts.{indexed_rules, events_few}
-use Rattle.monitor_spec.specs.Regular.Laws.{regular}
+use Rattle.monitor_spec.proofs.Regular.Laws.{regular}
 use Rattle.state.specs.Record.{monitor_of}
 use Rattle.met_sets.specs.Runs.Areas.{laid_room}
 use Rattle.taking.specs.Runs.{RunBy}

@@ -3,7 +3,7 @@ use Prim.Native.Nat.{ℕ, ◌≤◌}
 use native.Mathlib.Omega.{arith}
 use mathlib.Core.Path.{◌∙◌}
 use Rattle.index.specs.Facts.{indexed_rules}
-use Rattle.monitor_spec.specs.Regular.Laws.{regular}
+use Rattle.monitor_spec.proofs.Regular.Laws.{regular}
 use Rattle.set_runs.proofs.turns.Laws.{going_within, going_stands, going_room, going_out, turn_out, turn_learnt}
 use Rattle.set_runs.proofs.turns.take_turn.Goals as goal
 

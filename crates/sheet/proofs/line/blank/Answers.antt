@@ -3,7 +3,7 @@ use Prim.Native.Nat.{◌-◌}
 use native.Mathlib.Omega.{arith}
 use mathlib.Core.Path.{refl}
 use lib.ListN.{length-set}
-use Rattle.sheet_spec.specs.Line.Filling.{blank_next, blank_done}
+use Rattle.sheet_spec.proofs.Line.Filling.{blank_next, blank_done}
 use Rattle.sheet.proofs.line.blank.Goals as goal
 
 pub loop-i-init : goal.loop-i-init

@@ -4,7 +4,7 @@ use Prim.Native.Nat.{◌-◌}
 use native.Mathlib.Omega.{arith}
 use mathlib.Core.Path.{refl}
 use lib.ListN.{length-set}
-use Rattle.sheet_spec.specs.Line.Filling.{spell_next, spell_done}
+use Rattle.sheet_spec.proofs.Line.Filling.{spell_next, spell_done}
 use Rattle.sheet.proofs.line.left.Goals as goal
 
 pub loop-i-init : goal.loop-i-init

@@ -3,7 +3,7 @@ use native.Mathlib.Omega.{arith}
 use mathlib.Core.Path.{sym, ap, ◌∙◌}
 use mathlib.Core.List.{[]}
 use lib.ListN.{length}
-use Rattle.sheet_spec.specs.Line.Laws.{right_room, lot_part1, lot_part2, lot_part3, lot_part4, lot_done, lot_length}
+use Rattle.sheet_spec.proofs.Line.Laws.{right_room, lot_part1, lot_part2, lot_part3, lot_part4, lot_done, lot_length}
 use Rattle.sheet.proofs.line.lot_line.Goals as goal
 
 pub right-requires : goal.right-requires

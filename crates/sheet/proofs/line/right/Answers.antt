@@ -1,7 +1,7 @@
 -- `line::right` meets its contract: digits from the right end, while more than one is left. The invariant is `Filling`;
 -- the measure is what is left of the number. Assumes nothing.
 use native.Mathlib.Omega.{arith}
-use Rattle.sheet_spec.specs.Line.Filling.{fill_first, fill_next, fill_done}
+use Rattle.sheet_spec.proofs.Line.Filling.{fill_first, fill_next, fill_done}
 use Rattle.sheet.proofs.line.right.Goals as goal
 
 pub loop-rest-init : goal.loop-rest-init

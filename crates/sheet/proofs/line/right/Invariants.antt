@@ -1,6 +1,6 @@
 -- The invariants and measures of `line.right`.
 use lib.ListN.{length}
-use Rattle.sheet_spec.specs.Line.Filling.{Filling}
+use Rattle.sheet_spec.proofs.Line.Filling.{Filling}
 use Rattle.sheet.proofs.line.right.Given as goal
 
 abbrev pub invariant-loop-rest : goal.invariant-loop-rest

@@ -3,7 +3,7 @@ use native.Mathlib.Omega.{arith}
 use mathlib.Core.Path.{sym, ap, ◌∙◌}
 use mathlib.Core.List.{[]}
 use lib.ListN.{length}
-use Rattle.sheet_spec.specs.Line.Laws.{right_room, total_part2, total_done, total_length}
+use Rattle.sheet_spec.proofs.Line.Laws.{right_room, total_part2, total_done, total_length}
 use Rattle.sheet.proofs.line.total_line.Goals as goal
 
 pub right-requires : goal.right-requires

@@ -2,7 +2,7 @@
 use native.Mathlib.Omega.{arith}
 use mathlib.Core.Path.{ap}
 use lib.ListN.{length}
-use Rattle.sheet_spec.specs.Line.Laws.{word_running, word_failed}
+use Rattle.sheet_spec.proofs.Line.Laws.{word_running, word_failed}
 use Rattle.sheet.proofs.line.verdict.Goals as goal
 
 pub left-requires : goal.left-requires

@@ -1,7 +1,7 @@
 -- `printing::sheet` meets its contract: one law for each outcome; what is written is `write`'s. Assumes nothing.
 use native.Mathlib.Omega.{arith}
 use mathlib.Core.Path.{sym, ◌∙◌}
-use Rattle.sheet_spec.specs.Sheet.Laws.{out_bad, out_over, out_short, out_room}
+use Rattle.sheet_spec.proofs.Sheets.Laws.{out_bad, out_over, out_short, out_room}
 use Rattle.sheet.proofs.printing.sheet.Goals as goal
 
 pub returns-then-out-count : goal.returns-then-out-count

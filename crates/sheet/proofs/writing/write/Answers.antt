@@ -3,9 +3,9 @@
 use Prim.Native.Nat.{◌-◌}
 use native.Mathlib.Omega.{arith}
 use mathlib.Core.Path.{sym, ◌∙◌}
-use Rattle.sheet_spec.specs.Sheet.Writing.{write_first, write_room, write_size, write_read}
-use Rattle.sheet_spec.specs.Sheet.Writing.{write_lot, write_place}
-use Rattle.sheet_spec.specs.Sheet.Writing.{write_less, write_next, write_done, write_total_size}
+use Rattle.sheet_spec.proofs.Sheets.Writing.{write_first, write_room, write_size, write_read}
+use Rattle.sheet_spec.proofs.Sheets.Writing.{write_lot, write_place}
+use Rattle.sheet_spec.proofs.Sheets.Writing.{write_less, write_next, write_done, write_total_size}
 use Rattle.sheet.proofs.writing.write.Goals as goal
 
 pub loop-at-init : goal.loop-at-init

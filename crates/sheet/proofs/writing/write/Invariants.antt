@@ -1,7 +1,7 @@
 -- The invariants and measures of `writing.write`.
 use Prim.Native.Nat.{◌-◌}
 use lib.ListN.{length}
-use Rattle.sheet_spec.specs.Sheet.Writing.{Writing}
+use Rattle.sheet_spec.proofs.Sheets.Writing.{Writing}
 use Rattle.sheet.proofs.writing.write.Given as goal
 
 abbrev pub invariant-loop-at : goal.invariant-loop-at

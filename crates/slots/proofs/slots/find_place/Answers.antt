@@ -4,8 +4,8 @@
 use Prim.Native.Nat.{◌+◌, ◌-◌, ◌*◌}
 use native.Mathlib.Omega.{arith}
 use mathlib.Core.Path.{◌≡◌, refl, sym, ◌∙◌}
-use Rattle.slots.specs.Insertion.Laws.{order_none, order_below, order_above, order_on, seek_none, seek_here}
-use Rattle.slots.specs.Insertion.Laws.{seek_held, seek_on}
+use Rattle.slots.proofs.Insertion.Laws.{order_none, order_below, order_above, order_on, seek_none, seek_here}
+use Rattle.slots.proofs.Insertion.Laws.{seek_held, seek_on}
 use Rattle.slots.proofs.slots.find_place.Goals as goal
 
 pub slots-init : goal.slots-init

@@ -3,8 +3,8 @@ use native.Mathlib.Omega.{arith}
 use mathlib.Core.Path.{◌≡◌, sym, ◌∙◌}
 use Rattle.slots.specs.declared.slots.Place.TheVariants.{At}
 use Rattle.slots.specs.Insertion.{place_in}
-use Rattle.slots.specs.Insertion.Laws.{insert_held, insert_full, insert_new}
-use Rattle.slots.specs.Insertion.Narrow.{place_bound}
+use Rattle.slots.proofs.Insertion.Laws.{insert_held, insert_full, insert_new}
+use Rattle.slots.proofs.Insertion.Narrow.{place_bound}
 use Rattle.slots.proofs.slots.insert.Goals as goal
 
 pub returns-then-area-n-lt16 : goal.returns-then-area-n-lt16

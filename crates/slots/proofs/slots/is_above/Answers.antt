@@ -4,7 +4,7 @@ use Prim.Native.Nat.{◌+◌, ◌-◌}
 use native.Mathlib.Omega.{arith}
 use mathlib.Core.Path.{◌≡◌, ap, sym, ◌∙◌}
 use Rattle.slots.specs.Insertion.{is_above}
-use Rattle.slots.specs.Insertion.Laws.{order_none, order_below, order_above, order_on}
+use Rattle.slots.proofs.Insertion.Laws.{order_none, order_below, order_above, order_on}
 use Rattle.slots.proofs.slots.is_above.Goals as goal
 
 pub loop-k-init : goal.loop-k-init

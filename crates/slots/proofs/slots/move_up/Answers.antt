@@ -2,7 +2,7 @@
 use native.Mathlib.Omega.{arith}
 use mathlib.Core.Path.{◌≡◌, refl}
 use lib.ListN.{length-set}
-use Rattle.slots.specs.Insertion.Gap.{gap_none, gap_step}
+use Rattle.slots.proofs.Insertion.Gap.{gap_none, gap_step}
 use Rattle.slots.proofs.slots.move_up.Goals as goal
 
 pub loop-k-init : goal.loop-k-init

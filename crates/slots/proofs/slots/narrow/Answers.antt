@@ -3,7 +3,7 @@
 use Prim.Native.Nat.{◌-◌}
 use native.Mathlib.Omega.{arith}
 use mathlib.Core.Path.{sym, ◌∙◌}
-use Rattle.slots.specs.Insertion.Narrow.{middle_low, halve_none, halve_up, halve_down, narrow_none, narrow_start}
+use Rattle.slots.proofs.Insertion.Narrow.{middle_low, halve_none, halve_up, halve_down, narrow_none, narrow_start}
 use Rattle.slots.proofs.slots.narrow.Goals as goal
 
 pub returns-then-count-eq0 : goal.returns-then-count-eq0

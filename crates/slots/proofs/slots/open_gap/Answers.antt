@@ -1,7 +1,7 @@
 -- `slots::slots::open_gap` meets its contract: the words from p on are a part of the area, in which the gap is opened.
 -- Assumes nothing.
 use native.Mathlib.Omega.{arith}
-use Rattle.slots.specs.Insertion.Gap.{gap_part}
+use Rattle.slots.proofs.Insertion.Gap.{gap_part}
 use Rattle.slots.proofs.slots.open_gap.Goals as goal
 
 pub returns : goal.returns

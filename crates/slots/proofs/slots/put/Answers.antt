@@ -1,5 +1,5 @@
 -- `slots::slots::put` meets its contract: by the answer of insertion. Assumes nothing.
-use Rattle.slots.specs.Holding.Laws.{put_held, put_new, put_full}
+use Rattle.slots.proofs.Holding.Laws.{put_held, put_new, put_full}
 use Rattle.slots.proofs.slots.put.Goals as goal
 
 pub returns-in-Held : goal.returns-in-Held

@@ -3,7 +3,7 @@ use Prim.Native.Nat.{◌-◌}
 use native.Mathlib.Omega.{arith}
 use mathlib.Core.Path.{◌≡◌, refl}
 use lib.ListN.{length-set}
-use Rattle.slots.specs.Insertion.Gap.{stored_none, stored_step}
+use Rattle.slots.proofs.Insertion.Gap.{stored_none, stored_step}
 use Rattle.slots.proofs.slots.store.Goals as goal
 
 pub loop-j-init : goal.loop-j-init

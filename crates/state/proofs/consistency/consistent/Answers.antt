@@ -5,7 +5,7 @@ use mathlib.Core.Path.{sym, ◌∙◌}
 use Prim.Native.Nat.{◌/◌}
 use lib.ListN.{length}
 use Rattle.table_index.specs.Index.{table_in}
-use Rattle.monitor_spec.specs.Consistent.Reading.{record_room}
+use Rattle.monitor_spec.proofs.Consistent.Reading.{record_room}
 use Rattle.state.specs.Record.{state_of}
 use Rattle.state.proofs.consistency.Cases.{record_unfit, areas_even, areas_odd}
 use Rattle.state.proofs.consistency.consistent.Goals as goal

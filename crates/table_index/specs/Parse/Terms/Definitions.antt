@@ -13,7 +13,7 @@ use Rattle.std.proofs.Math.Seq.{take-length}
 use Rattle.table.specs.declared.answer.Refusal.{Refusal}
 use Rattle.table.specs.Table.{SetDef, size, Definition, sizes}
 use Rattle.table.specs.Tokens.{tokens_at}
-use Rattle.table.specs.Parser.Steps.{Reads, none, reads_snoc, Repeats, all_done, all_stop}
+use Rattle.table.proofs.Parser.Steps.{Reads, none, reads_snoc, Repeats, all_done, all_stop}
 use Rattle.table.specs.Grammar.{definition, definitions_of}
 use Rattle.table.specs.References.{level_in}
 use Rattle.table.specs.Writing.{definition_numbers}
@@ -21,7 +21,7 @@ use Rattle.table.specs.Node.{Node, nodes, definition_nodes, no_node, body_spot}
 use Rattle.table_index.specs.Layout.{terms_at, sets_at, bodies_at, levels_at, widths_at, structure_of}
 use Rattle.table_index.specs.Index.{word_of, sets_in}
 use Rattle.table_index.specs.Parse.{Refuses, SetsReady, DefinitionsFound}
-use Rattle.table.specs.Node.Homes.{length_nodes_from}
+use Rattle.table.proofs.Node.Homes.{length_nodes_from}
 use Rattle.table_index.specs.Parse.Terms.{DefinitionFound}
 use Rattle.table_index.specs.Parse.Terms.Stored.{ready_kept, right_node}
 use Rattle.table_index.specs.Parse.Terms.Appended.{sizes_snoc, numbers_snoc, nodes_snoc, levels_old}

@@ -18,14 +18,14 @@ use Rattle.table.specs.declared.terms.TermEnd.TheVariants.{NextTerm, NoTerm}
 use Rattle.table.specs.Table.{Term, stop, fail, call, SetDef}
 use Rattle.table.specs.Tokens.{tokens_at}
 use Rattle.table.specs.Parser.{Parser, got, number, pure, and_then}
-use Rattle.table.specs.Parser.Steps.{number_got, number_off, number_short, then_got, then_stop}
+use Rattle.table.proofs.Parser.Steps.{number_got, number_off, number_short, then_got, then_stop}
 use Rattle.table.specs.Grammar.{term_of_kind, term_with}
 use Rattle.table.specs.Node.{node, nodes, kind_of, left_size, ref_of, parameter_of}
 use Rattle.table_index.specs.Index.{target_of, packed, word_of}
 use Rattle.table_index.specs.Layout.{targets}
 use Rattle.table_index.specs.Parse.{SpotFits, HeadFits, Refuses, WordStored, TermRead}
 use Rattle.table_index.specs.Parse.Terms.{TermFoundBy, TermReadBy, LeafRead, call_rest}
-use Rattle.table.specs.Node.Laws.{length_nodes}
+use Rattle.table.proofs.Node.Laws.{length_nodes}
 use Rattle.table_index.specs.Parse.Terms.Stored.{stored_in, stored_one}
 
 -- ---- a parser in two parts

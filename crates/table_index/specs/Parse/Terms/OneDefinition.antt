@@ -13,9 +13,9 @@ use Rattle.table.specs.declared.terms.TermEnd.TheVariants.{NextTerm, NoTerm}
 use Rattle.table.specs.Table.{SetDef}
 use Rattle.table.specs.Tokens.{tokens_at}
 use Rattle.table.specs.Parser.{got, number, pure}
-use Rattle.table.specs.Parser.Steps.{number_got, number_off, number_short, then_got, then_stop}
+use Rattle.table.proofs.Parser.Steps.{number_got, number_off, number_short, then_got, then_stop}
 use Rattle.table.specs.Grammar.{definition}
-use Rattle.table.specs.Grammar.Terms.{term_sound}
+use Rattle.table.proofs.Grammar.Terms.{term_sound}
 use Rattle.table.specs.Writing.{term_numbers, definition_numbers}
 use Rattle.table.specs.Node.{body_spot}
 use Rattle.table_index.specs.Layout.{bodies_at, levels_at}

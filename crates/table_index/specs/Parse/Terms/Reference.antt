@@ -14,11 +14,11 @@ use Rattle.std.proofs.lemmas.Bool.{lt-leb}
 use Rattle.table.specs.declared.answer.Refusal.{Refusal}
 use Rattle.table.specs.Table.{SetRef, fixed, family, SetDef, one, each}
 use Rattle.table.specs.Tokens.{Tokens, token, ended, broken, list_tokens, tokens_at}
-use Rattle.table.specs.Tokens.Laws.{Follows, follows_list}
+use Rattle.table.proofs.Tokens.Laws.{Follows, follows_list}
 use Rattle.table.specs.Parser.{Result, got, number, pure, and_then}
-use Rattle.table.specs.Parser.Steps.{number_got, number_off, number_short, then_got, then_stop}
+use Rattle.table.proofs.Parser.Steps.{number_got, number_off, number_short, then_got, then_stop}
 use Rattle.table.specs.Grammar.{ref_of_kind, set_ref}
-use Rattle.table.specs.Grammar.Terms.{ref_sound}
+use Rattle.table.proofs.Grammar.Terms.{ref_sound}
 use Rattle.table.specs.Writing.{ref_numbers}
 use Rattle.table_index.specs.Layout.{rows_most, sets_at}
 use Rattle.table_index.specs.Index.{first_row, kind_of_set, set_word, set_masks, SetsIndexed}

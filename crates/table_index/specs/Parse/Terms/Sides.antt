@@ -18,9 +18,9 @@ use Rattle.table.specs.declared.terms.TermEnd.TheVariants.{NextTerm, NoTerm}
 use Rattle.table.specs.Table.{SetRef, Term, prefix, choice, par, SetDef, size}
 use Rattle.table.specs.Tokens.{tokens_at}
 use Rattle.table.specs.Parser.{pure}
-use Rattle.table.specs.Parser.Steps.{then_got, then_stop}
+use Rattle.table.proofs.Parser.Steps.{then_got, then_stop}
 use Rattle.table.specs.Grammar.{set_ref, term_of_kind, term_with}
-use Rattle.table.specs.Grammar.Terms.{term_sound}
+use Rattle.table.proofs.Grammar.Terms.{term_sound}
 use Rattle.table.specs.Writing.{ref_numbers, term_numbers}
 use Rattle.table.specs.Node.{node, nodes, kind_of, left_size, ref_of, follower_spot, side_spot, beside_spot}
 use Rattle.table_index.specs.Layout.{terms_at}
@@ -30,7 +30,7 @@ use Rattle.table_index.specs.Parse.{WordStored, TermRead}
 use Rattle.table_index.specs.Parse.Terms.{TermFoundBy, TermReadBy, Joint, before, either, beside, HeadOf, TwoSided}
 use Rattle.table_index.specs.Parse.Terms.{joint_term, follower_of, sides_of}
 use Rattle.table_index.specs.Parse.Terms.Stored.{Stored, stored_out, stored_in, stored_one, stored_front}
-use Rattle.table.specs.Node.Laws.{length_nodes}
+use Rattle.table.proofs.Node.Laws.{length_nodes}
 use Rattle.table_index.specs.Parse.Terms.Stored.{stored_append, ready_kept, ready_stored}
 use Rattle.table_index.specs.Parse.Terms.Reference.{follows_place, ref_place}
 use Rattle.table_index.specs.Parse.Terms.Kind.{read_then, read_then_stop, term_kind, head_at, head_word}

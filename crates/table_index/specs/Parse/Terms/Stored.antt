@@ -12,7 +12,7 @@ use Rattle.table.specs.declared.terms.Spot.{Spot}
 use Rattle.table.specs.declared.terms.Head.{Head}
 use Rattle.table.specs.Table.{Term, SetDef}
 use Rattle.table.specs.Node.{Node, nodes, no_node}
-use Rattle.table.specs.Node.Laws.{length_nodes}
+use Rattle.table.proofs.Node.Laws.{length_nodes}
 use Rattle.table_index.specs.Layout.{terms_at, sets_at, bodies_at, widths_at, structure_of}
 use Rattle.table_index.specs.Layout.Laws.{structure_fits}
 use Rattle.table_index.specs.Index.{packed, word_of, sets_in}

@@ -1,7 +1,7 @@
 -- `taking::event::advance_present` meets its contract: by the parity of the events taken, area 0 or area 1 is present.
 -- Assumes nothing.
 use Rattle.index.specs.Facts.{indexed_rules}
-use Rattle.monitor_spec.specs.Regular.Laws.{regular}
+use Rattle.monitor_spec.proofs.Regular.Laws.{regular}
 use Rattle.taking.proofs.event.Parity.{holding_even, holding_odd, moved_even, moved_odd}
 use Rattle.taking.proofs.event.advance_present.Goals as goal
 

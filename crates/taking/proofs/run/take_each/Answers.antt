@@ -4,7 +4,7 @@ use Prim.Native.Nat.{◌-◌}
 use native.Mathlib.Omega.{arith}
 use mathlib.Core.Path.{refl, sym, ◌∙◌}
 use Rattle.index.specs.Facts.{indexed_rules}
-use Rattle.monitor_spec.specs.Regular.Laws.{regular}
+use Rattle.monitor_spec.proofs.Regular.Laws.{regular}
 use Rattle.taking.specs.Runs.{RunBy}
 use Rattle.taking.specs.Runs.Laws.{reached_start, reached_next, ended_refused}
 use borrow.Author.Rules.{rules}

@@ -1,6 +1,6 @@
 -- `timetable::change::distance` meets its contract. Assumes nothing.
 use mathlib.Core.Path.{sym}
-use Rattle.timetable_spec.specs.Timetable.Laws.{distance_above, distance_below}
+use Rattle.timetable_spec.proofs.Timetable.Laws.{distance_above, distance_below}
 use Rattle.timetable.proofs.change.distance.Goals as goal
 
 pub returns-then-from-p : goal.returns-then-from-p

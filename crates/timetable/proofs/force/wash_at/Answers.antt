@@ -4,7 +4,7 @@ use Prim.Native.Nat.{◌-◌}
 use native.Mathlib.Omega.{arith}
 use mathlib.Core.Path.{refl, sym, ◌∙◌}
 use Rattle.timetable_spec.specs.Timetable.{holds, wash_at}
-use Rattle.timetable_spec.specs.Timetable.Pairs.{some_next, some_found, some_done}
+use Rattle.timetable_spec.proofs.Timetable.Pairs.{some_next, some_found, some_done}
 use Rattle.timetable.proofs.force.wash_at.Goals as goal
 
 pub loop-i-init : goal.loop-i-init

@@ -4,7 +4,7 @@ use Prim.Native.Nat.{◌-◌}
 use native.Mathlib.Omega.{arith}
 use mathlib.Core.Path.{refl, sym, ◌∙◌}
 use Rattle.timetable_spec.specs.Timetable.{good_timetable}
-use Rattle.timetable_spec.specs.Timetable.Pairs.{good_next, good_bad, good_done}
+use Rattle.timetable_spec.proofs.Timetable.Pairs.{good_next, good_bad, good_done}
 use Rattle.timetable.proofs.judging.good_timetable.Goals as goal
 
 pub loop-i-init : goal.loop-i-init

@@ -1,5 +1,5 @@
 -- `wash_words::answers::tell_timed` meets its contract, by the cases of an answer. Assumes nothing.
-use Rattle.wash_words.specs.Call.Laws.{tell_given, tell_refused, tell_stopped}
+use Rattle.wash_words.proofs.Call.Laws.{tell_given, tell_refused, tell_stopped}
 use Rattle.wash_words.proofs.answers.tell_timed.Goals as goal
 
 pub returns-in-Given : goal.returns-in-Given

@@ -1,6 +1,6 @@
 -- `wash_words::record::store_at` meets its contract: five words by `store`, and two stores. Assumes nothing.
 use mathlib.Core.Path.{sym}
-use Rattle.wash_words.specs.Words.Laws.{five_taken, six_kept, stored_at}
+use Rattle.wash_words.proofs.Words.Laws.{five_taken, six_kept, stored_at}
 use Rattle.wash_words.proofs.record.store_at.Goals as goal
 
 pub slice_bounds-store-end-2 : goal.slice_bounds-store-end-2

@@ -1,5 +1,5 @@
 -- `wash_words::record::store_timed` meets its contract, by the cases of a state. Assumes nothing.
-use Rattle.wash_words.specs.Words.Laws.{words_none, words_started}
+use Rattle.wash_words.proofs.Words.Laws.{words_none, words_started}
 use Rattle.wash_words.proofs.record.store_timed.Goals as goal
 
 pub returns-in-NotStarted : goal.returns-in-NotStarted

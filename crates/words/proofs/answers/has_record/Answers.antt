@@ -1,5 +1,5 @@
 -- `words::answers::has_record` meets its contract, by the cases of an answer. Assumes nothing.
-use Rattle.words_spec.specs.Calls.Laws.{has_given, has_refused, has_stopped}
+use Rattle.words_spec.proofs.Calls.Laws.{has_given, has_refused, has_stopped}
 use Rattle.words.proofs.answers.has_record.Goals as goal
 
 pub returns-in-Given : goal.returns-in-Given

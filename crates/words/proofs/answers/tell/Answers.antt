@@ -1,5 +1,5 @@
 -- `words::answers::tell` meets its contract, by the cases of an answer. Assumes nothing.
-use Rattle.words_spec.specs.Calls.Laws.{tell_given, tell_refused, tell_stopped}
+use Rattle.words_spec.proofs.Calls.Laws.{tell_given, tell_refused, tell_stopped}
 use Rattle.words.proofs.answers.tell.Goals as goal
 
 pub returns-in-Given : goal.returns-in-Given

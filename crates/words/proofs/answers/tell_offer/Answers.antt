@@ -1,5 +1,5 @@
 -- `words::answers::tell_offer` meets its contract, by the cases of an answer. Assumes nothing.
-use Rattle.words_spec.specs.Calls.Laws.{tell_offers, tell_declined}
+use Rattle.words_spec.proofs.Calls.Laws.{tell_offers, tell_declined}
 use Rattle.words.proofs.answers.tell_offer.Goals as goal
 
 pub returns-in-Offers : goal.returns-in-Offers

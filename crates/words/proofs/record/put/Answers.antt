@@ -1,5 +1,5 @@
 -- `words::record::put` meets its contract: five stores fill a list of five. Assumes nothing.
-use Rattle.words_spec.specs.Words.Laws.{four_kept, five_stores}
+use Rattle.words_spec.proofs.Words.Laws.{four_kept, five_stores}
 use Rattle.words.proofs.record.put.Goals as goal
 
 pub bounds-record-4 : goal.bounds-record-4

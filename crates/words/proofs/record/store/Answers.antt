@@ -1,5 +1,5 @@
 -- `words::record::store` meets its contract: the verdict says which words `words_of` has. Assumes nothing.
-use Rattle.words_spec.specs.Words.Laws.{words_running, words_failed}
+use Rattle.words_spec.proofs.Words.Laws.{words_running, words_failed}
 use Rattle.words.proofs.record.store.Goals as goal
 
 pub returns-in-Running : goal.returns-in-Running

@@ -1,5 +1,5 @@
 -- `words::record::verdict_in` meets its contract: the test says which case of `verdict_in` holds. Assumes nothing.
-use Rattle.words_spec.specs.Words.Laws.{verdict_running, verdict_failed}
+use Rattle.words_spec.proofs.Words.Laws.{verdict_running, verdict_failed}
 use Rattle.words.proofs.record.verdict_in.Goals as goal
 
 pub returns-then-failed-eq0 : goal.returns-then-failed-eq0

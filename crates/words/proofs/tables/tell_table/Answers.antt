@@ -1,5 +1,5 @@
 -- `words::tables::tell_table` meets its contract, by the cases of an answer. Assumes nothing.
-use Rattle.words_spec.specs.Tables.Laws.{tell_count, tell_refused}
+use Rattle.words_spec.proofs.Tables.Laws.{tell_count, tell_refused}
 use Rattle.words.proofs.tables.tell_table.Goals as goal
 
 pub returns-in-Count : goal.returns-in-Count

@@ -1,0 +1,2 @@
+-- The laws of `specs/Holds.antt`, a file each. Assumes nothing.
+pub mod Alphabet

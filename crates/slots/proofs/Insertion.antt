@@ -1,0 +1,4 @@
+-- The laws of `specs/Insertion.antt`, a file each. Assumes nothing.
+pub mod Gap
+pub mod Laws
+pub mod Narrow

@@ -1,0 +1,46 @@
+-- `trace::opener::open_trace` meets its contract, by the table that was read. Assumes nothing.
+use native.Mathlib.Omega.{arith}
+use mathlib.Core.Path.{sym}
+use Rattle.table_reading.specs.TableRead.Laws.{said_numbers, numbers_few, numbers_lengths}
+use Rattle.trace.specs.Opening.Laws.{front_numbers, front_declined}
+use Rattle.trace.proofs.opener.open_trace.Goals as goal
+
+pub slice_bounds-open_list-end : goal.slice_bounds-open_list-end
+slice_bounds-open_list-end c =
+    let args = c.args in
+    let numbers = said_numbers args.input.now args.list.now args.area0.now args.area1.now
+    args.work.now _ _ _ c.read_table.ensures _ _ c.in-Numbers.is in
+    omega (arith, numbers_few _ _ _ _ _ _ _ _ _ numbers)
+
+pub slice_bounds-open_list-end-in-Numbers : goal.slice_bounds-open_list-end-in-Numbers
+slice_bounds-open_list-end-in-Numbers c =
+    let args = c.args in
+    let numbers = said_numbers args.input.now args.list.now args.area0.now args.area1.now
+    args.work.now _ _ _ c.read_table.ensures _ _ c.in-Numbers.is in
+    sym (numbers_few _ _ _ _ _ _ _ _ _ numbers).1
+
+pub open_list-requires : goal.open_list-requires
+open_list-requires c =
+    let args = c.args in
+    let numbers = said_numbers args.input.now args.list.now args.area0.now args.area1.now
+    args.work.now _ _ _ c.read_table.ensures _ _ c.in-Numbers.is in
+    let (a, b, w) = numbers_lengths _ _ _ _ _ _ _ _ _ numbers in
+    record {
+      area0_len = (a, b);
+      work_len = w;
+    }
+
+-- the table is read
+pub returns-in-Numbers : goal.returns-in-Numbers
+returns-in-Numbers c =
+    let args = c.args in
+    front_numbers args.input.now args.list.now args.area0.now args.area1.now args.work.now
+    _ _ _ c.read_table.ensures _ _ c.in-Numbers.is c.open_list.result _ _ _
+    c.open_list.ensures
+
+-- it is refused
+pub returns-in-Refused : goal.returns-in-Refused
+returns-in-Refused c =
+    let args = c.args in
+    front_declined args.input.now args.list.now args.area0.now args.area1.now args.work.now
+    _ _ _ c.read_table.ensures _ c.in-Refused.is _ _ _ _

@@ -1,0 +1,4 @@
+-- The laws of `specs/Progress.antt`, a file each. Assumes nothing.
+pub mod Laws
+pub mod Lists
+pub mod Tests
