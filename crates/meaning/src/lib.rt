@@ -2,4 +2,3 @@
 // theorems, no code. `specs/Lib.antt` lists the definitions in reading order, `specs/Claims.antt`
 // what is proved of them.
 #![tactic(auto)]
-
