@@ -25,10 +25,6 @@ turn-requires c =
       );
     }
 
-pub overflow_add-i : goal.overflow_add-i
-overflow_add-i c =
-    omega (arith, c.loop-i-test.true, c.well-formed.1.1.1.1.1.1.0.0)
-
 pub loop-i-preserved : goal.loop-i-preserved
 loop-i-preserved c =
     let turned = turned_after _ _ _ _ _ _ _ _ _ c.count-before.ensures c.turn.ensures in (
