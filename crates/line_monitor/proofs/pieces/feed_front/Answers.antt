@@ -1,0 +1,16 @@
+-- `line_monitor::pieces::feed_front` meets its contract, by what the front's events leave. Assumes nothing.
+use Rattle.line_monitor.specs.Report.Front.{front_goes, front_over}
+use Rattle.line_monitor.proofs.pieces.feed_front.Goals as goal
+
+pub returns-in-Going : goal.returns-in-Going
+returns-in-Going c =
+    let args = c.args in
+    front_goes args.list.now args.state args.area0.now args.area1.now args.events.now
+    args.work.now args.last _ _ _ _ c.take_piece.ensures _ c.in-Going.is _
+    c.large_buffer-piece.ensures c.follow.result c.follow.ensures
+
+pub returns-in-Over : goal.returns-in-Over
+returns-in-Over c =
+    let args = c.args in
+    front_over args.list.now args.state args.area0.now args.area1.now args.events.now
+    args.work.now args.last _ _ _ _ c.take_piece.ensures _ c.in-Over.is
