@@ -1,7 +1,7 @@
 // A line of the file: bytes of the input, what is lent, or the case with its stored line.
 //     new           what is lent to the first case
 //     take_line     what came of a line, and what is lent after it
-use crate::slots::slots_right;
+use crate::slot_words::slots_right;
 use crate::trial::{OpenKept, Stored, StoredLine, line_right};
 use cases::{Outcome, after, byte_at, outcome_of, put_bytes, take_numbers};
 

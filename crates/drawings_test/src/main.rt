@@ -7,7 +7,7 @@
 
 mod case;
 mod file;
-mod slots;
+mod slot_words;
 mod trial;
 
 use std::fs::File;
