@@ -6,10 +6,11 @@ ghost use Rattle.tracing.specs.Tracing.{Tracing};
 ghost use Rattle.saying.specs.Spoken.{said_of};
 ghost use Rattle.course_spec.specs.Course.{Rooms, ReadOn, AfterArrived};
 
-use course_spec::{Course, Told};
+use course_spec::{Course, Told, Trouble};
 use input::Arrived;
 use saying::Said;
 use state::State;
+use std::ops::ControlFlow;
 use turning::turn;
 
 // The events of a read, each judged and said before the next.
@@ -32,24 +33,17 @@ fn take_read(
 {
     let mut last = state;
     let mut spoken = said;
-    let mut i = 0;
-    while i < events.len() {
+    for e in events {
         let before = spoken.count();
-        match turn(
-            list, work, events[i], last, before, area0, area1, store, text,
-        ) {
-            Course::Going(next, now) => {
-                last = next;
-                spoken = now;
-                i += 1;
-            }
-            Course::Over(told) => return Course::Over(told),
-        }
+        let (next, newest) = turn(list, work, *e, last, before, area0, area1, store, text)?;
+        last = next;
+        spoken = newest;
     }
-    Course::Going(last, spoken)
+    ControlFlow::Continue((last, spoken))
 }
 
-// What one read brought into a piece: its events judged, or the end.
+// What one read brought into a piece: its events judged, or the end. The buffers stay parameters, as
+// of `turn`.
 pub fn after_arrived(
     list: &[u16],
     work: &[u64],
@@ -69,18 +63,21 @@ pub fn after_arrived(
         piece.now arrived result area0.new area1.new }
 {
     match arrived {
-        Arrived::Bytes(n) => take_read(
-            list,
-            work,
-            state,
-            said,
-            area0,
-            area1,
-            &piece[..n],
-            store,
-            text,
-        ),
-        Arrived::Ended(end) => Course::Over(Told::Ended(end, said)),
-        Arrived::Broken(failure) => Course::Over(Told::Unread(failure)),
+        // A nested pattern was tried: its facts did not close the goal.
+        Ok(came) => match came {
+            ControlFlow::Continue(n) => take_read(
+                list,
+                work,
+                state,
+                said,
+                area0,
+                area1,
+                &piece[..n],
+                store,
+                text,
+            ),
+            ControlFlow::Break(end) => ControlFlow::Break(Ok(Told::Ended(end, said))),
+        },
+        Err(failure) => ControlFlow::Break(Err(Trouble::Unread(failure))),
     }
 }

@@ -1,22 +1,24 @@
 // A file of test cases: what the test programs share.
-//     lines     the file's lines, one after the other
-//     text      the bytes and numbers of a line
-//     tally     groups of cases, and what is printed of them
-//     buffer    bytes and numbers put at a buffer's start
-//     lent      what lent buffers hold before a call, and whether they were kept or cleared
-//     digest    one number for all elements of a buffer
+//     file       the file, line by line, and the trial of each case
+//     tally      groups of cases, and what is printed of them
+//     words      the numbers of a line
+//     element    what lent buffers are made of: what they hold before a call, and their digest after it
+//     work       how a work area stands after a call
+//     answer     what is stored of a call: its result, or its refusal
 #![tactic(auto)]
 
-mod buffer;
-mod digest;
-mod lent;
-mod lines;
+mod answer;
+mod element;
+mod fault;
+mod file;
 mod tally;
-mod text;
+mod words;
+mod work;
 
-pub use buffer::{put_bytes, put_numbers};
-pub use digest::{digest_bytes, digest_numbers, digest_words};
-pub use lent::{fill_bytes, fill_numbers, fill_words, kept_numbers, kept_words, stands};
-pub use lines::{Lines, finish, first_line, next_line};
-pub use tally::{Outcome, Tally, count_line, new, outcome_of, take_comment};
-pub use text::{Numbers, after, after_mark, byte_at, take_numbers};
+pub use answer::{Answer, Refused, stored_answer};
+pub use element::{Element, digest, digest_more, fill, is_kept, lend};
+pub use fault::Fault;
+pub use file::{Trial, run};
+pub use tally::{Group, Outcome, Standing, Tally};
+pub use words::{answered, length, numbers, read_list, section};
+pub use work::stands;

@@ -7,234 +7,212 @@
 // part of a case stops the run: `malformed: line N`. What a line makes of a tally is defined in
 // `specs/Tally.antt`.
 ghost use Rattle.std.specs.Prelude.{◌≡◌};
-ghost use Rattle.cases.specs.Tally.{outcome_of, one_more, malformed_at, line_more, case_more};
-ghost use Rattle.cases.specs.Tally.{found_at, right_after, judged_as, case_counted, opened};
-ghost use Rattle.cases.specs.Tally.{counted_open, counted, ok_at};
+ghost use Rattle.cases.specs.Tally.{outcome_of, one_more, standing_after, case_counted, new_group};
+ghost use Rattle.cases.specs.Tally.{judged, opened, counted, line_more, refused, ok_at};
 
-use crate::text::starts_with;
-use std::io::{Result, Stdout};
+use std::io::Write;
+use std::{fmt, io};
 
-// What came of a line: a part of a case, a case that is right or wrong, or neither.
-#[derive(Drop)]
+// What came of a line: a part of a case, or a case that is right or wrong.
+#[derive(Clone, Copy, PartialEq, Eq, Debug)]
 pub enum Outcome {
     Part,
     Right,
     Wrong,
+}
+
+impl From<bool> for Outcome {
+    ghost from_gives = { λ right outcome. outcome ≡ outcome_of right };
+
+    fn from(right: bool) -> Outcome {
+        if right {
+            Outcome::Right
+        } else {
+            Outcome::Wrong
+        }
+    }
+}
+
+// Whether every case came out as its group says so far, or not, or a line was malformed.
+#[derive(Clone, Copy, PartialEq, Eq, Debug)]
+pub enum Standing {
+    AsDue,
+    Amiss,
     Malformed,
 }
 
-pub fn outcome_of(right: bool) -> Outcome
-    ensures { result ≡ outcome_of right }
-{
-    if right {
-        return Outcome::Right;
-    }
-    Outcome::Wrong
-}
-
-// Where the run stands: the lines that were read; whether a group has begun, and whether its
-// answers are wrong on purpose; how many cases it had, how many of them were wrong, and the first
-// of these, or 0; whether all came out as their groups say so far; whether the last line was
-// malformed.
+// A group: whether its answers are wrong on purpose, how many cases it had, how many of them were
+// wrong, and the first of these.
 #[derive(Clone, Copy)]
-pub struct Tally {
-    lines: u64,
-    begun: bool,
+pub struct Group {
     wrong: bool,
     cases: u64,
     found: u64,
-    first: u64,
-    right: bool,
-    malformed: bool,
+    first: Option<u64>,
 }
 
-pub fn new() -> Tally {
-    Tally {
-        lines: 0,
-        begun: false,
-        wrong: false,
-        cases: 0,
-        found: 0,
-        first: 0,
-        right: true,
-        malformed: false,
-    }
-}
-
-pub fn is_malformed(t: Tally) -> bool {
-    t.malformed
-}
-
-fn malformed(mut t: Tally) -> Tally
-    ensures { result ≡ malformed_at t }
-{
-    t.malformed = true;
-    t
+// Where the run stands: the lines that were read, the open group, and how all came out.
+#[derive(Clone, Copy)]
+pub struct Tally {
+    lines: u64,
+    group: Option<Group>,
+    standing: Standing,
 }
 
 // One more, as far as any file goes.
+#[tactic(auto, unfolding(crate::specs::Tally::one_more))]
 fn more(n: u64) -> u64
     ensures { result ≡ one_more n }
 {
     if n < 1000000000 { n + 1 } else { n }
 }
 
-fn next_line(mut t: Tally) -> Tally
-    ensures { result ≡ line_more t }
-{
-    t.lines = more(t.lines);
-    t
-}
-
-fn next_case(mut t: Tally) -> Tally
-    ensures { result ≡ case_more t }
-{
-    t.cases = more(t.cases);
-    t
-}
-
-// The last case was wrong.
-fn find(mut t: Tally) -> Tally
-    ensures { result ≡ found_at t }
-{
-    t.found = more(t.found);
-    if t.first == 0 {
-        t.first = t.cases;
+impl Standing {
+    // After a case that came out as its group says, or did not.
+    fn after(self, due: bool) -> Standing
+        ensures { result ≡ standing_after due self }
+    {
+        match self {
+            Standing::AsDue if !due => Standing::Amiss,
+            _ => self,
+        }
     }
-    t
 }
 
-// Whether all came out as its group says, after a case that was wrong or right in a group that is
-// wrong on purpose or is not.
-fn right_after(right: bool, purpose: bool, wrong: bool) -> bool
-    ensures { result ≡ right_after right purpose wrong }
-{
-    if purpose {
+impl Group {
+    fn new(wrong: bool) -> Group
+        ensures { result ≡ new_group wrong }
+    {
+        Group {
+            wrong,
+            cases: 0,
+            found: 0,
+            first: None,
+        }
+    }
+
+    // One case more, which was wrong or right.
+    fn count(mut self, wrong: bool) -> Group
+        ensures { result ≡ case_counted wrong self }
+    {
+        self.cases = more(self.cases);
         if wrong {
-            return right;
+            self.found = more(self.found);
+            self.first = Some(self.first.unwrap_or(self.cases));
         }
-        return false;
-    }
-    if wrong {
-        return false;
-    }
-    right
-}
-
-fn judge(mut t: Tally, wrong: bool) -> Tally
-    ensures { result ≡ judged_as wrong t }
-{
-    t.right = right_after(t.right, t.wrong, wrong);
-    t
-}
-
-// One case more, which was wrong or right.
-fn count_case(t: Tally, wrong: bool) -> Tally
-    ensures { result ≡ case_counted wrong t }
-{
-    let next = judge(next_case(t), wrong);
-    if wrong {
-        return find(next);
-    }
-    next
-}
-
-fn begin(mut t: Tally, wrong: bool) -> Tally
-    ensures { result ≡ opened wrong t }
-{
-    t.begun = true;
-    t.wrong = wrong;
-    t.cases = 0;
-    t.found = 0;
-    t.first = 0;
-    t
-}
-
-// One line of the group more.
-fn count_open(t: Tally, outcome: Outcome) -> Tally
-    ensures { result ≡ counted_open outcome t }
-{
-    match outcome {
-        Outcome::Part => t,
-        Outcome::Right => count_case(t, false),
-        Outcome::Wrong => count_case(t, true),
-        Outcome::Malformed => malformed(t),
+        self
     }
 }
 
-// A line that is no comment; before the first group there is none.
-pub fn count_line(before: Tally, outcome: Outcome) -> Tally
-    ensures { result ≡ counted outcome before }
-{
-    let t = next_line(before);
-    if before.begun {
-        return count_open(t, outcome);
-    }
-    malformed(t)
-}
-
-// The rest of the group's line.
-fn close(out: Stdout, t: Tally) -> Result<()> {
-    if !t.begun {
-        return Ok(());
-    }
-    let cases = t.cases;
-    let found = t.found;
-    let first = t.first;
-    if found == 0 {
-        println!(out; " {cases}")
-    } else {
-        println!(out; " {found} of {cases} wrong, first {first}")
-    }
-}
-
-// Closes a group, and opens the one that a line names.
-fn open_next(out: Stdout, line: &[u8], t: Tally, wrong: bool) -> Result<Tally> {
-    close(out, t)?;
-    let from = 8;
-    if from < line.len() {
-        out.write_all(&line[from..])?;
-    }
-    Ok(begin(t, wrong))
-}
-
-// A comment: `# group NAME` or `# wrong NAME`, or another.
-pub fn take_comment(out: Stdout, line: &[u8], before: Tally) -> Result<Tally> {
-    let t = next_line(before);
-    if starts_with(line, b"# group ") {
-        return open_next(out, line, t, false);
-    }
-    if starts_with(line, b"# wrong ") {
-        return open_next(out, line, t, true);
-    }
-    Ok(t)
-}
-
-// Whether every case came out as its group says; `read` says whether the file was read to its end.
-fn is_ok(t: Tally, read: bool) -> bool
-    ensures { result ≡ ok_at read t }
-{
-    if t.malformed {
-        return false;
-    }
-    if t.begun {
-        if t.right {
-            return read;
+impl fmt::Display for Group {
+    fn fmt<W: fmt::Write>(&self, f: &mut fmt::Formatter<W>) -> fmt::Result {
+        let cases = self.cases;
+        let found = self.found;
+        match self.first {
+            None => write!(f, "{cases}"),
+            Some(first) => write!(f, "{found} of {cases} wrong, first {first}"),
         }
-        return false;
     }
-    false
 }
 
-// The last lines.
-pub fn finish(out: Stdout, t: Tally, read: bool) -> Result<()> {
-    close(out, t)?;
-    if t.malformed {
-        let lines = t.lines;
-        println!(out; "malformed: line {lines}")?;
+impl Tally {
+    pub fn new() -> Tally {
+        Tally {
+            lines: 0,
+            group: None,
+            standing: Standing::AsDue,
+        }
     }
-    if is_ok(t, read) {
-        println!(out; "ok")?;
+
+    pub fn is_malformed(&self) -> bool {
+        matches!(self.standing, Standing::Malformed)
     }
-    Ok(())
+
+    fn next_line(&mut self)
+        ensures { self.new ≡ line_more self.old }
+    {
+        self.lines = more(self.lines);
+    }
+
+    fn judge(&mut self, group: Group, wrong: bool)
+        ensures { self.new ≡ judged wrong group self.old }
+    {
+        self.group = Some(group.count(wrong));
+        self.standing = self.standing.after(wrong == group.wrong);
+    }
+
+    // A line that is no comment; before the first group there is none.
+    #[tactic(auto, unfolding(crate::specs::Tally::counted))]
+    pub fn count(&mut self, outcome: Outcome)
+        ensures { self.new ≡ counted outcome self.old }
+    {
+        self.next_line();
+        match (self.group, outcome) {
+            (None, _) => self.standing = Standing::Malformed,
+            (Some(_), Outcome::Part) => {}
+            (Some(group), Outcome::Right) => self.judge(group, false),
+            (Some(group), Outcome::Wrong) => self.judge(group, true),
+        }
+    }
+
+    // A line that is neither a comment nor a part of a case.
+    pub fn refuse(&mut self)
+        ensures { self.new ≡ refused self.old }
+    {
+        self.next_line();
+        self.standing = Standing::Malformed;
+    }
+
+    fn open(&mut self, wrong: bool)
+        ensures { self.new ≡ opened wrong self.old }
+    {
+        self.group = Some(Group::new(wrong));
+    }
+
+    // The rest of the group's line.
+    fn close<R: Print>(&self, rt: &R) -> io::Result<()> {
+        match self.group {
+            None => Ok(()),
+            Some(group) => println!(rt; " {group}"),
+        }
+    }
+
+    // A comment: `# group NAME` or `# wrong NAME`, or another.
+    pub fn take_comment<R: Print>(&mut self, rt: &R, line: &[u8]) -> io::Result<()> {
+        self.next_line();
+        let (name, wrong) = if let Some(name) = line.strip_prefix(b"# group ") {
+            (name, false)
+        } else if let Some(name) = line.strip_prefix(b"# wrong ") {
+            (name, true)
+        } else {
+            return Ok(());
+        };
+        self.close(rt)?;
+        io::writer(rt).write_all(name)?;
+        self.open(wrong);
+        Ok(())
+    }
+
+    // Whether every case came out as its group says; `read` says whether the file was read to its end.
+    fn is_ok(&self, read: bool) -> bool
+        ensures { result ≡ ok_at read self.now }
+    {
+        match (self.group, self.standing) {
+            (Some(_), Standing::AsDue) => read,
+            _ => false,
+        }
+    }
+
+    // The last lines.
+    pub fn finish<R: Print>(&self, rt: &R, read: bool) -> io::Result<()> {
+        self.close(rt)?;
+        if self.is_malformed() {
+            let lines = self.lines;
+            println!(rt; "malformed: line {lines}")?;
+        }
+        if self.is_ok(read) {
+            println!(rt; "ok")?;
+        }
+        Ok(())
+    }
 }

@@ -3,46 +3,35 @@ ghost use Rattle.std.specs.Prelude.{◌≡◌, ◌+◌, ◌≤◌, length, take,
 ghost use Rattle.numbers.specs.Number.{list_bytes};
 ghost use Rattle.table_index.specs.Judging.{Decoding};
 
-use numbers::{Reading, Written};
+use numbers::{ReadError, Reading};
 
-// How many numbers were read, the place after them, and whether a number stands there that is not
-// well written.
-#[derive(Drop)]
+// How many numbers were read, the place after them, and why no number was read there.
+#[derive(Clone, Copy)]
 pub struct Decoded {
     pub count: usize,
     pub next: usize,
-    pub malformed: bool,
+    pub stop: ReadError,
 }
 
 // The numbers written in the bytes, up to the first that is not whole or not well written.
 pub fn decode(bytes: &[u8], out: &mut [u16]) -> Decoded
     requires { length bytes.now ≤ length out.old }
     ensures numbers { Decoding bytes.now (take result.count out.new)
-        result.next result.malformed }
+        result.next result.stop }
     ensures few { result.count ≤ length bytes.now }
 {
     let mut count = 0;
     let mut next = 0;
+    // no index: the next place is what reading gives
     loop {
         match numbers::read(bytes, next) {
-            Reading::Value { value, next: q } => {
+            Ok(Reading { value, next: q }) => {
                 out[count] = value;
                 count += 1;
                 next = q;
             }
-            Reading::Truncated => {
-                return Decoded {
-                    count,
-                    next,
-                    malformed: false,
-                };
-            }
-            Reading::Malformed => {
-                return Decoded {
-                    count,
-                    next,
-                    malformed: true,
-                };
+            Err(stop) => {
+                return Decoded { count, next, stop };
             }
         }
     }
@@ -56,16 +45,10 @@ pub fn encode(list: &[u16], out: &mut [u8])
         ++ drop (length (list_bytes list.now)) out.old }
 {
     let mut p = 0;
-    let mut i = 0;
-    while i < list.len() {
-        match numbers::write(out, p, list[i]) {
-            Written::Next(q) => {
-                p = q;
-                i += 1;
-            }
-            Written::Full => {
-                return;
-            }
-        }
+    for &n in list {
+        let Some(q) = numbers::write(out, p, n) else {
+            return;
+        };
+        p = q;
     }
 }

@@ -7,9 +7,5 @@ pub fn clear_numbers(numbers: &mut [u16], from: usize)
     ensures { numbers.new
         ≡ take from numbers.old ++ replicate (length numbers.old - from) 0 }
 {
-    let mut i = from;
-    while i < numbers.len() {
-        numbers[i] = 0;
-        i += 1;
-    }
+    numbers[from..].fill(0);
 }

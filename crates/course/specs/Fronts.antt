@@ -2,7 +2,7 @@
 --     opened_front, refused_front      what `open_trace` gave of it, through buffers of the right lengths
 --     says_started, says_refused       `open_front`
 -- Assumes nothing.
-use Rattle.std.specs.Prelude.{ℕ, ◌≡◌, List, [], take, drop}
+use Rattle.std.specs.Prelude.{ℕ, ◌≡◌, List, [], take, drop, Ok, Err}
 use Rattle.std.proofs.Math.Path.{ap, subst}
 use Rattle.std.proofs.Common.{sym}
 use Rattle.table_index.specs.Index.{table_in}
@@ -18,14 +18,11 @@ use Rattle.trace_spec.specs.Trace.{Beginning, declines, beginning_of, start_line
 use Rattle.trace_spec.proofs.Trace.Begun.{begins_out}
 use Rattle.tracing.specs.declared.answer.TraceLine.TheVariants.{Starts}
 use Rattle.tracing.specs.Answers.{trace_line_said}
-use Rattle.trace.specs.declared.answer.Opened.{Opened}
-use Rattle.trace.specs.declared.answer.Opened.TheVariants.{Started}
-use Rattle.trace.specs.declared.answer.Opened.TheVariants as opened
-use Rattle.trace.specs.Opening.{FrontOpened, FrontBy, TraceOpened}
+use Rattle.trace.specs.declared.answer.Started.{Started}
+use Rattle.trace.specs.Opening.{Opened, FrontOpened, FrontBy, TraceOpened}
 use Rattle.trace_front.specs.Wanted.{Fronts}
-use Rattle.course_spec.specs.declared.answer.Told.{Told}
 use Rattle.saying.specs.Spoken.{first_said}
-use Rattle.course_spec.specs.Course.{Followed, ToldRefusal, SaysBy, Says}
+use Rattle.course_spec.specs.Course.{Ending, Followed, ToldRefusal, SaysBy, Says}
 
 -- ---- what was opened
 
@@ -34,12 +31,11 @@ module _ (s l a b w : List ℕ) (fit : Lengths l a b w) (r : Opened) (l' a' b' w
   by_front : (x : Opened) → r ≡ x → FrontBy s x l' a' b' w'
   by_front x e = subst (λ (y : Opened). FrontBy s y l' a' b' w') e (o.fit (lent_in l a b w fit))
 
-  pub opened_front : (st : State) (bits : EventBits) (count place : ℕ) → r ≡ Started st bits count place
-      → FrontOpened s st bits count place l' a' b' w'
-  opened_front st bits count place e = by_front (Started st bits count place) e
+  pub opened_front : (y : Started) → r ≡ Ok y → FrontOpened s y.state y.permitted y.count y.next l' a' b' w'
+  opened_front y e = by_front (Ok y) e
 
-  pub refused_front : (q : Refusal) → r ≡ opened.Refused q → beginning_of s ≡ declines q.number q.place
-  refused_front q e = by_front (opened.Refused q) e
+  pub refused_front : (q : Refusal) → r ≡ Err q → beginning_of s ≡ declines q.number q.place
+  refused_front q e = by_front (Err q) e
 
 module _ (s : List ℕ) where
   module _ (fronts : Fronts s) (st : State) (bits : EventBits) (count place : ℕ) (l a b w : List ℕ)
@@ -53,7 +49,7 @@ module _ (s : List ℕ) where
     unfolding start_line
     first_line = ap (λ (v : offer.EventBits). starts (state_of st) v) x.permitted
 
-    pub says_started : (t : Told)
+    pub says_started : (t : Ending)
         → Followed (table_in (take count l)) (monitor_of st a b) (first_said (trace_line_said (Starts st bits))) t → Says s t
     unfolding SaysBy
     says_started t h =
@@ -62,7 +58,7 @@ module _ (s : List ℕ) where
           subst (λ (v : TraceLine). Followed (table_in (take count l)) (monitor_of st a b) (first_said v) t) first_line h,
         )
 
-  pub says_refused : (n p : ℕ) → beginning_of s ≡ declines n p → (c : ℕ) → c ≡ 0 → (t : Told) → ToldRefusal n p c t
+  pub says_refused : (n p : ℕ) → beginning_of s ≡ declines n p → (c : ℕ) → c ≡ 0 → (t : Ending) → ToldRefusal n p c t
       → Says s t
   unfolding SaysBy
   says_refused n p e c z t h =

@@ -11,20 +11,20 @@ ghost use Rattle.saying.specs.Spoken.{said_of, first_said};
 ghost use Rattle.course_spec.specs.Course.{Rooms, Followed, Says};
 
 use arrivals::after_arrived;
-use course_spec::{Course, Told};
+use course_spec::Ending;
 use feeding::STORE_WORDS;
-use input::Source;
-use saying::{Said, Saying, none, say};
+use saying::{Count, Said, say};
 use state::{EventBits, State};
-use std::io::Stdout;
-use trace::Opened;
+use std::io::{Stdin, Stdout};
+use std::ops::ControlFlow;
 use tracing::TraceLine;
 use turning::say_refusal;
 
 // Reads what arrives, and judges it, until the input ends or a refusal is said. Each read brings an
-// event at least, and no more than 2^64-1 events are taken: so the loop ends.
+// event at least, and no more than 2^64-1 events are taken: so the loop ends. The buffers stay
+// parameters, as of `turn`.
 fn follow(
-    source: &mut Source,
+    source: &mut Stdin,
     list: &[u16],
     work: &[u64],
     state: State,
@@ -34,7 +34,7 @@ fn follow(
     piece: &mut [u8],
     store: &mut [u64],
     text: &mut [u8],
-) -> Told
+) -> Ending
     requires tracing { Tracing list.now work.now (monitor_of state area0.old area1.old) }
     requires rooms { Rooms store.old text.old × (0 < length piece.old) }
     ensures { Followed (table_in list.now)
@@ -42,23 +42,25 @@ fn follow(
 {
     let mut last = state;
     let mut spoken = said;
+    // how many reads come is not known
     loop {
         let arrived = input::arrive(source, piece);
         match after_arrived(
             list, work, last, spoken, area0, area1, piece, arrived, store, text,
         ) {
-            Course::Going(next, newest) => {
+            ControlFlow::Continue((next, newest)) => {
                 last = next;
                 spoken = newest;
             }
-            Course::Over(told) => return told,
+            ControlFlow::Break(told) => return told,
         }
     }
 }
 
 // The line at the start, and then the events.
+#[tactic(auto, unfolding(course_spec::specs::Course::Followed))]
 fn begin(
-    source: &mut Source,
+    source: &mut Stdin,
     out: Stdout,
     list: &[u16],
     work: &[u64],
@@ -67,65 +69,65 @@ fn begin(
     area0: &mut [u64],
     area1: &mut [u64],
     text: &mut [u8],
-) -> Told
+) -> Ending
     requires tracing { Tracing list.now work.now (monitor_of state area0.old area1.old) }
     requires in_bounds { 2816 ≤ length text.old }
     ensures { Followed (table_in list.now)
         (monitor_of state area0.old area1.old)
         (first_said (trace_line_said (Starts state permitted))) result }
 {
-    match say(TraceLine::Starts(state, permitted), none(out), text) {
-        Saying::Written(said) => {
-            let mut store = [0u64; STORE_WORDS];
-            let mut piece = [0u8; 4096];
-            follow(
-                source, list, work, state, said, area0, area1, &mut piece, &mut store, text,
-            )
-        }
-        Saying::Failed(unsaid) => Told::Unwritten(unsaid),
-    }
+    let said = say(
+        TraceLine::Starts { state, permitted },
+        Count::none(out),
+        text,
+    )?;
+    let mut store = [0u64; STORE_WORDS];
+    let mut piece = [0u8; 4096];
+    follow(
+        source, list, work, state, said, area0, area1, &mut piece, &mut store, text,
+    )
 }
 
 // An input by its front, in which no event stands.
 fn open_front(
-    source: &mut Source,
+    source: &mut Stdin,
     out: Stdout,
     front: &[u8],
     list: &mut [u16],
     area0: &mut [u64],
     area1: &mut [u64],
     work: &mut [u64],
-) -> Told
+) -> Ending
     requires fronts { Fronts front.now }
     requires lengths { Lengths list.old area0.old area1.old work.old }
     ensures { Says front.now result }
 {
     let mut text = [0u8; 4096];
     match trace::open_trace(front, list, area0, area1, work) {
-        Opened::Started {
-            state,
-            permitted,
-            count,
-            next: _,
-        } => begin(
+        Ok(started) => begin(
             source,
             out,
-            &list[..count],
+            &list[..started.count],
             work,
-            state,
-            permitted,
+            started.state,
+            started.permitted,
             area0,
             area1,
             &mut text,
         ),
-        Opened::Refused(refusal) => {
-            say_refusal(refusal.number, refusal.place as u64, none(out), &mut text)
+        Err(refusal) => {
+            say_refusal(
+                refusal.number,
+                refusal.place as u64,
+                Count::none(out),
+                &mut text,
+            )
         }
     }
 }
 
 // What is told of an input by its front, in which no event stands.
-pub fn run(source: &mut Source, out: Stdout, front: &[u8]) -> Told
+pub fn run(source: &mut Stdin, out: Stdout, front: &[u8]) -> Ending
     requires { Fronts front.now }
     ensures { Says front.now result }
 {

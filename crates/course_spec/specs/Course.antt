@@ -1,5 +1,6 @@
 -- What the program says of an input (ours; docs/DECISIONS.md, "A line for each event, as it arrives"): the lines of its
 -- trace, each as soon as its event is read.
+--     Ending, Course           how an input came to its end; whether it has
 --     LastLine                 a line is the last of the trace of some bytes
 --     Rooms                    the lengths of the store and of the text's buffer
 --     WentOn, StopSaid, Turned     the promise of `turn`: of one event
@@ -12,7 +13,9 @@
 --     Says                     the promise of `open_front` and `run`: of an input, by its front
 -- A write that failed promises nothing: `Unsaid` is the evidence. The laws are in `Course/`: `Steps`, of some events;
 -- `Laws`, of the functions; those of the front in crate `course`. Assumes nothing.
-use Rattle.std.specs.Prelude.{ℕ, ◌+◌, ◌≤◌, ◌<◌, ◌≡◌, length, take}
+use Rattle.std.specs.Prelude.{ℕ, ◌+◌, ◌≤◌, ◌<◌, ◌≡◌, length, take, Result, Ok, Err}
+use Rattle.std.specs.declared.ops.ControlFlow.{ControlFlow}
+use Rattle.std.specs.declared.ops.ControlFlow.TheVariants.{Continue, Break}
 use mathlib.Core.List.{List, [], ◌∷◌, ◌++◌, flatten}
 use Rattle.table.specs.Table.{Table}
 use Rattle.table_index.specs.Index.{table_in}
@@ -22,8 +25,7 @@ use Rattle.state.specs.declared.answer.EventBits.{EventBits}
 use Rattle.state.specs.Record.{state_of, monitor_of}
 use Rattle.state.specs.Answers.{bits_of}
 use Rattle.line_spec.specs.Judged.{Took}
-use Rattle.input.specs.declared.reading.Arrived.{Arrived}
-use Rattle.input.specs.declared.reading.Arrived.TheVariants as came
+use Rattle.input.specs.Arrival.{Arrived}
 use Rattle.trace_spec.specs.TraceLine.{TraceLine, takes, refuses}
 use Rattle.trace_spec.specs.Trace.{Beginning, begins, declines, beginning_of, start_line, trace_of}
 use Rattle.trace_spec.specs.Reads.{at, reached_by}
@@ -31,12 +33,20 @@ use Rattle.feeding.specs.Feeding.{step_words}
 use Rattle.tracing.specs.Tracing.{Tracing, TracedOn, RefusedEvent}
 use Rattle.saying.specs.declared.print.Said.{Said}
 use Rattle.course_spec.specs.declared.answer.Told.{Told}
-use Rattle.course_spec.specs.declared.answer.Told.TheVariants.{Ended, Refused, Unread, Unwritten}
-use Rattle.course_spec.specs.declared.answer.Course.{Course}
-use Rattle.course_spec.specs.declared.answer.Course.TheVariants.{Going, Over}
+use Rattle.course_spec.specs.declared.answer.Told.TheVariants.{Ended, Refused}
+use Rattle.course_spec.specs.declared.answer.Trouble.{Trouble}
+use Rattle.course_spec.specs.declared.answer.Trouble.TheVariants.{Unread, Unwritten}
 use Rattle.saying.specs.Spoken.{said_line, Counted, Utterance, said_of, first_said}
 pub mod Steps
 pub mod Laws
+
+-- how an input came to its end, or why the program stopped before
+abbrev pub Ending : Type 0
+Ending = Result Told Trouble
+
+-- a monitor that goes on, with the last line that was said; or the end
+abbrev pub Course : Type 0
+Course = ControlFlow Ending (State × Said)
 
 pub record LastLine (s : List ℕ) (x : TraceLine) : Type 0 where
   pub before : List TraceLine
@@ -65,11 +75,11 @@ pub record StopSaid (l : List ℕ) (m : Monitor) (c e : ℕ) (x : Utterance) (a 
   pub count : Counted c 1 x.lines
 
 unfoldable pub Turned : List ℕ → List ℕ → Monitor → ℕ → ℕ → Course → List ℕ → List ℕ → Type 0
-Turned l w m c e (Going next y) a b = WentOn l w m c e next (said_of y) a b
-Turned l w m c e (Over (Refused y)) a b = StopSaid l m c e (said_of y) a b
-Turned l w m c e (Over (Unwritten u)) a b = Unit
-Turned l w m c e (Over (Ended end y)) a b = ⊥
-Turned l w m c e (Over (Unread f)) a b = ⊥
+Turned l w m c e (Continue (next, y)) a b = WentOn l w m c e next (said_of y) a b
+Turned l w m c e (Break (Ok (Refused y))) a b = StopSaid l m c e (said_of y) a b
+Turned l w m c e (Break (Err (Unwritten u))) a b = Unit
+Turned l w m c e (Break (Ok (Ended end y))) a b = ⊥
+Turned l w m c e (Break (Err (Unread f))) a b = ⊥
 
 -- ---- the events of a read
 
@@ -102,24 +112,24 @@ pub record RefusedIn (t : Table) (m : Monitor) (x : Utterance) (es : List ℕ) (
   pub each : LineEach t m before
   pub count : Counted x.lines (length before + 1) y.lines
 
-unfoldable pub ReadOver : Table → Monitor → Utterance → List ℕ → Told → Type 0
-ReadOver t m x es (Refused y) = RefusedIn t m x es (said_of y)
-ReadOver t m x es (Unwritten u) = Unit
-ReadOver t m x es (Ended end y) = ⊥
-ReadOver t m x es (Unread f) = ⊥
+unfoldable pub ReadOver : Table → Monitor → Utterance → List ℕ → Ending → Type 0
+ReadOver t m x es (Ok (Refused y)) = RefusedIn t m x es (said_of y)
+ReadOver t m x es (Err (Unwritten u)) = Unit
+ReadOver t m x es (Ok (Ended end y)) = ⊥
+ReadOver t m x es (Err (Unread f)) = ⊥
 
 unfoldable pub ReadOn : List ℕ → List ℕ → Monitor → Utterance → List ℕ → Course → List ℕ → List ℕ → Type 0
-ReadOn l w m x es (Going next y) a b =
+ReadOn l w m x es (Continue (next, y)) a b =
     Tracing l w (monitor_of next a b) × Onward (table_in l) m x es (monitor_of next a b) (said_of y)
-ReadOn l w m x es (Over told) a b = ReadOver (table_in l) m x es told
+ReadOn l w m x es (Break told) a b = ReadOver (table_in l) m x es told
 
 -- ---- what arrived
 
 -- so many bytes of the piece are the read's events; the end comes with the last line that was said
 unfoldable pub AfterArrived : List ℕ → List ℕ → Monitor → Said → List ℕ → Arrived → Course → List ℕ → List ℕ → Type 0
-AfterArrived l w m said piece (came.Bytes n) r a b = ReadOn l w m (said_of said) (take n piece) r a b
-AfterArrived l w m said piece (came.Ended end) r a b = r ≡ Over (Ended end said)
-AfterArrived l w m said piece (came.Broken f) r a b = r ≡ Over (Unread f)
+AfterArrived l w m said piece (Ok (Continue n)) r a b = ReadOn l w m (said_of said) (take n piece) r a b
+AfterArrived l w m said piece (Ok (Break end)) r a b = r ≡ Break (Ok (Ended end said))
+AfterArrived l w m said piece (Err f) r a b = r ≡ Break (Err (Unread f))
 
 -- ---- some reads
 
@@ -144,25 +154,25 @@ pub record RefusedAfter (t : Table) (m : Monitor) (x y : Utterance) : Type 0 whe
   pub some : EachSome reads
   pub refused : RefusedIn t m x (flatten reads) y
 
-unfoldable pub Followed : Table → Monitor → Utterance → Told → Type 0
-Followed t m x (Ended end y) = EndsAfter t m x (said_of y)
-Followed t m x (Refused y) = RefusedAfter t m x (said_of y)
-Followed t m x (Unread f) = Unit
-Followed t m x (Unwritten u) = Unit
+unfoldable pub Followed : Table → Monitor → Utterance → Ending → Type 0
+Followed t m x (Ok (Ended end y)) = EndsAfter t m x (said_of y)
+Followed t m x (Ok (Refused y)) = RefusedAfter t m x (said_of y)
+Followed t m x (Err (Unread f)) = Unit
+Followed t m x (Err (Unwritten u)) = Unit
 
 -- ---- the front
 
 -- after c lines
-abbrev pub ToldRefusal : ℕ → ℕ → ℕ → Told → Type 0
-ToldRefusal number place c (Ended end y) = ⊥
-ToldRefusal number place c (Refused y) = (said_line y ≡ refuses number place) × Counted c 1 y.count.lines
-ToldRefusal number place c (Unread f) = ⊥
-ToldRefusal number place c (Unwritten u) = Unit
+abbrev pub ToldRefusal : ℕ → ℕ → ℕ → Ending → Type 0
+ToldRefusal number place c (Ok (Ended end y)) = ⊥
+ToldRefusal number place c (Ok (Refused y)) = (said_line y ≡ refuses number place) × Counted c 1 y.count.lines
+ToldRefusal number place c (Err (Unread f)) = ⊥
+ToldRefusal number place c (Err (Unwritten u)) = Unit
 
 -- a refusal is said; a monitor is opened before any event, and from the line at the start on the input is followed
-unfoldable pub SaysBy : Beginning → Told → Type 0
+unfoldable pub SaysBy : Beginning → Ending → Type 0
 SaysBy (begins ns t m es) r = (es ≡ []) × Followed t m (first_said (start_line t m)) r
 SaysBy (declines number place) r = ToldRefusal number place 0 r
 
-abbrev pub Says : List ℕ → Told → Type 0
+abbrev pub Says : List ℕ → Ending → Type 0
 Says s r = SaysBy (beginning_of s) r

@@ -5,4 +5,4 @@
 
 mod answer;
 
-pub use answer::{Course, Told};
+pub use answer::{Course, Ending, Told, Trouble};

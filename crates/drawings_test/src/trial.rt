@@ -1,260 +1,161 @@
 // One input through crate `line`, at once and in pieces, held to its stored lines, and what `open`
-// keeps.
-//     line_right              all of it
-//     same, same_refusal      whether a line is the stored one
-ghost use Rattle.std.specs.Prelude.{◌≤◌, ◌<◌};
+// keeps; or by Read and Open, where it has fewer slots than the program.
+use crate::call::{StoredLine, by_parts, open, pieces, whole};
+use cases::{Fault, fill, is_kept, lend};
+use std::alloc::Global;
 
-use crate::case::Lent;
-use cases::{fill_numbers, fill_words, kept_numbers, kept_words};
-use line::{Course, Line, Opened};
-use monitor::State;
-use table::Refusal;
-
-// A stored line: 0 for running, 1 for failed, 2 for refused, and its two numbers.
-#[derive(Drop)]
-pub struct StoredLine {
-    pub kind: u64,
-    pub a: u64,
-    pub b: u64,
-}
-
-// Of each buffer, 1 if `open` keeps it as it was filled, else 0.
-#[derive(Drop)]
-pub struct OpenKept {
+// The lengths of the list, the areas and the work area of a case.
+#[derive(Clone, Copy)]
+pub struct Lengths {
     pub list: u64,
     pub area0: u64,
     pub area1: u64,
     pub work: u64,
 }
 
-// The line at once and in pieces, and what `open` keeps.
+// The program's own.
+pub const LENGTHS: Lengths = Lengths {
+    list: 16384,
+    area0: 4096,
+    area1: 4096,
+    work: 8192,
+};
+
+impl Lengths {
+    // Whether the file may ask for them.
+    fn are_lent(self) -> bool {
+        self.list <= 16500 && self.area0 <= 4200 && self.area1 <= 4200 && self.work <= 8300
+    }
+}
+
+// What is lent to a call.
 #[derive(Drop)]
-pub struct Stored {
-    pub whole: StoredLine,
-    pub pieces: StoredLine,
-    pub kept: OpenKept,
+pub struct Buffers {
+    list: Vec<u16>,
+    area0: Vec<u64>,
+    area1: Vec<u64>,
+    work: Vec<u64>,
 }
 
-fn is_stored(kind: u64, a: u64, b: u64, s: StoredLine) -> bool {
-    if kind != s.kind {
-        return false;
+impl Buffers {
+    pub fn new(alloc: Global) -> Buffers {
+        Buffers {
+            list: Vec::new(alloc),
+            area0: Vec::new(alloc),
+            area1: Vec::new(alloc),
+            work: Vec::new(alloc),
+        }
     }
-    if a != s.a {
-        return false;
-    }
-    b == s.b
-}
 
-pub fn same(line: Line, s: StoredLine) -> bool {
-    match line {
-        Line::Running(taken, count) => is_stored(0, taken, count, s),
-        Line::Failed(place, taken) => is_stored(1, place, taken, s),
-        Line::Refused(number, place) => is_stored(2, number as u64, place, s),
+    fn lend(&mut self, lengths: Lengths) -> Result<(), Fault> {
+        lend(&mut self.list, lengths.list as usize)?;
+        lend(&mut self.area0, lengths.area0 as usize)?;
+        lend(&mut self.area1, lengths.area1 as usize)?;
+        lend(&mut self.work, lengths.work as usize)?;
+        Ok(())
     }
-}
 
-pub fn same_refusal(r: Refusal, s: StoredLine) -> bool {
-    is_stored(2, r.number as u64, r.place as u64, s)
-}
+    fn fill(&mut self) {
+        fill(&mut self.list);
+        fill(&mut self.area0);
+        fill(&mut self.area1);
+        fill(&mut self.work);
+    }
 
-// Where the piece that begins at `at` ends.
-fn piece_end(at: usize, piece: u64, size: usize) -> usize
-    requires { at < size }
-    ensures { (at < result) × (result ≤ size) }
-{
-    let rest = size - at;
-    if piece == 0 {
-        return size;
+    fn whole(&mut self, input: &[u8]) -> StoredLine {
+        self.fill();
+        whole(
+            input,
+            &mut self.list,
+            &mut self.area0,
+            &mut self.area1,
+            &mut self.work,
+        )
     }
-    if (rest as u64) <= piece {
-        return size;
-    }
-    at + piece as usize
-}
 
-// The line after the events, piece by piece.
-fn in_pieces(
-    list: &[u16],
-    state: State,
-    area0: &mut [u64],
-    area1: &mut [u64],
-    events: &[u8],
-    work: &mut [u64],
-    piece: u64,
-) -> Line {
-    let mut last = state;
-    let mut at = 0;
-    while at < events.len() {
-        let end = piece_end(at, piece, events.len());
-        let course = line::resume(list, last, area0, area1, &events[at..end], work);
-        let Course::Going(next) = course else {
-            return over(course);
-        };
-        last = next;
-        at = end;
+    fn pieces(&mut self, input: &[u8], piece: usize) -> Option<StoredLine> {
+        self.fill();
+        pieces(
+            input,
+            piece,
+            &mut self.list,
+            &mut self.area0,
+            &mut self.area1,
+            &mut self.work,
+        )
     }
-    line::conclude(last)
-}
 
-fn over(course: Course) -> Line {
-    match course {
-        Course::Going(state) => line::conclude(state),
-        Course::Over(line) => line,
+    // Of each buffer, 1 if `open` keeps it as it was filled, else 0.
+    fn kept(&mut self, input: &[u8]) -> [u64; 4] {
+        self.fill();
+        open(
+            input,
+            &mut self.list,
+            &mut self.area0,
+            &mut self.area1,
+            &mut self.work,
+        );
+        [
+            u64::from(is_kept(&self.list)),
+            u64::from(is_kept(&self.area0)),
+            u64::from(is_kept(&self.area1)),
+            u64::from(is_kept(&self.work)),
+        ]
     }
-}
 
-// Whether a buffer was kept where it must be, and only there.
-fn is_due(kept: bool, due: u64) -> bool {
-    if kept { due == 1 } else { due == 0 }
-}
+    // `KIND A B KIND A B LIST AREA0 AREA1 WORK`
+    pub fn is_line(
+        &mut self,
+        input: &[u8],
+        piece: usize,
+        lengths: Lengths,
+        stored: [u64; 10],
+    ) -> Result<bool, Fault> {
+        if !lengths.are_lent() {
+            return Ok(false);
+        }
+        self.lend(lengths)?;
+        let [
+            kind,
+            a,
+            b,
+            kind_after,
+            a_after,
+            b_after,
+            list,
+            area0,
+            area1,
+            work,
+        ] = stored;
+        Ok(
+            self.whole(input) == [kind, a, b]
+                && self.pieces(input, piece) == Some([kind_after, a_after, b_after])
+                && self.kept(input) == [list, area0, area1, work],
+        )
+    }
 
-fn all_due(list: &[u16], area0: &[u64], area1: &[u64], work: &[u64], k: OpenKept) -> bool {
-    if !is_due(kept_numbers(list), k.list) {
-        return false;
+    // `KIND A B`, with areas of so many slots.
+    pub fn is_line_by_parts(
+        &mut self,
+        input: &[u8],
+        slots: u64,
+        stored: StoredLine,
+    ) -> Result<bool, Fault> {
+        if 255 < slots {
+            return Ok(false);
+        }
+        self.lend(Lengths {
+            area0: slots * 16,
+            area1: slots * 16,
+            ..LENGTHS
+        })?;
+        let line = by_parts(
+            input,
+            &mut self.list,
+            &mut self.area0,
+            &mut self.area1,
+            &mut self.work,
+        );
+        Ok(line == Some(stored))
     }
-    if !is_due(kept_words(area0), k.area0) {
-        return false;
-    }
-    if !is_due(kept_words(area1), k.area1) {
-        return false;
-    }
-    is_due(kept_words(work), k.work)
-}
-
-fn fill(list: &mut [u16], area0: &mut [u64], area1: &mut [u64], work: &mut [u64]) {
-    fill_numbers(list);
-    fill_words(area0);
-    fill_words(area1);
-    fill_words(work);
-}
-
-// The front of an input: as much of it as the program reads first.
-fn front_end(size: usize) -> usize
-    ensures { result ≤ size }
-{
-    if 16387 < size { 16387 } else { size }
-}
-
-// At once.
-fn whole_right(
-    input: &[u8],
-    list: &mut [u16],
-    area0: &mut [u64],
-    area1: &mut [u64],
-    work: &mut [u64],
-    s: StoredLine,
-) -> bool {
-    fill(list, area0, area1, work);
-    same(line::line(input, list, area0, area1, work), s)
-}
-
-// What `open` gives of the front, and then the pieces.
-fn open_right(
-    input: &[u8],
-    piece: u64,
-    list: &mut [u16],
-    area0: &mut [u64],
-    area1: &mut [u64],
-    work: &mut [u64],
-    s: StoredLine,
-) -> bool {
-    let n = front_end(input.len());
-    match line::open(&input[..n], list, area0, area1, work) {
-        Opened::Started { state, count, next } => same(
-            in_pieces(
-                &list[..count],
-                state,
-                area0,
-                area1,
-                &input[next..],
-                work,
-                piece,
-            ),
-            s,
-        ),
-        Opened::Refused(r) => same_refusal(r, s),
-    }
-}
-
-// In pieces.
-fn pieces_right(
-    input: &[u8],
-    piece: u64,
-    list: &mut [u16],
-    area0: &mut [u64],
-    area1: &mut [u64],
-    work: &mut [u64],
-    s: StoredLine,
-) -> bool {
-    fill(list, area0, area1, work);
-    open_right(input, piece, list, area0, area1, work, s)
-}
-
-// What `open` keeps.
-fn kept_right(
-    input: &[u8],
-    list: &mut [u16],
-    area0: &mut [u64],
-    area1: &mut [u64],
-    work: &mut [u64],
-    k: OpenKept,
-) -> bool {
-    fill(list, area0, area1, work);
-    let n = front_end(input.len());
-    line::open(&input[..n], list, area0, area1, work);
-    all_due(list, area0, area1, work, k)
-}
-
-// Each on buffers that hold something.
-fn all_right(
-    input: &[u8],
-    piece: u64,
-    list: &mut [u16],
-    area0: &mut [u64],
-    area1: &mut [u64],
-    work: &mut [u64],
-    s: Stored,
-) -> bool {
-    let whole = s.whole;
-    if !whole_right(input, list, area0, area1, work, whole) {
-        return false;
-    }
-    let pieces = s.pieces;
-    if !pieces_right(input, piece, list, area0, area1, work, pieces) {
-        return false;
-    }
-    let kept = s.kept;
-    kept_right(input, list, area0, area1, work, kept)
-}
-
-pub fn line_right(input: &[u8], piece: u64, l: Lent, s: Stored) -> bool {
-    let list_len = l.list;
-    let len0 = l.area0;
-    let len1 = l.area1;
-    let work_len = l.work;
-    if 16500 < list_len {
-        return false;
-    }
-    if 4200 < len0 {
-        return false;
-    }
-    if 4200 < len1 {
-        return false;
-    }
-    if 8300 < work_len {
-        return false;
-    }
-    let mut list = [0u16; 16500];
-    let mut area0 = [0u64; 4200];
-    let mut area1 = [0u64; 4200];
-    let mut work = [0u64; 8300];
-    all_right(
-        input,
-        piece,
-        &mut list[..list_len],
-        &mut area0[..len0],
-        &mut area1[..len1],
-        &mut work[..work_len],
-        s,
-    )
 }

@@ -3,12 +3,13 @@
 -- The laws are in `Entered/Laws.antt`. Assumes nothing.
 use Rattle.std.specs.Prelude.{ℕ, ◌≡◌, List}
 use Rattle.table_index.specs.Index.{table_in, Indexed}
-use Rattle.table.specs.declared.answer.Judged.{Judged}
-use Rattle.table.specs.declared.answer.Judged.TheVariants.{Accepted, Declined}
+use Rattle.std.specs.declared.result.Result.{Result}
+use Rattle.table.specs.declared.answer.Refusal.{Refusal}
+use Rattle.std.specs.declared.result.Result.TheVariants.{Ok, Err}
 use Rattle.monitor_spec.specs.Entering.{Entrance, shut, admits}
 pub mod Laws
 
 -- of the number list l, with the words w in the work area
-unfoldable pub Entered : Entrance → List ℕ → Judged → List ℕ → Type 0
-Entered e l Accepted w = (e ≡ admits (table_in l)) × Indexed l w
-Entered e l (Declined r) w = e ≡ shut r.number r.place w
+unfoldable pub Entered : Entrance → List ℕ → Result Unit Refusal → List ℕ → Type 0
+Entered e l (Ok _) w = (e ≡ admits (table_in l)) × Indexed l w
+Entered e l (Err r) w = e ≡ shut r.number r.place w

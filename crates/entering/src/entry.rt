@@ -7,16 +7,17 @@ ghost use Rattle.monitor_spec.specs.Entering.{entrance, entrance_on};
 ghost use Rattle.state.specs.Record.{monitor_of};
 ghost use Rattle.entering.specs.Entered.{Entered};
 
+use index::IndexedTable;
 use state::{State, clear_all, consistent, lengths_fit};
-use table::{Judged, Refusal};
+use table::Refusal;
 
 // Refusal 1, where the lengths of lent areas are not right or the work area's is not; then 2 to 9.
-pub fn enter(list: &[u16], lent: bool, work: &mut [u64]) -> Judged
+pub fn enter(list: &[u16], lent: bool, work: &mut [u64]) -> Result<(), Refusal>
     ensures { Entered (entrance (lent && work_measured work.old) list.now
         work.old) list.now result work.new }
 {
     if !lent {
-        return Judged::Declined(Refusal {
+        return Err(Refusal {
             number: 1,
             place: 0,
         });
@@ -31,22 +32,23 @@ pub fn enter_on(
     area0: &[u64],
     area1: &[u64],
     work: &mut [u64],
-) -> Judged
+) -> Result<(), Refusal>
     ensures { Entered (entrance_on list.now
         (monitor_of state area0.now area1.now) work.old)
         list.now result work.new }
 {
     match enter(list, lengths_fit(area0.len(), area1.len()), work) {
-        Judged::Accepted => {
-            if consistent(list, work, state, area0, area1) {
-                return Judged::Accepted;
+        Ok(()) => {
+            let table = IndexedTable { list, work };
+            if consistent(&table, state, area0, area1) {
+                return Ok(());
             }
             clear_all(work);
-            Judged::Declined(Refusal {
+            Err(Refusal {
                 number: 10,
                 place: 0,
             })
         }
-        Judged::Declined(refusal) => Judged::Declined(refusal),
+        Err(refusal) => Err(refusal),
     }
 }

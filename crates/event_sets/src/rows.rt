@@ -6,7 +6,7 @@ ghost use Rattle.table_index.specs.Layout.{rows_most};
 ghost use Rattle.table_index.specs.Index.{first_word, second_word};
 ghost use Rattle.table_index.specs.Parse.{row_stored, RowRead, RowsRead, SetRead, SetsRead};
 
-use table::{Place, Refusal, Row, SetEnd, bounds};
+use table::{Refusal, Row, SetEnd, bounds, number_at};
 use table_index::layout;
 
 // What an event adds to the first word of its row.
@@ -32,19 +32,13 @@ fn high_bit(e: u16) -> u64
 }
 
 // The row at a place: a count, then that many events, strictly ascending.
-pub fn read_row(list: &[u16], alphabet: u16, at: usize) -> Row
+pub fn read_row(list: &[u16], alphabet: u16, at: usize) -> Result<Row, Refusal>
     requires { (alphabet ≤ alphabet_most) × (at ≤ length list.now) }
     ensures { RowRead list.now alphabet at result }
 {
-    if list.len() <= at {
-        return Row::NoRow(Refusal {
-            number: 3,
-            place: list.len(),
-        });
-    }
-    let count = list[at];
+    let count = number_at(list, at)?;
     if alphabet < count {
-        return Row::NoRow(Refusal {
+        return Err(Refusal {
             number: 5,
             place: at,
         });
@@ -52,24 +46,17 @@ pub fn read_row(list: &[u16], alphabet: u16, at: usize) -> Row
     let mut low = 0;
     let mut high = 0;
     let mut least = 0;
-    let mut j = 0;
     let mut p = at + 1;
-    while j < count {
-        if list.len() <= p {
-            return Row::NoRow(Refusal {
-                number: 3,
-                place: list.len(),
-            });
-        }
-        let e = list[p];
+    for j in 0..count {
+        let e = number_at(list, p)?;
         if e < least {
-            return Row::NoRow(Refusal {
+            return Err(Refusal {
                 number: 5,
                 place: p,
             });
         }
         if alphabet <= e {
-            return Row::NoRow(Refusal {
+            return Err(Refusal {
                 number: 5,
                 place: p,
             });
@@ -78,9 +65,8 @@ pub fn read_row(list: &[u16], alphabet: u16, at: usize) -> Row
         high += high_bit(e);
         least = e + 1;
         p += 1;
-        j += 1;
     }
-    Row::Mask { low, high, next: p }
+    Ok(Row { low, high, next: p })
 }
 
 // Stores the words of a row.
@@ -102,28 +88,20 @@ fn read_rows(
     count: usize,
     at: usize,
     row: usize,
-) -> Place
+) -> Result<usize, Refusal>
     requires alphabet_le_alphabet_most { (alphabet ≤ alphabet_most) × (at ≤ length list.now) }
     requires count_bound { (row + count ≤ rows_most) × (length work.old ≡ 8192) }
     requires rows_fit { RowsFit alphabet (row + count) }
     ensures { RowsRead list.now alphabet count at row work.old work.new
         result }
 {
-    let mut j = 0;
     let mut p = at;
-    while j < count {
-        match read_row(list, alphabet, p) {
-            Row::Mask { low, high, next } => {
-                store_row(work, alphabet, row + j, low, high);
-                p = next;
-                j += 1;
-            }
-            Row::NoRow(r) => {
-                return Place::Stop(r);
-            }
-        }
+    for j in 0..count {
+        let read = read_row(list, alphabet, p)?;
+        store_row(work, alphabet, row + j, read.low, read.high);
+        p = read.next;
     }
-    Place::At(p)
+    Ok(p)
 }
 
 // How many rows a set has: one, or one for each event.
@@ -144,67 +122,59 @@ fn rows_over(alphabet: u16, rows: usize) -> bool
 }
 
 // The set at a place, its rows stored from row `row` on.
-fn read_set(list: &[u16], work: &mut [u64], alphabet: u16, at: usize, row: usize) -> SetEnd
+fn read_set(
+    list: &[u16],
+    work: &mut [u64],
+    alphabet: u16,
+    at: usize,
+    row: usize,
+) -> Result<SetEnd, Refusal>
     requires le_alphabet { (1 ≤ alphabet) × (alphabet ≤ alphabet_most) × (at ≤ length list.now) }
     requires row_le_rows_most { (row ≤ rows_most) × (length work.old ≡ 8192) }
     requires large_above_bound { alphabet ≤ large_above → row + large_above ≤ rows_most }
     ensures { SetRead list.now alphabet at row work.old work.new result }
 {
-    if list.len() <= at {
-        return SetEnd::NoSet(Refusal {
-            number: 3,
-            place: list.len(),
-        });
-    }
-    let kind = list[at];
+    let kind = number_at(list, at)?;
     if 1 < kind {
-        return SetEnd::NoSet(Refusal {
+        return Err(Refusal {
             number: 5,
             place: at,
         });
     }
     let count = rows_of(kind, alphabet);
     if rows_over(alphabet, row + count) {
-        return SetEnd::NoSet(Refusal {
+        return Err(Refusal {
             number: 5,
             place: at,
         });
     }
-    match read_rows(list, work, alphabet, count, at + 1, row) {
-        Place::At(next) => SetEnd::NextSet {
-            next,
-            kind: kind as u64,
-            row: row + count,
-        },
-        Place::Stop(r) => SetEnd::NoSet(r),
-    }
+    let next = read_rows(list, work, alphabet, count, at + 1, row)?;
+    Ok(SetEnd {
+        next,
+        kind: u64::from(kind),
+        row: row + count,
+    })
 }
 
 // So many sets: their rows from row 0 on, and their words.
-pub fn read_sets(list: &[u16], work: &mut [u64], alphabet: u16, count: usize, at: usize) -> Place
+pub fn read_sets(
+    list: &[u16],
+    work: &mut [u64],
+    alphabet: u16,
+    count: usize,
+    at: usize,
+) -> Result<usize, Refusal>
     requires le_alphabet { (1 ≤ alphabet) × (alphabet ≤ alphabet_most) × (at ≤ length list.now) }
     requires count_bound { (count ≤ 64) × (length work.old ≡ 8192) }
     ensures { SetsRead list.now alphabet count at work.old work.new result }
 {
-    let mut s = 0;
     let mut p = at;
     let mut row = 0;
-    while s < count {
-        match read_set(list, work, alphabet, p, row) {
-            SetEnd::NextSet {
-                next,
-                kind,
-                row: end,
-            } => {
-                work[layout::SETS_AT + s] = row as u64 * 2 + kind;
-                p = next;
-                row = end;
-                s += 1;
-            }
-            SetEnd::NoSet(r) => {
-                return Place::Stop(r);
-            }
-        }
+    for s in 0..count {
+        let set = read_set(list, work, alphabet, p, row)?;
+        work[layout::SETS_AT + s] = row as u64 * 2 + set.kind;
+        p = set.next;
+        row = set.row;
     }
-    Place::At(p)
+    Ok(p)
 }

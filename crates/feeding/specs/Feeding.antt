@@ -8,7 +8,7 @@ use Rattle.table.specs.Operations.{zeros}
 use Rattle.monitor_spec.specs.State.{Monitor}
 use Rattle.monitor_spec.specs.Fold.{through}
 use Rattle.monitor_spec.specs.Feed.{take_event, ending_of}
-use Rattle.state.specs.declared.answer.Answer.{Answer}
+use Rattle.state.specs.Answers.{Answer}
 use Rattle.state.specs.Answers.{outcome}
 pub use Rattle.taking.specs.Taking.{step_words, Standing, TakenBy}
 unfoldable pub use Rattle.taking.specs.Taking.{Empty}

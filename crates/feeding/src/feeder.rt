@@ -1,7 +1,7 @@
 // Feed (document 01, "Operations", "When the monitor declines"): what it comes to is `feed_of` of
 // crate monitor_spec.
-ghost use Rattle.std.specs.Prelude.{◌≡◌, ◌≤◌, min, max, length};
-ghost use Rattle.table_index.specs.Index.{table_in, Indexed};
+ghost use Rattle.std.specs.Prelude.{◌≡◌, ◌≤◌, length};
+ghost use Rattle.index.specs.Handle.{table_of};
 ghost use Rattle.monitor_spec.specs.Feed.{feed_of};
 ghost use Rattle.leaf_memo.specs.Memo.{StoreOf};
 ghost use Rattle.state.specs.Record.{monitor_of};
@@ -12,28 +12,22 @@ ghost use Rattle.feeding.specs.Feeding.{EndedBy};
 ghost use Rattle.feeding.specs.Alone.{alone_to};
 
 use entering::enter_on;
+use index::IndexedTable;
 use long_runs::take_long;
 use set_step::STORE_WORDS;
-use state::{Answer, State, clear_all};
-use table::Judged;
+use state::{Answer, Declined, State, clear_all};
 use taking::{Run, take_each};
 
 // So many events of a call are taken one after the other, whatever the table.
 const FIRST_EVENTS: usize = 8;
 
-// A number, at most `high` and at least `low`.
-fn clamp(n: usize, low: usize, high: usize) -> usize
-    requires { low ≤ high }
-    ensures { result ≡ max low (min n high) }
-{
-    if n <= low {
-        return low;
-    }
-    if high <= n {
-        return high;
-    }
-    n
-}
+// With fewer than so many residuals, events are taken one after the other up to the one place, else
+// up to the other, before a set is kept.
+const MANY_RESIDUALS: u64 = 32;
+
+const ALONE_WITH_FEW: usize = 112;
+
+const ALONE_WITH_MANY: usize = 32;
 
 // The place up to which events are taken one after the other before a set is kept: from one place
 // on of so many events, where there are so many residuals, and where steps are long or not.
@@ -44,17 +38,16 @@ fn alone(from: usize, length: usize, count: u64, long: bool) -> usize
     if long {
         return from;
     }
-    if count < 32 {
-        return clamp(112, from, length);
+    if count < MANY_RESIDUALS {
+        return from.max(ALONE_WITH_FEW.min(length));
     }
-    clamp(32, from, length)
+    from.max(ALONE_WITH_MANY.min(length))
 }
 
 // Takes the events from a place on, all of them. Where the store keeps results of a leaf, a
 // residual was met that goes the general way: steps take long, so that learning pays at once.
 fn take_rest(
-    list: &[u16],
-    work: &[u64],
+    table: &IndexedTable<'_>,
     state: State,
     area0: &mut [u64],
     area1: &mut [u64],
@@ -62,22 +55,21 @@ fn take_rest(
     from: usize,
     store: &mut [u64],
 ) -> Answer
-    requires indexed { Indexed list.now work.now }
-    requires standing { Standing (table_in list.now) (monitor_of state area0.old area1.old) }
+    requires standing { Standing (table_of table.now) (monitor_of state area0.old area1.old) }
     requires from_in_bounds { from ≤ length events.now }
-    requires store_of { StoreOf (table_in list.now) store.old }
-    ensures { EndedFrom (table_in list.now)
+    requires store_of { StoreOf (table_of table.now) store.old }
+    ensures { EndedFrom (table_of table.now)
         (monitor_of state area0.old area1.old) events.now from
         result area0.new area1.new }
 {
     let to = alone(from, events.len(), state.count, set_step::keeps_some(store));
-    match take_each(list, work, state, area0, area1, events, from, to, store) {
+    match take_each(table, state, area0, area1, events, from, to, store) {
         Run::Ended(answer) => answer,
         Run::Left(reached, i) => {
             if events.len() <= i {
-                return Answer::Given(reached);
+                return Ok(reached);
             }
-            take_long(list, work, reached, area0, area1, events, i, store)
+            take_long(table, reached, area0, area1, events, i, store)
         }
     }
 }
@@ -85,28 +77,26 @@ fn take_rest(
 // Takes the events from the first, until one is refused, where the table's index stands in the work
 // area: the run of an operation that is entered, without a judging. A store of zeros keeps nothing.
 pub fn take_all(
-    list: &[u16],
-    work: &[u64],
+    table: &IndexedTable<'_>,
     state: State,
     area0: &mut [u64],
     area1: &mut [u64],
     events: &[u8],
 ) -> Answer
-    requires indexed { Indexed list.now work.now }
-    requires standing { Standing (table_in list.now) (monitor_of state area0.old area1.old) }
-    ensures { EndedBy (table_in list.now)
+    requires standing { Standing (table_of table.now) (monitor_of state area0.old area1.old) }
+    ensures { EndedBy (table_of table.now)
         (monitor_of state area0.old area1.old) events.now
         result area0.new area1.new }
 {
     let mut store = [0u64; STORE_WORDS];
-    let to = clamp(FIRST_EVENTS, 0, events.len());
-    match take_each(list, work, state, area0, area1, events, 0, to, &mut store) {
+    let to = FIRST_EVENTS.min(events.len());
+    match take_each(table, state, area0, area1, events, 0, to, &mut store) {
         Run::Ended(answer) => answer,
         Run::Left(reached, i) => {
             if events.len() <= i {
-                return Answer::Given(reached);
+                return Ok(reached);
             }
-            take_rest(list, work, reached, area0, area1, events, i, &mut store)
+            take_rest(table, reached, area0, area1, events, i, &mut store)
         }
     }
 }
@@ -126,11 +116,12 @@ pub fn feed(
         events.now work.old }
 {
     match enter_on(list, state, area0, area1, work) {
-        Judged::Accepted => {
-            let answer = take_all(list, work, state, area0, area1, events);
+        Ok(()) => {
+            let table = IndexedTable { list, work };
+            let answer = take_all(&table, state, area0, area1, events);
             clear_all(work);
             answer
         }
-        Judged::Declined(refusal) => Answer::Refused(refusal),
+        Err(refusal) => Err(Declined::Refused(refusal)),
     }
 }

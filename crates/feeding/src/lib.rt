@@ -6,4 +6,4 @@ mod feeder;
 
 pub use feeder::{feed, take_all};
 pub use set_step::STORE_WORDS;
-pub use taking::{Taken, take_anew};
+pub use taking::take_anew;

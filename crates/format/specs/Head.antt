@@ -3,9 +3,9 @@
 --     PartsAt, HeadIs          the parts of an input by their places; an answer that says what a head is
 --     HeadSaid, CutSaid        the promises of `head` and `cut`
 -- The laws are in `Head/Laws.antt`. Assumes nothing.
-use Rattle.std.specs.Prelude.{ℕ, ◌-◌, ◌≤◌, ◌≡◌, List, length, take, drop}
-use Rattle.format.specs.declared.answer.Head as head
-use Rattle.format.specs.declared.answer.Head.TheVariants.{Parts, Wrong}
+use Rattle.std.specs.Prelude.{ℕ, ◌-◌, ◌≤◌, ◌≡◌, List, length, take, drop, Result, Ok, Err}
+use Rattle.std.specs.declared.ops.Range.{Range}
+use Rattle.table.specs.declared.answer.Refusal.{Refusal}
 use Rattle.line_spec.specs.Line.{Head, parts, wrong, cut, head_of}
 pub mod Laws
 
@@ -15,13 +15,13 @@ pub record PartsAt (h : Head) (s : List ℕ) (a b : ℕ) : Type 0 where
   pub order : a ≤ b
   pub within : b ≤ length s
 
-abbrev pub HeadIs : Head → List ℕ → head.Head → Type 0
-HeadIs h s (Parts a b) = PartsAt h s a b
-HeadIs h s (Wrong q) = h ≡ wrong q.number q.place
+abbrev pub HeadIs : Head → List ℕ → Result (Range ℕ) Refusal → Type 0
+HeadIs h s (Ok r) = PartsAt h s r.start r.end
+HeadIs h s (Err q) = h ≡ wrong q.number q.place
 
-abbrev pub HeadSaid : List ℕ → head.Head → Type 0
+abbrev pub HeadSaid : List ℕ → Result (Range ℕ) Refusal → Type 0
 HeadSaid s r = HeadIs (head_of s) s r
 
 -- of any input of that size, whose length number v ends at a place
-abbrev pub CutSaid : ℕ → ℕ → ℕ → head.Head → Type 0
+abbrev pub CutSaid : ℕ → ℕ → ℕ → Result (Range ℕ) Refusal → Type 0
 CutSaid size v next r = (s : List ℕ) → length s ≡ size → HeadIs (cut v (drop next s)) s r

@@ -3,42 +3,44 @@
 ghost use Rattle.std.specs.Prelude.{◌≤◌};
 ghost use Rattle.format.specs.Head.{CutSaid, HeadSaid};
 
-use crate::answer::Head;
-use numbers::Reading;
+use numbers::{ReadError, Reading};
+use std::ops::Range;
 use table::Refusal;
 
-// The parts of an input of so many bytes, whose length number is `value` and ends at `next`.
-fn cut(size: usize, value: usize, next: usize) -> Head
+// Where the table bytes are, in an input of so many bytes whose length number is `value` and ends
+// at `next`.
+fn cut(size: usize, value: usize, next: usize) -> Result<Range<usize>, Refusal>
     requires { next ≤ size }
     ensures { CutSaid size value next result }
 {
     if 16384 < value {
-        return Head::Wrong(Refusal {
+        return Err(Refusal {
             number: 2,
             place: 0,
         });
     }
     let rest = size - next;
     if rest < value {
-        return Head::Wrong(Refusal {
+        return Err(Refusal {
             number: 3,
             place: rest,
         });
     }
-    Head::Parts(next, next + value)
+    Ok(next..next + value)
 }
 
-// Where the table bytes of an input begin and end, or what is wrong with its length number.
-pub fn head(input: &[u8]) -> Head
+// Where the table bytes of an input are, at whose end its events begin; or what is wrong with its
+// length number, or that the input ends within the table.
+pub fn head(input: &[u8]) -> Result<Range<usize>, Refusal>
     ensures { HeadSaid input.now result }
 {
     match numbers::read(input, 0) {
-        Reading::Value { value, next } => cut(input.len(), value as usize, next),
-        Reading::Truncated => Head::Wrong(Refusal {
+        Ok(Reading { value, next }) => cut(input.len(), value as usize, next),
+        Err(ReadError::Truncated) => Err(Refusal {
             number: 3,
             place: 0,
         }),
-        Reading::Malformed => Head::Wrong(Refusal {
+        Err(ReadError::Malformed) => Err(Refusal {
             number: 4,
             place: 0,
         }),

@@ -12,7 +12,7 @@ mod header;
 mod lines;
 mod text;
 
-pub use answer::{Head, Line};
+pub use answer::Line;
 pub use header::head;
 pub use lines::{conclude, refused};
 pub use text::{Text, text_of};

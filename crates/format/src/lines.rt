@@ -13,16 +13,22 @@ use table::Refusal;
 pub fn refused(refusal: Refusal) -> Line
     ensures { line_said result ≡ refusedAt refusal.number refusal.place }
 {
-    Line::Refused(refusal.number, refusal.place as u64)
+    Line::Refused {
+        number: refusal.number,
+        place: refusal.place as u64,
+    }
 }
 
 // The line of a monitor where the input ends.
 pub fn conclude(state: State) -> Line
     ensures { line_said result ≡ state_line (state_of state) }
 {
-    let verdict = state.verdict;
-    match verdict {
-        Verdict::Running => Line::Running(state.taken, state.count),
-        Verdict::Failed(place) => Line::Failed(place, state.taken),
+    let taken = state.taken;
+    match state.verdict {
+        Verdict::Running => Line::Running {
+            taken,
+            residuals: state.count,
+        },
+        Verdict::Failed(place) => Line::Failed { place, taken },
     }
 }

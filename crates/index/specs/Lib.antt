@@ -2,3 +2,5 @@
 -- Assumes nothing.
 pub mod Rows
 pub mod Facts
+pub mod Code
+pub mod Handle

@@ -1,17 +1,22 @@
 // What one read leaves of a buffer: of one that is being filled, and of one that is read into once.
-//     Part, Failure, Filled     what a filled buffer holds
-//     after_read                by what `read` answered
-//     End, Arrived              what one read brought
-//     after_arrival             by what `read` answered
+//     Part, Failure     what a filled buffer holds; that a read failed
+//     after_read        by what `read` answered
+//     End, Arrived      the end of the input; what one read brought
+//     after_arrival     by what `read` answered
 ghost use Rattle.std.specs.Prelude.{◌≤◌, ◌≡◌};
 ghost use Rattle.input.specs.Reading.{after_read};
 ghost use Rattle.input.specs.Arrival.{after_arrival};
+
+use std::fmt::Display;
+use std::ops::ControlFlow;
+use std::{fmt, io};
 
 // The first `count` bytes of a buffer are the input's. They are its last, or the buffer is full.
 // Only `after_read` makes one: no other code can say that an input ended.
 #[derive(Clone, Copy)]
 pub struct Part {
     count: usize,
+    // A flag: it is handed on as one, and the variants of an enum could be made by any code.
     last: bool,
 }
 
@@ -29,78 +34,67 @@ impl Part {
     }
 }
 
-// A read failed. Only `after_read` and `after_arrival` make one.
+// A read failed, and then nothing of the buffer is to be judged. Only `after_read` and
+// `after_arrival` make one.
 #[derive(Drop)]
 pub struct Failure {
-    failed: bool,
+    error: io::Error,
 }
 
-// What a buffer holds; or that a read failed, and then nothing of it is to be judged.
-#[derive(Drop)]
-pub enum Filled {
-    Bytes(Part),
-    Broken(Failure),
+// The message that the input could not be read.
+impl Display for Failure {
+    fn fmt<W: fmt::Write>(&self, f: &mut fmt::Formatter<W>) -> fmt::Result {
+        write!(f, "standard input: {}", self.error)
+    }
 }
 
-// So many bytes stand, and there is room for more; or the buffer is not read into any more.
-#[derive(Drop)]
-pub enum Read {
-    More(usize),
-    Done(Filled),
-}
-
-// Into a buffer of that size, of which n bytes stood, a read answered `got`.
-pub fn after_read(size: usize, n: usize, got: isize) -> Read
+// Into a buffer of that size, of which n bytes stood, a read answered `got`: so many bytes stand,
+// and there is room for more; or the buffer is not read into any more.
+#[tactic(auto, unfolding(crate::specs::Reading::after_read))]
+pub fn after_read(
+    size: usize,
+    n: usize,
+    got: io::Result<usize>,
+) -> Result<ControlFlow<Part, usize>, Failure>
     requires { n ≤ size }
     ensures { result ≡ after_read size n got }
 {
-    if got < 0 {
-        return Read::Done(Filled::Broken(Failure { failed: true }));
-    }
-    let more = got as usize;
+    let more = got.map_err(|error| Failure { error })?;
     if size - n <= more {
-        return Read::Done(Filled::Bytes(Part {
+        return Ok(ControlFlow::Break(Part {
             count: size,
             last: false,
         }));
     }
     if more == 0 {
-        return Read::Done(Filled::Bytes(Part {
+        return Ok(ControlFlow::Break(Part {
             count: n,
             last: true,
         }));
     }
-    let next = n + more;
-    Read::More(next)
+    Ok(ControlFlow::Continue(n + more))
 }
 
 // The input ended. Only `after_arrival` makes one.
 #[derive(Drop)]
 pub struct End {
-    ended: bool,
+    seal: (),
 }
 
-// What one read brought: so many bytes; or the end of the input, or a failure.
-#[derive(Drop)]
-pub enum Arrived {
-    Bytes(usize),
-    Ended(End),
-    Broken(Failure),
-}
+// What one read brought: so many bytes, or the end of the input; or a failure.
+pub type Arrived = Result<ControlFlow<End, usize>, Failure>;
 
 // Into a buffer of that size a read answered `got`. An empty buffer tells nothing of the input.
-pub fn after_arrival(size: usize, got: isize) -> Arrived
+#[tactic(auto, unfolding(crate::specs::Arrival::after_arrival))]
+pub fn after_arrival(size: usize, got: io::Result<usize>) -> Arrived
     ensures { result ≡ after_arrival size got }
 {
-    if got < 0 {
-        return Arrived::Broken(Failure { failed: true });
+    let came = got.map_err(|error| Failure { error })?;
+    if size <= came {
+        return Ok(ControlFlow::Continue(size));
     }
-    let more = got as usize;
-    if size <= more {
-        return Arrived::Bytes(size);
+    if came == 0 {
+        return Ok(ControlFlow::Break(End { seal: () }));
     }
-    if more == 0 {
-        return Arrived::Ended(End { ended: true });
-    }
-    Arrived::Bytes(more)
+    Ok(ControlFlow::Continue(came))
 }

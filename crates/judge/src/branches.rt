@@ -8,7 +8,7 @@ ghost use Rattle.table_index.specs.Filling.{BranchesAsked, BranchesGiven, FillAs
 ghost use Rattle.table_index.specs.Filling.{BranchesFilled, AllAsked, AllDone};
 ghost use Rattle.table_index.specs.Filling.{ExcessAsked, exceeds};
 
-use table::First;
+use table::Kind;
 use table_index::layout;
 
 // a + b, or 257 where that is more than 256
@@ -51,28 +51,28 @@ fn branches_at(list: &[u16], work: &[u64], n: usize) -> u64
     ensures { BranchesGiven (table_in list.now) work.now n result }
 {
     let w = work[layout::TERMS_AT + n];
-    let kind = w % layout::KINDS;
-    match kind {
-        0 | 2 => 1,
-        1 => 0,
-        3 => sum_capped(
+    match Kind::of(w % layout::KINDS) {
+        Some(Kind::Stop) => 1,
+        Some(Kind::Fail) => 0,
+        Some(Kind::Prefix) => 1,
+        Some(Kind::Choice) => sum_capped(
             work[layout::TERMS_AT + n + 1] / layout::BRANCHES_UNIT % layout::BRANCH_COUNTS,
             work[layout::TERMS_AT + (w / layout::RIGHT_UNIT % layout::RIGHTS) as usize]
                 / layout::BRANCHES_UNIT
                 % layout::BRANCH_COUNTS,
         ),
-        4 => product_capped(
+        Some(Kind::Parallel) => product_capped(
             work[layout::TERMS_AT + n + 1] / layout::BRANCHES_UNIT % layout::BRANCH_COUNTS,
             work[layout::TERMS_AT + (w / layout::RIGHT_UNIT % layout::RIGHTS) as usize]
                 / layout::BRANCHES_UNIT
                 % layout::BRANCH_COUNTS,
         ),
-        5 => {
+        Some(Kind::Call) => {
             let d = (w / layout::TARGET_UNIT % layout::TARGETS) as usize;
             let root = work[layout::BODIES_AT + d] as usize;
             work[layout::TERMS_AT + root] / layout::BRANCHES_UNIT % layout::BRANCH_COUNTS
         }
-        6..=18446744073709551615 => 0,
+        None => 0,
     }
 }
 
@@ -83,6 +83,7 @@ fn fill_branches(list: &[u16], work: &mut [u64], from: usize, to: usize)
         to }
 {
     let mut n = to;
+    // Down from `to`, since a term needs the terms after it: a `for` over `rev()` is no plainer.
     while from < n {
         n -= 1;
         let branches = branches_at(list, work, n);
@@ -100,12 +101,10 @@ fn fill_all_branches(list: &[u16], work: &mut [u64])
 {
     let definitions = work[layout::DEFINITION_COUNT_AT] as usize;
     let terms = work[layout::TERM_COUNT_AT] as usize;
-    let mut d = 0;
-    while d < definitions {
+    for d in 0..definitions {
         let root = work[layout::BODIES_AT + d] as usize;
         let end = work[layout::BODIES_AT + d + 1] as usize;
         fill_branches(list, work, root, end);
-        d += 1;
     }
     fill_branches(list, work, 0, terms);
 }
@@ -124,7 +123,7 @@ fn excess_at(list: &[u16], work: &[u64], n: usize) -> bool
 }
 
 // The lowest body or follower with more than 256 branches; the branches of all terms are stored.
-pub fn first_excess(list: &[u16], work: &mut [u64]) -> First
+pub fn first_excess(list: &[u16], work: &mut [u64]) -> Option<usize>
     requires judging { Judging list.now work.old }
     requires list_value { first_wrong (table_in list.now) ≡ none }
     requires reaching { Reaching (table_in list.now) work.old }
@@ -132,12 +131,10 @@ pub fn first_excess(list: &[u16], work: &mut [u64]) -> First
 {
     fill_all_branches(list, work);
     let terms = work[layout::TERM_COUNT_AT] as usize;
-    let mut n = 0;
-    while n < terms {
+    for n in 0..terms {
         if excess_at(list, work, n) {
-            return First::Broken(n);
+            return Some(n);
         }
-        n += 1;
     }
-    First::Nowhere
+    None
 }

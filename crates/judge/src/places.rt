@@ -8,10 +8,8 @@ pub fn byte_place(list: &[u16], i: usize) -> usize
     ensures { result ≡ byte_place list.now i }
 {
     let mut n = 0;
-    let mut j = 0;
-    while j < i {
-        n += numbers::byte_count(list[j]);
-        j += 1;
+    for &x in &list[..i] {
+        n += numbers::byte_count(x);
     }
     n
 }

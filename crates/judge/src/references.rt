@@ -9,7 +9,7 @@ ghost use Rattle.table_index.specs.Index.{table_in};
 ghost use Rattle.table_index.specs.Index.Heads.{head_length, heads_before};
 ghost use Rattle.table_index.specs.Judging.{Judging, first_of};
 
-use table::First;
+use table::Kind;
 use table_index::layout;
 
 // Whether the call with this word keeps the rules.
@@ -41,7 +41,7 @@ fn call_fits(list: &[u16], work: &[u64], w: u64) -> bool
 
 // The place of the number at which term n breaks a rule on references. Before its kind stand p
 // numbers, and the levels of the definitions up to its own.
-fn bad_reference(list: &[u16], work: &[u64], n: usize, p: usize) -> First
+fn bad_reference(list: &[u16], work: &[u64], n: usize, p: usize) -> Option<usize>
     requires judging { Judging list.now work.now }
     requires n_bound { n < term_count (table_in list.now) }
     requires p_value { p ≡ heads_before (table_in list.now) n }
@@ -49,17 +49,17 @@ fn bad_reference(list: &[u16], work: &[u64], n: usize, p: usize) -> First
 {
     let w = work[layout::TERMS_AT + n];
     let at = p + (w / layout::OWN_UNIT % layout::OWNS) as usize + 1;
-    if w % layout::KINDS == 5 {
+    if w % layout::KINDS == Kind::Call.number() {
         if call_fits(list, work, w) {
-            return First::Nowhere;
+            return None;
         }
-        return First::Broken(at + 1);
+        return Some(at + 1);
     }
     let parameter = w / layout::PARAMETER_UNIT % layout::PARAMETERS;
     if parameter <= w / layout::PREFIXES_UNIT % layout::PREFIX_COUNTS {
-        return First::Nowhere;
+        return None;
     }
-    First::Broken(at + 2)
+    Some(at + 2)
 }
 
 // How many numbers term n has before those of the terms in it.
@@ -72,34 +72,29 @@ fn head_length(list: &[u16], work: &[u64], n: usize) -> usize
     if 0 < w / layout::PARAMETER_UNIT % layout::PARAMETERS {
         return 3;
     }
-    let kind = w % layout::KINDS;
-    if kind < 2 {
-        return 1;
+    match Kind::of(w % layout::KINDS) {
+        Some(Kind::Stop) => 1,
+        Some(Kind::Fail) => 1,
+        Some(Kind::Prefix) => 2,
+        Some(Kind::Choice) => 1,
+        Some(Kind::Parallel) => 2,
+        Some(Kind::Call) => 2,
+        None => 2,
     }
-    if kind == 3 {
-        return 1;
-    }
-    2
 }
 
 // The leftmost such number.
-pub fn first_bad_reference(list: &[u16], work: &[u64]) -> First
+pub fn first_bad_reference(list: &[u16], work: &[u64]) -> Option<usize>
     requires { Judging list.now work.now }
     ensures { result ≡ first_of (first_wrong (table_in list.now)) }
 {
     let terms = work[layout::TERM_COUNT_AT] as usize;
     let mut p = work[layout::START_AT] as usize;
-    let mut n = 0;
-    while n < terms {
-        match bad_reference(list, work, n, p) {
-            First::Nowhere => {
-                p += head_length(list, work, n);
-                n += 1;
-            }
-            First::Broken(at) => {
-                return First::Broken(at);
-            }
+    for n in 0..terms {
+        if let Some(at) = bad_reference(list, work, n, p) {
+            return Some(at);
         }
+        p += head_length(list, work, n);
     }
-    First::Nowhere
+    None
 }

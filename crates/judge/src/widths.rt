@@ -7,7 +7,7 @@ ghost use Rattle.table_index.specs.Judging.{Judging, WideDone};
 ghost use Rattle.table_index.specs.Filling.{stored_call, WidthAsked, WidthGiven, WidthsAsked};
 ghost use Rattle.table_index.specs.Filling.{WidthsFilled, LevelAsked, BodyDone, LevelDone};
 
-use table::First;
+use table::Kind;
 use table_index::layout;
 
 fn larger(a: u64, b: u64) -> u64
@@ -35,24 +35,24 @@ fn width_at(list: &[u16], work: &[u64], n: usize, level: u64) -> u64
     ensures { WidthGiven (table_in list.now) work.now n level result }
 {
     let w = work[layout::TERMS_AT + n];
-    let kind = w % layout::KINDS;
     let right = (w / layout::RIGHT_UNIT % layout::RIGHTS) as usize;
-    match kind {
-        0 | 1 => 1,
-        2 => work[layout::TERMS_AT + n + 1] / layout::WIDTH_UNIT,
-        3 => larger(
+    match Kind::of(w % layout::KINDS) {
+        Some(Kind::Stop) => 1,
+        Some(Kind::Fail) => 1,
+        Some(Kind::Prefix) => work[layout::TERMS_AT + n + 1] / layout::WIDTH_UNIT,
+        Some(Kind::Choice) => larger(
             work[layout::TERMS_AT + n + 1] / layout::WIDTH_UNIT,
             work[layout::TERMS_AT + right] / layout::WIDTH_UNIT,
         ),
-        4 => {
+        Some(Kind::Parallel) => {
             work[layout::TERMS_AT + n + 1] / layout::WIDTH_UNIT
                 + work[layout::TERMS_AT + right] / layout::WIDTH_UNIT
         }
-        5 => {
+        Some(Kind::Call) => {
             let d = w / layout::TARGET_UNIT % layout::TARGETS;
             call_width(list, work, d as usize, level)
         }
-        6..=18446744073709551615 => 0,
+        None => 0,
     }
 }
 
@@ -63,6 +63,7 @@ fn fill_widths(list: &[u16], work: &mut [u64], from: usize, to: usize, level: u6
         level }
 {
     let mut n = to;
+    // Down from `to`, since a term needs the terms after it: a `for` over `rev()` is no plainer.
     while from < n {
         n -= 1;
         let width = width_at(list, work, n, level);
@@ -95,31 +96,27 @@ fn level_width(list: &[u16], work: &mut [u64], level: u64) -> u64
 {
     let definitions = work[layout::DEFINITION_COUNT_AT] as usize;
     let mut widest = 0;
-    let mut d = 0;
-    while d < definitions {
+    for d in 0..definitions {
         widest = larger(widest, body_width(list, work, d, level));
-        d += 1;
     }
     widest
 }
 
 // The lowest level wider than 8; else the widths of all levels are stored, and the reach of all
 // terms.
-pub fn first_wide_level(list: &[u16], work: &mut [u64]) -> First
+pub fn first_wide_level(list: &[u16], work: &mut [u64]) -> Option<usize>
     requires judging { Judging list.now work.old }
     requires list_value { first_wrong (table_in list.now) ≡ none }
     ensures { WideDone list.now work.new result }
 {
-    let mut level = 0;
-    while level < 8 {
+    for level in 0..8 {
         let w = level_width(list, work, level);
         if 8 < w {
-            return First::Broken(level as usize);
+            return Some(level as usize);
         }
         work[layout::WIDTHS_AT + level as usize] = w;
-        level += 1;
     }
     let terms = work[layout::TERM_COUNT_AT] as usize;
     fill_widths(list, work, 0, terms, 8);
-    First::Nowhere
+    None
 }

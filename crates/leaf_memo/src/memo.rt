@@ -48,11 +48,7 @@ pub fn copy_part(store: &mut [u64], p: usize, q: usize)
     ensures { Copied store.old store.new p q }
 {
     let n = store[p] as usize;
-    let mut j = 0;
-    while j <= n {
-        store[q + j] = store[p + j];
-        j += 1;
-    }
+    store.copy_within(p..p + n + 1, q);
 }
 
 // Keeps the results of a leaf and an event, which stand from `at` on, in the entry at p, where they
@@ -75,10 +71,8 @@ pub fn forget(store: &mut [u64])
     requires { length store.old ≡ store_words }
     ensures { (t : Table) → StoreOf t store.new }
 {
-    let mut i = 0;
-    while i < ENTRY_COUNT {
+    for i in 0..ENTRY_COUNT {
         store[layout::MEMO_AT + i * ENTRY_WORDS + 1] = 0;
-        i += 1;
     }
 }
 
@@ -87,12 +81,10 @@ pub fn keeps_some(store: &[u64]) -> bool
     requires { length store.now ≡ store_words }
     ensures { KeepsBy store.now result }
 {
-    let mut j = 0;
-    while j < ENTRY_COUNT {
+    for j in 0..ENTRY_COUNT {
         if 0 < store[layout::MEMO_AT + j * ENTRY_WORDS + 1] {
             return true;
         }
-        j += 1;
     }
     false
 }

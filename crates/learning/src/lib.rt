@@ -4,4 +4,4 @@
 
 mod learner;
 
-pub use learner::{Turn, learn};
+pub use learner::learn;

@@ -4,7 +4,7 @@
 // head and the end in `format`.
 //     line                    a whole input
 //     open, resume, conclude  its front, each piece after it, its end
-//     after_piece             a course where the input ended, or did not
+//     after_piece             what comes after a piece, where the input ended or did not
 //     take_piece              `resume` on a piece, and then `after_piece`
 //     head                    where the table and the events of an input are
 //     read_table              its head and its table, read into a lent list
@@ -14,9 +14,9 @@ mod answer;
 mod opener;
 mod whole;
 
-pub use answer::Opened;
-pub use format::{Head, Line, conclude, head};
+pub use answer::Started;
+pub use format::{Line, conclude, head};
 pub use opener::open;
-pub use resuming::{Course, after_piece, resume, take_piece};
+pub use resuming::{after_piece, resume, take_piece};
 pub use table_reading::{TableRead, read_table};
 pub use whole::line;

@@ -4,9 +4,10 @@ ghost use Rattle.line_spec.specs.Line.{fresh_on};
 ghost use Rattle.line_spec.specs.Opening.{started_on, open_input_of as open_of};
 ghost use Rattle.line.specs.Answers.{open_said};
 
-use crate::answer::Opened;
-use state::Answer;
-use table_reading::{TableRead, read_table};
+use crate::answer::Started;
+use state::Declined;
+use table::Refusal;
+use table_reading::read_table;
 
 // Opens a monitor on a list of so many numbers, with no event; its events begin at `next`.
 fn open_list(
@@ -15,7 +16,7 @@ fn open_list(
     area0: &mut [u64],
     area1: &mut [u64],
     work: &mut [u64],
-) -> Opened
+) -> Result<Started, Refusal>
     ensures { open_said result list.now area0.new area1.new
         work.new
         ≡ started_on (length list.now) next list.now
@@ -23,13 +24,13 @@ fn open_list(
         work.old) }
 {
     match opening::open(list, area0, area1, &[], work) {
-        Answer::Given(state) => Opened::Started {
+        Ok(state) => Ok(Started {
             state,
             count: list.len(),
             next,
-        },
-        Answer::Refused(refusal) => Opened::Refused(refusal),
-        Answer::Stopped(refusal, _) => Opened::Refused(refusal),
+        }),
+        Err(Declined::Refused(refusal)) => Err(refusal),
+        Err(Declined::Stopped(refusal, _)) => Err(refusal),
     }
 }
 
@@ -41,14 +42,14 @@ pub fn open(
     area0: &mut [u64],
     area1: &mut [u64],
     work: &mut [u64],
-) -> Opened
+) -> Result<Started, Refusal>
     ensures { open_said result list.new area0.new area1.new
         work.new
         ≡ open_of input.now list.old area0.old
         area1.old work.old }
 {
     match read_table(input, list, area0, area1, work) {
-        TableRead::Numbers { count, next } => open_list(&list[..count], next, area0, area1, work),
-        TableRead::Refused(refusal) => Opened::Refused(refusal),
+        Ok(read) => open_list(&list[..read.count], read.next, area0, area1, work),
+        Err(refusal) => Err(refusal),
     }
 }

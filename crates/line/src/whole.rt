@@ -4,11 +4,11 @@ ghost use Rattle.state.specs.Record.{monitor_of};
 ghost use Rattle.line_spec.specs.Whole.{finish_of, whole_of};
 ghost use Rattle.line.specs.Answers.{whole_said};
 
-use crate::answer::Opened;
 use crate::opener::open;
 use format::{Line, conclude, refused};
-use resuming::{Course, resume};
+use resuming::resume;
 use state::State;
+use std::ops::ControlFlow;
 
 // The line of a started monitor on all of its events.
 fn finish(
@@ -26,8 +26,8 @@ fn finish(
         events.now work.old }
 {
     match resume(list, state, area0, area1, events, work) {
-        Course::Going(last) => conclude(last),
-        Course::Over(line) => line,
+        ControlFlow::Continue(last) => conclude(last),
+        ControlFlow::Break(line) => line,
     }
 }
 
@@ -45,9 +45,14 @@ pub fn line(
         area1.old work.old }
 {
     match open(input, list, area0, area1, work) {
-        Opened::Started { state, count, next } => {
-            finish(&list[..count], state, area0, area1, &input[next..], work)
-        }
-        Opened::Refused(refusal) => refused(refusal),
+        Ok(started) => finish(
+            &list[..started.count],
+            started.state,
+            area0,
+            area1,
+            &input[started.next..],
+            work,
+        ),
+        Err(refusal) => refused(refusal),
     }
 }

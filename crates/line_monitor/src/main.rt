@@ -9,19 +9,17 @@
 mod pieces;
 mod print;
 
-use input::{Filled, Source};
-use pieces::Report;
 use std::io::Result;
 
 fn main(rt: HostRuntime) -> Result<()> {
-    let mut source = Source::new(rt.stdin());
+    let mut source = rt.stdin();
     let mut front = [0u8; 16387];
     let part = match input::fill(&mut source, &mut front) {
-        Filled::Bytes(part) => part,
-        Filled::Broken(failure) => return input::fail(&source, rt.stderr(), failure),
+        Ok(part) => part,
+        Err(failure) => return eprintln!(rt; "{failure}"),
     };
     match pieces::run(&mut source, &front, part) {
-        Report::Line(line) => print::say(rt.stdout(), rt.stderr(), line),
-        Report::Broken(failure) => input::fail(&source, rt.stderr(), failure),
+        Ok(line) => print::say(rt.stdout(), rt.stderr(), line),
+        Err(failure) => eprintln!(rt; "{failure}"),
     }
 }

@@ -4,9 +4,7 @@ use std::io::{Result, Stderr, Stdout};
 
 pub fn say(out: Stdout, messages: Stderr, line: Line) -> Result<()> {
     let text = format::text_of(line);
-    let bytes = text.bytes;
-    let n = text.count;
-    match out.write_all(&bytes[..n]) {
+    match out.write_all(text.as_bytes()) {
         Ok(()) => Ok(()),
         Err(error) => eprintln!(messages; "standard output: {error}"),
     }

@@ -2,12 +2,14 @@
 // is given up (docs/DECISIONS.md, "When a call keeps the sets that it meets, and when it gives that
 // up").
 ghost use Rattle.std.specs.Prelude.{◌≡◌, ◌≤◌, ◌<◌, length};
-ghost use Rattle.table_index.specs.Index.{table_in, Indexed};
+ghost use Rattle.index.specs.Handle.{table_of};
 ghost use Rattle.leaf_memo.specs.Memo.{StoreOf};
 ghost use Rattle.state.specs.Record.{monitor_of};
 ghost use Rattle.taking.specs.Taking.{Standing};
 ghost use Rattle.taking.specs.Runs.{EndedFrom, RunBy};
 
+use index::IndexedTable;
+use met_sets::MetSets;
 use set_runs::take_kept;
 use state::{Answer, State};
 use taking::{Run, take_each};
@@ -27,11 +29,8 @@ fn further(i: usize, length: usize) -> usize
 // Takes the events from one place on: over the sets met, and where that is given up, one after the
 // other up to another place.
 fn take_stretch(
-    list: &[u16],
-    work: &[u64],
-    sets: &mut [u64],
-    starts: &mut [usize],
-    next: &mut [u8],
+    table: &IndexedTable<'_>,
+    sets: &mut MetSets,
     state: State,
     area0: &mut [u64],
     area1: &mut [u64],
@@ -40,31 +39,23 @@ fn take_stretch(
     to: usize,
     store: &mut [u64],
 ) -> Run
-    requires indexed { Indexed list.now work.now }
-    requires standing { Standing (table_in list.now) (monitor_of state area0.old area1.old) }
-    requires sets_len { (length sets.old ≡ 1664) × (length starts.old ≡ 64)
-        × (length next.old ≡ 2560) }
+    requires standing { Standing (table_of table.now) (monitor_of state area0.old area1.old) }
     requires from_in_bounds { (from ≤ length events.now) × (to ≤ length events.now) }
-    requires store_of { StoreOf (table_in list.now) store.old }
-    ensures { RunBy (table_in list.now)
+    requires store_of { StoreOf (table_of table.now) store.old }
+    ensures { RunBy (table_of table.now)
         (monitor_of state area0.old area1.old) events.now from to
         result area0.new area1.new
-        × StoreOf (table_in list.now) store.new }
+        × StoreOf (table_of table.now) store.new }
 {
-    match take_kept(
-        list, work, sets, starts, next, state, area0, area1, events, from, store,
-    ) {
+    match take_kept(table, sets, state, area0, area1, events, from, store) {
         Run::Ended(answer) => Run::Ended(answer),
-        Run::Left(reached, i) => {
-            take_each(list, work, reached, area0, area1, events, i, to, store)
-        }
+        Run::Left(reached, i) => { take_each(table, reached, area0, area1, events, i, to, store) }
     }
 }
 
 // Takes the events from a place on, all of them, stretch by stretch.
 pub fn take_long(
-    list: &[u16],
-    work: &[u64],
+    table: &IndexedTable<'_>,
     state: State,
     area0: &mut [u64],
     area1: &mut [u64],
@@ -72,34 +63,21 @@ pub fn take_long(
     from: usize,
     store: &mut [u64],
 ) -> Answer
-    requires indexed { Indexed list.now work.now }
-    requires standing { Standing (table_in list.now) (monitor_of state area0.old area1.old) }
+    requires standing { Standing (table_of table.now) (monitor_of state area0.old area1.old) }
     requires from_in_bounds { from ≤ length events.now }
-    requires store_of { StoreOf (table_in list.now) store.old }
-    ensures { EndedFrom (table_in list.now)
+    requires store_of { StoreOf (table_of table.now) store.old }
+    ensures { EndedFrom (table_of table.now)
         (monitor_of state area0.old area1.old) events.now from
         result area0.new area1.new }
 {
-    let mut sets = [0u64; 1664];
-    let mut starts = [0usize; 64];
-    let mut next = [0u8; 2560];
+    let mut sets = MetSets::new();
     let mut reached = state;
     let mut i = from;
+    // no index: a stretch says where the next begins
     while i < events.len() {
         let to = further(i, events.len());
         match take_stretch(
-            list,
-            work,
-            &mut sets,
-            &mut starts,
-            &mut next,
-            reached,
-            area0,
-            area1,
-            events,
-            i,
-            to,
-            store,
+            table, &mut sets, reached, area0, area1, events, i, to, store,
         ) {
             Run::Ended(answer) => {
                 return answer;
@@ -110,5 +88,5 @@ pub fn take_long(
             }
         }
     }
-    Answer::Given(reached)
+    Ok(reached)
 }

@@ -7,19 +7,17 @@
 -- Assumes nothing.
 use Prim.Native.Nat.{ℕ, zero, suc, ◌+◌, ◌-◌, ◌*◌, ◌≤◌, ◌<◌}
 use native.Mathlib.Omega.{arith}
-use Rattle.std.specs.Prelude.{◌≡◌, List, length, get_or, drop}
-use Rattle.std.proofs.Math.Path.{refl, sym}
-use Rattle.std.proofs.Common.{◌∙◌, subst, drop_of_length-le}
+use Rattle.std.specs.Prelude.{◌≡◌, List, length, get_or, drop, Option, Some, None}
+use Rattle.std.proofs.Math.Path.{refl, sym, ap}
+use Rattle.std.proofs.Common.{◌∙◌, drop_of_length-le}
 use borrow.Author.Tests.{le-ltb, lt-ltb, le-leb, lt-leb, eq-eqb, ne_eqb}
 use Rattle.numbers.specs.Number.{Scan, value, truncated, malformed, carry, later, scan_with, limit_of}
 use Rattle.numbers.specs.Number.Groups.{limit_zero, limit_suc, limit_some}
 use Rattle.numbers.specs.Number.Extent.{Found, ReadsAt, scan_at}
 use Rattle.numbers.specs.Position.Reads.{drop_head}
-use Rattle.lot_book.specs.declared.number.Number.{Number}
-use Rattle.lot_book.specs.declared.number.Number.TheVariants.{Value, Unread}
-use Rattle.lot_book.specs.Number.{scan_number, number_found, number_at, groups_at, Small, Grouped}
+use Rattle.lot_book.specs.Number.{scan_number, number_found, number_at, groups_at, Grouped}
 
-value_path : (v w p q : ℕ) → v ≡ w → p ≡ q → Value v p ≡ Value w q
+value_path : (v w p q : ℕ) → v ≡ w → p ≡ q → ◌≡◌ {A = Option (ℕ × ℕ)} (Some (v, p)) (Some (w, q))
 value_path v w p q e f = cc
 
 -- ---- bounds
@@ -38,14 +36,14 @@ limit_under k h =
     let z : k + (8 - k) ≡ 8 = omega arith in
     omega (arith, limit_8, rw z at (limit_grows (8 - k) k))
 
-pub value_small : (k v q : ℕ) (s : List ℕ) (at : ℕ) (x : Number) → x ≡ Value v q → Grouped k s at x → v < limit_of k 1
-value_small k v q s at x e g = subst (Small k) e g.small
+pub value_small : (k v q : ℕ) (s : List ℕ) (at : ℕ) → Grouped k s at (Some (v, q)) → v < limit_of k 1
+value_small k v q s at g = g.small
 
 -- ---- the equations of groups_at
 -- a low group before what was found after it
-after : ℕ → Number → Number
-after low (Value v q) = Value (low + v * 128) q
-after low Unread = Unread
+after : ℕ → Option (ℕ × ℕ) → Option (ℕ × ℕ)
+after low (Some x) = Some (low + x.0 * 128, x.1)
+after low None = None
 
 found_carry : (at low : ℕ) (x : Scan) → number_found at (carry low x) ≡ after low (number_found (at + 1) x)
 unfolding number_found carry after
@@ -54,44 +52,44 @@ found_carry at low truncated = refl
 found_carry at low malformed = refl
 
 module _ (s : List ℕ) (at : ℕ) where
-  pub cut : (k : ℕ) → length s ≤ at → Grouped k s at Unread
+  pub cut : (k : ℕ) → length s ≤ at → Grouped k s at None
   unfolding groups_at later number_found
   cut k h = record { answer = rw (drop_of_length-le s h) refl; small = tt }
 
-  zero_at : (k : ℕ) → at < length s → get_or s at 0 ≡ 0 → Unread ≡ groups_at k s at
+  zero_at : (k : ℕ) → at < length s → get_or s at 0 ≡ 0 → None ≡ groups_at k s at
   unfolding groups_at later number_found
   zero_at zero h z = rw (drop_head s at h) (simp (eq-eqb _ _ z))
   zero_at (suc k) h z = rw (drop_head s at h) (simp (eq-eqb _ _ z))
 
-  pub zero_byte : (k : ℕ) → at < length s → get_or s at 0 ≡ 0 → Grouped k s at Unread
+  pub zero_byte : (k : ℕ) → at < length s → get_or s at 0 ≡ 0 → Grouped k s at None
   zero_byte k h z = record { answer = zero_at k h z; small = tt }
 
   -- the tenth byte
-  large_at : at < length s → 1 < get_or s at 0 → Unread ≡ groups_at 0 s at
+  large_at : at < length s → 1 < get_or s at 0 → None ≡ groups_at 0 s at
   unfolding groups_at later number_found
   large_at h l =
       let nz : (get_or s at 0 ≡ 0 → ⊥) = λ e. omega arith in
       rw (drop_head s at h) (simp (ne_eqb _ _ nz, lt-leb _ _ l))
 
-  pub large : (k : ℕ) → k ≡ 0 → at < length s → 1 < get_or s at 0 → Grouped k s at Unread
+  pub large : (k : ℕ) → k ≡ 0 → at < length s → 1 < get_or s at 0 → Grouped k s at None
   large k z h l = rw z (record { answer = large_at h l; small = tt })
 
-  last_at : at < length s → (get_or s at 0 ≡ 0 → ⊥) → get_or s at 0 ≤ 1 → Value (get_or s at 0) (at + 1) ≡ groups_at 0 s at
+  last_at : at < length s → (get_or s at 0 ≡ 0 → ⊥) → get_or s at 0 ≤ 1 → Some (get_or s at 0, at + 1) ≡ groups_at 0 s at
   unfolding groups_at later number_found
   last_at h nz l = rw (drop_head s at h) (simp (ne_eqb _ _ nz, le-leb _ _ l))
 
   pub last : (k b : ℕ) → k ≡ 0 → b ≡ get_or s at 0 → at < length s → (b ≡ 0 → ⊥) → b ≤ 1
-      → Grouped k s at (Value b (at + 1))
+      → Grouped k s at (Some (b, at + 1))
   last k b z e h nz l =
       rw (z, e) (record { answer = last_at h (rw e at nz) (rw e at l); small = omega (arith, limit_zero 1) })
 
   short_at : (k : ℕ) → at < length s → (get_or s at 0 ≡ 0 → ⊥) → get_or s at 0 < 128
-      → Value (get_or s at 0) (at + 1) ≡ groups_at (suc k) s at
+      → Some (get_or s at 0, at + 1) ≡ groups_at (suc k) s at
   unfolding groups_at later number_found
   short_at k h nz l = rw (drop_head s at h) (simp (ne_eqb _ _ nz, lt-ltb _ _ l))
 
   short_of : (k j b : ℕ) → k ≡ suc j → b ≡ get_or s at 0 → at < length s → (b ≡ 0 → ⊥) → b < 128
-      → Grouped k s at (Value b (at + 1))
+      → Grouped k s at (Some (b, at + 1))
   short_of k j b z e h nz l =
       rw (z, e)
       (record {
@@ -100,7 +98,7 @@ module _ (s : List ℕ) (at : ℕ) where
       })
 
   pub short : (k b : ℕ) → 1 ≤ k → b ≡ get_or s at 0 → at < length s → (b ≡ 0 → ⊥) → b < 128
-      → Grouped k s at (Value b (at + 1))
+      → Grouped k s at (Some (b, at + 1))
   short k b p = short_of k (k - 1) b (omega arith)
 
   more_at : (k : ℕ) → at < length s → 128 ≤ get_or s at 0
@@ -111,7 +109,7 @@ module _ (s : List ℕ) (at : ℕ) where
       rw (drop_head s at h) (simp (ne_eqb _ _ nz, le-ltb _ _ l) (found_carry at _ _))
 
   more_of : (k j b v q : ℕ) → k ≡ suc j → b ≡ get_or s at 0 → at < length s → 128 ≤ b → b < 256
-      → Grouped j s (at + 1) (Value v q) → Grouped k s at (Value (b - 128 + v * 128) q)
+      → Grouped j s (at + 1) (Some (v, q)) → Grouped k s at (Some (b - 128 + v * 128, q))
   unfolding after
   more_of k j b v q z e h l u g =
       let small = g.small in
@@ -121,26 +119,26 @@ module _ (s : List ℕ) (at : ℕ) where
         small = omega (arith, limit_suc j 1);
       })
 
-  pub more : (k b v q : ℕ) (x : Number) → 1 ≤ k → b ≡ get_or s at 0 → at < length s → 128 ≤ b → b < 256
-      → x ≡ Value v q → Grouped (k - 1) s (at + 1) x → Grouped k s at (Value (b - 128 + v * 128) q)
-  more k b v q x p e h l u f g = more_of k (k - 1) b v q (omega arith) e h l u (rw f at g)
+  pub more : (k b v q : ℕ) → 1 ≤ k → b ≡ get_or s at 0 → at < length s → 128 ≤ b → b < 256
+      → Grouped (k - 1) s (at + 1) (Some (v, q)) → Grouped k s at (Some (b - 128 + v * 128, q))
+  more k b v q p = more_of k (k - 1) b v q (omega arith)
 
   lost_of : (k j : ℕ) → k ≡ suc j → at < length s → 128 ≤ get_or s at 0
-      → Grouped j s (at + 1) Unread → Grouped k s at Unread
+      → Grouped j s (at + 1) None → Grouped k s at None
   unfolding after
   lost_of k j z h l g =
       rw z (record { answer = sym (more_at j h l ∙ rw (← g.answer) refl); small = tt })
 
-  pub lost : (k : ℕ) (x : Number) → 1 ≤ k → at < length s → 128 ≤ get_or s at 0
-      → x ≡ Unread → Grouped (k - 1) s (at + 1) x → Grouped k s at Unread
-  lost k x p h l f g = lost_of k (k - 1) (omega arith) h l (rw f at g)
+  pub lost : (k : ℕ) → 1 ≤ k → at < length s → 128 ≤ get_or s at 0
+      → Grouped (k - 1) s (at + 1) None → Grouped k s at None
+  lost k p = lost_of k (k - 1) (omega arith)
 
   -- ---- the equations of number_at
-  pub none : length s ≤ at → Unread ≡ number_at s at
+  pub none : length s ≤ at → None ≡ number_at s at
   unfolding number_at scan_with number_found
   none h = rw (drop_of_length-le s h) refl
 
-  pub one : (a : ℕ) → a ≡ get_or s at 0 → at < length s → a < 128 → Value a (at + 1) ≡ number_at s at
+  pub one : (a : ℕ) → a ≡ get_or s at 0 → at < length s → a < 128 → Some (a, at + 1) ≡ number_at s at
   unfolding number_at scan_with number_found
   one a e h l = rw (drop_head s at h, ← e) (simp (lt-ltb _ _ l))
 
@@ -148,24 +146,26 @@ module _ (s : List ℕ) (at : ℕ) where
   unfolding number_at scan_with groups_at
   long h l = rw (drop_head s at h) (simp (le-ltb _ _ l) (found_carry at _ _))
 
-  pub several : (a v q : ℕ) (x : Number) → a ≡ get_or s at 0 → at < length s → 128 ≤ a
-      → x ≡ Value v q → Grouped 8 s (at + 1) x → Value (a - 128 + v * 128) q ≡ number_at s at
+  pub several : (a v q : ℕ) → a ≡ get_or s at 0 → at < length s → 128 ≤ a
+      → Grouped 8 s (at + 1) (Some (v, q)) → Some (a - 128 + v * 128, q) ≡ number_at s at
   unfolding after
-  several a v q x e h l f g = rw e (sym (long h (rw e at l) ∙ rw (← g.answer, f) refl))
+  several a v q e h l g = rw e (sym (long h (rw e at l) ∙ rw (← g.answer) refl))
 
-  pub broken : (x : Number) → at < length s → 128 ≤ get_or s at 0
-      → x ≡ Unread → Grouped 8 s (at + 1) x → Unread ≡ number_at s at
+  pub broken : at < length s → 128 ≤ get_or s at 0 → Grouped 8 s (at + 1) None → None ≡ number_at s at
   unfolding after
-  broken x h l f g = sym (long h l ∙ rw (← g.answer, f) refl)
+  broken h l g = sym (long h l ∙ rw (← g.answer) refl)
 
 -- ---- for callers
-value_found : (at v q : ℕ) (x : Scan) → Value v q ≡ number_found at x → Found at v q x
+value_found : (at v q : ℕ) (x : Scan) → Some (v, q) ≡ number_found at x → Found at v q x
 unfolding number_found
-value_found at v q (value w n rest) e = record { n = n; rest = rest; scan = cc; next = cc }
+value_found at v q (value w n rest) e =
+    let p : ◌≡◌ {A = ℕ × ℕ} (v, q) (w, at + n) = cc in
+    let a : v ≡ w = ap (λ (x : ℕ × ℕ). x.0) p in
+    record { n = n; rest = rest; scan = cc; next = ap (λ (x : ℕ × ℕ). x.1) p }
 value_found at v q truncated e = let z : ◌≡◌ {A = ℕ} 0 1 = cc in absurd (omega arith)
 value_found at v q malformed e = let z : ◌≡◌ {A = ℕ} 0 1 = cc in absurd (omega arith)
 
-pub number_stands : (s : List ℕ) (at v q : ℕ) → Value v q ≡ number_at s at → ReadsAt scan_number s at v q
+pub number_stands : (s : List ℕ) (at v q : ℕ) → Some (v, q) ≡ number_at s at → ReadsAt scan_number s at v q
 unfolding number_at
 number_stands s at v q e = scan_at 9 1 s at v q (value_found at v q (scan_number (drop at s)) e)
 
@@ -174,12 +174,12 @@ pub data NoNumber : Scan → Type 0 where
   cut_short : NoNumber truncated
   ill_written : NoNumber malformed
 
-unread_found : (at : ℕ) (x : Scan) → Unread ≡ number_found at x → NoNumber x
+unread_found : (at : ℕ) (x : Scan) → None ≡ number_found at x → NoNumber x
 unfolding number_found
 unread_found at (value w n rest) e = let z : ◌≡◌ {A = ℕ} 0 1 = cc in absurd (omega arith)
 unread_found at truncated e = cut_short
 unread_found at malformed e = ill_written
 
-pub number_unread : (s : List ℕ) (at : ℕ) → Unread ≡ number_at s at → NoNumber (scan_number (drop at s))
+pub number_unread : (s : List ℕ) (at : ℕ) → None ≡ number_at s at → NoNumber (scan_number (drop at s))
 unfolding number_at
 number_unread s at e = unread_found at (scan_number (drop at s)) e

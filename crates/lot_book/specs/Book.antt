@@ -6,12 +6,10 @@
 --     judgement       what `judge` answers
 -- The laws are in `proofs/Book/Sound.antt`, `proofs/Book/Laws.antt` and, of the loop of `judge`,
 -- `proofs/Book/Judging.antt`. Assumes nothing.
-use Rattle.std.specs.Prelude.{ℕ, zero, suc, ◌+◌, ◌≡◌, Bool, cond, ◌&&◌, ◌||◌, List, [], ◌∷◌, length, ltb, leb, eqb}
+use Rattle.std.specs.Prelude.{ℕ, zero, suc, ◌+◌, ◌≡◌, Bool, cond, ◌&&◌, ◌||◌, List, [], ◌∷◌, length, ltb, leb, eqb, Option, Some, None, Result, Ok, Err}
 use Rattle.lot_book.specs.declared.entry.Lot.{Lot}
-use Rattle.lot_book.specs.declared.judging.Total.{Total}
-use Rattle.lot_book.specs.declared.judging.Total.TheVariants.{Within, Over}
 use Rattle.lot_book.specs.declared.judging.Judged.{Judged}
-use Rattle.lot_book.specs.declared.judging.Judged.TheVariants.{Lots, Bad}
+use Rattle.lot_book.specs.declared.judging.BadRecord.{BadRecord}
 use Rattle.lot_book.specs.Lot.{LotScan, lot, unread, read_lot}
 
 -- "lots not strictly ascending" (the lot is `floor` or more), "a number too wide for its columns" (ten for the lot,
@@ -60,17 +58,17 @@ taken_sum [] = 0
 taken_sum (r ∷ rs) = r.taken + taken_sum rs
 
 -- "total over 2^64-1"
-unfoldable pub total_of : ℕ → Total
-total_of n = cond (ltb n 18446744073709551616) (Within n) Over
+unfoldable pub total_of : ℕ → Option ℕ
+total_of n = cond (ltb n 18446744073709551616) (Some n) None
 
 -- the promise of `add`
-unfoldable pub Added : Total → ℕ → Total → Type 0
+unfoldable pub Added : Option ℕ → ℕ → Option ℕ → Type 0
 Added t n r = (sum : ℕ) → t ≡ total_of sum → r ≡ total_of (sum + n)
 
 -- after `count` records that took `sum`
-unfoldable pub judged_of : ℕ → ℕ → Book → Judged
-judged_of count sum (lots rs) = Lots (count + length rs) (total_of (sum + taken_sum rs))
-judged_of count sum (bad i) = Bad i
+unfoldable pub judged_of : ℕ → ℕ → Book → Result Judged BadRecord
+judged_of count sum (lots rs) = Ok (record { count = count + length rs; total = total_of (sum + taken_sum rs) })
+judged_of count sum (bad i) = Err (record { index = i })
 
-unfoldable pub judgement : List ℕ → Judged
+unfoldable pub judgement : List ℕ → Result Judged BadRecord
 judgement s = judged_of 0 0 (book_of s)

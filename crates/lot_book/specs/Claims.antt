@@ -10,12 +10,10 @@
 --     SumExactly       what `judge` says of the sum
 --     Examples         worked books, in `Examples.antt`
 -- A byte is below 256, as every element of a lent book is. Assumes nothing.
-use Rattle.std.specs.Prelude.{ℕ, ◌≤◌, ◌<◌, ◌^◌, ◌≡◌, ◌↔◌, List, ◌++◌, length}
+use Rattle.std.specs.Prelude.{ℕ, ◌≤◌, ◌<◌, ◌^◌, ◌≡◌, ◌↔◌, List, ◌++◌, length, Some, None, Ok}
 use Rattle.numbers.specs.Number.{Bytes, groups, value, truncated, malformed, limit_of}
 use Rattle.numbers.specs.Number.{Scanned, InGroups, IncompleteWith, IllWrittenWith}
 use Rattle.lot_book.specs.declared.entry.Lot.{Lot}
-use Rattle.lot_book.specs.declared.judging.Total.TheVariants.{Within, Over}
-use Rattle.lot_book.specs.declared.judging.Judged.TheVariants.{Lots}
 use Rattle.lot_book.specs.Number.{scan_number}
 use Rattle.lot_book.specs.Book.{lots, bad, book_of, taken_sum, judgement}
 use Rattle.lot_book.specs.Written.{book_bytes, GoodBook, BadAt}
@@ -63,5 +61,5 @@ BadExactly = (s : List ℕ) (i : ℕ) → Bytes s → (book_of s ≡ bad i) ↔ 
 -- "15 total over 2^64-1": the sum is met after every record
 unfoldable pub SumExactly : Type 0
 SumExactly = (s : List ℕ) (rs : List Lot) → book_of s ≡ lots rs
-    → (taken_sum rs < 2 ^ 64 → judgement s ≡ Lots (length rs) (Within (taken_sum rs)))
-    × (2 ^ 64 ≤ taken_sum rs → judgement s ≡ Lots (length rs) Over)
+    → (taken_sum rs < 2 ^ 64 → judgement s ≡ Ok (record { count = length rs; total = Some (taken_sum rs) }))
+    × (2 ^ 64 ≤ taken_sum rs → judgement s ≡ Ok (record { count = length rs; total = None }))

@@ -4,11 +4,9 @@
 --     lot_bytes          a record as bytes
 --     entry_at            what stands at a position;  found_lot: the answer of `lot_at`, from a scan of the bytes there
 -- The laws are in `proofs/Lots/Scans.antt` and, at a position, `proofs/Lots/Laws.antt`. Assumes nothing.
-use Rattle.std.specs.Prelude.{ℕ, ◌+◌, List, ◌++◌, drop}
+use Rattle.std.specs.Prelude.{ℕ, ◌+◌, List, ◌++◌, drop, Option, Some, None}
 use Rattle.numbers.specs.Number.{groups, Scan, value, truncated, malformed}
 use Rattle.lot_book.specs.declared.entry.Lot.{Lot}
-use Rattle.lot_book.specs.declared.entry.Entry.{Entry}
-use Rattle.lot_book.specs.declared.entry.Entry.TheVariants.{Record, Unread}
 use Rattle.lot_book.specs.Number.{scan_number}
 
 -- lot: the record, how many bytes it takes, and the bytes after it
@@ -34,9 +32,9 @@ read_lot s =
 unfoldable pub lot_bytes : Lot → List ℕ
 lot_bytes r = groups 9 r.number ++ (groups 9 r.taken ++ (groups 9 r.mark ++ groups 9 r.place))
 
-unfoldable pub found_lot : ℕ → LotScan → Entry
-found_lot at (lot r n rest) = Record r (at + n)
-found_lot at unread = Unread
+unfoldable pub found_lot : ℕ → LotScan → Option (Lot × ℕ)
+found_lot at (lot r n rest) = Some (r, at + n)
+found_lot at unread = None
 
-unfoldable pub entry_at : List ℕ → ℕ → Entry
+unfoldable pub entry_at : List ℕ → ℕ → Option (Lot × ℕ)
 entry_at s at = found_lot at (read_lot (drop at s))

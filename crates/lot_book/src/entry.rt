@@ -2,9 +2,10 @@
 ghost use Rattle.std.specs.Prelude.{◌≡◌};
 ghost use Rattle.lot_book.specs.Lot.{entry_at};
 
-use crate::number::{Number, read};
+use crate::number::read;
 
-// A record: "lot, taken, 0 for running or 1 for failed, place (0 if running)".
+// A record: "lot, taken, 0 for running or 1 for failed, place (0 if running)". The mark is a number, since a book may
+// hold others, which `judge` refuses (theorem `bad_exactly`).
 #[derive(Clone, Copy)]
 pub struct Lot {
     pub number: u64,
@@ -13,48 +14,19 @@ pub struct Lot {
     pub place: u64,
 }
 
-// A record and the position after it, or that none stands there.
-#[derive(Drop)]
-pub enum Entry {
-    Record(Lot, usize),
-    Unread,
-}
-
-// The record at a position: its four numbers, one after the other.
-pub fn lot_at(book: &[u8], at: usize) -> Entry
+// The record at a position, its four numbers one after the other, and the position after it; or that none stands there.
+pub fn lot_at(book: &[u8], at: usize) -> Option<(Lot, usize)>
     ensures { result ≡ entry_at book.now at }
 {
-    let Number::Value {
-        value: number,
-        next: p,
-    } = read(book, at)
-    else {
-        return Entry::Unread;
+    let (number, p) = read(book, at)?;
+    let (taken, q) = read(book, p)?;
+    let (mark, r) = read(book, q)?;
+    let (place, next) = read(book, r)?;
+    let lot = Lot {
+        number,
+        taken,
+        mark,
+        place,
     };
-    let Number::Value {
-        value: taken,
-        next: q,
-    } = read(book, p)
-    else {
-        return Entry::Unread;
-    };
-    let Number::Value {
-        value: mark,
-        next: r,
-    } = read(book, q)
-    else {
-        return Entry::Unread;
-    };
-    let Number::Value { value: place, next } = read(book, r) else {
-        return Entry::Unread;
-    };
-    Entry::Record(
-        Lot {
-            number,
-            taken,
-            mark,
-            place,
-        },
-        next,
-    )
+    Some((lot, next))
 }

@@ -3,87 +3,62 @@ ghost use Rattle.std.specs.Prelude.{◌≡◌};
 ghost use Rattle.lot_book.specs.Book.{Added, judgement};
 ghost use Rattle.lot_book.specs.Book.{sound as soundAfter};
 
-use crate::entry::{Entry, Lot, lot_at};
+use crate::entry::{Lot, lot_at};
 
-// Whether a record whose lot is to be `floor` or more is a good one.
-fn sound(floor: u64, lot: Lot) -> bool
-    ensures { result ≡ soundAfter floor lot }
-{
-    if lot.number < floor {
-        return false;
+impl Lot {
+    // Whether this is a good record where its lot is to be `floor` or more.
+    #[tactic(auto, unfolding(crate::specs::Book::sound))]
+    fn sound(self, floor: u64) -> bool
+        ensures { result ≡ soundAfter floor self }
+    {
+        floor <= self.number
+            && self.number < 10_000_000_000
+            && self.mark <= 1
+            && self.place <= self.taken
+            && self.place < 100_000_000
+            && (0 < self.mark || self.place == 0)
     }
-    if 10000000000 <= lot.number {
-        return false;
-    }
-    if 1 < lot.mark {
-        return false;
-    }
-    if lot.taken < lot.place {
-        return false;
-    }
-    if 100000000 <= lot.place {
-        return false;
-    }
-    if 0 < lot.mark {
-        return true;
-    }
-    lot.place == 0
 }
 
-// A sum, where it is at most 2^64 - 1.
-#[derive(Drop)]
-pub enum Total {
-    Within(u64),
-    Over,
-}
-
-// A sum with one number more.
-fn add(total: Total, n: u64) -> Total
+// A sum with one number more; none where it is over 2^64 - 1.
+#[tactic(auto, using(crate::proofs::Book::Laws::added_sum, crate::proofs::Book::Laws::added_again))]
+fn add(total: Option<u64>, n: u64) -> Option<u64>
     ensures { Added total n result }
 {
-    match total {
-        Total::Within(sum) => {
-            if 18446744073709551615 - n < sum {
-                Total::Over
-            } else {
-                Total::Within(sum + n)
-            }
-        }
-        Total::Over => Total::Over,
-    }
+    total?.checked_add(n)
 }
 
-// How many records a book has and the sum of what they took; or the index of its first bad record.
-#[derive(Drop)]
-pub enum Judged {
-    Lots(usize, Total),
-    Bad(usize),
+// How many records a good book has, and the sum of what they took, where that is at most 2^64 - 1.
+#[derive(Clone, Copy)]
+pub struct Judged {
+    pub count: usize,
+    pub total: Option<u64>,
+}
+
+// The index of the first bad record.
+#[derive(Clone, Copy)]
+pub struct BadRecord {
+    pub index: usize,
 }
 
 // All records of a book, first to last.
-pub fn judge(book: &[u8]) -> Judged
+pub fn judge(book: &[u8]) -> Result<Judged, BadRecord>
     ensures { result ≡ judgement book.now }
 {
     let mut at = 0;
     let mut floor = 0;
     let mut count = 0;
-    let mut total = Total::Within(0);
+    let mut total = Some(0);
+    // no index: the next place is what reading a record gives
     while at < book.len() {
-        match lot_at(book, at) {
-            Entry::Record(lot, next) => {
-                if sound(floor, lot) {
-                    at = next;
-                    floor = lot.number + 1;
-                    total = add(total, lot.taken);
-                    count += 1;
-                } else {
-                    return Judged::Bad(count);
-                }
-            }
-            Entry::Unread => {
-                return Judged::Bad(count);
-            }
+        let (lot, next) = lot_at(book, at).ok_or(BadRecord { index: count })?;
+        if !lot.sound(floor) {
+            return Err(BadRecord { index: count });
         }
+        at = next;
+        floor = lot.number + 1;
+        total = add(total, lot.taken);
+        count += 1;
     }
-    Judged::Lots(count, total)
+    Ok(Judged { count, total })
 }

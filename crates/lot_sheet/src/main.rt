@@ -13,7 +13,7 @@ mod print;
 ghost use Rattle.std.specs.Prelude.{◌≡◌, length};
 ghost use Rattle.input.specs.Reading.{Parts};
 
-use input::{Filled, Part, Source};
+use input::Part;
 use std::io::{Result, Stderr, Stdout};
 
 // Prints the sheet of a book that was read so, or a message.
@@ -26,10 +26,10 @@ fn answer(out: Stdout, messages: Stderr, book: &[u8], part: Part) -> Result<()>
 }
 
 fn main(rt: HostRuntime) -> Result<()> {
-    let mut source = Source::new(rt.stdin());
+    let mut source = rt.stdin();
     let mut book = [0u8; 65537];
     match input::fill(&mut source, &mut book) {
-        Filled::Bytes(part) => answer(rt.stdout(), rt.stderr(), &book, part),
-        Filled::Broken(failure) => input::fail(&source, rt.stderr(), failure),
+        Ok(part) => answer(rt.stdout(), rt.stderr(), &book, part),
+        Err(failure) => eprintln!(rt; "{failure}"),
     }
 }

@@ -6,7 +6,7 @@
 --     Zeroed, Picked, PickedBy    both areas zero; a set that was in the present area is kept; the promise of `pick_up`
 --     LaidIn, LaidBy              the promises of `lay`; of `lay_out`
 -- The laws are in `Runs/`: `Laws`, of runs; `Areas`, of the areas. Assumes nothing.
-use Rattle.std.specs.Prelude.{ℕ, ◌≤◌, ◌<◌, ◌≡◌, List, [], drop}
+use Rattle.std.specs.Prelude.{ℕ, ◌≤◌, ◌<◌, ◌≡◌, List, [], drop, Option, Some, None}
 use Rattle.table.specs.Table.{Table}
 use Rattle.monitor_spec.specs.Regular.{Regular}
 use Rattle.monitor_spec.specs.State.{Monitor, chunks, fill, laid}
@@ -17,9 +17,9 @@ use Rattle.state.specs.declared.record.State.{State}
 use Rattle.state.specs.Record.{state_of, monitor_of}
 use Rattle.monitor_spec.specs.Holds.{AreaHolds}
 use Rattle.met_sets.specs.declared.run.Followed.{Followed}
-use Rattle.met_sets.specs.declared.pick.Pick.{Pick}
-use Rattle.met_sets.specs.declared.pick.Pick.TheVariants.{Set, Full}
+use Rattle.met_sets.specs.declared.sets.MetSets.{MetSets}
 use Rattle.met_sets.specs.Sets.{count_at, slots_at, Shape, Met}
+use Rattle.met_sets.specs.Value.{MetIn}
 pub mod Laws
 pub mod Areas
 
@@ -70,25 +70,18 @@ pub record SetFound (t : Table) (cap k : ℕ) (sets starts : List ℕ) (ss : Lis
   pub kept : (j : ℕ) → j < k → slots_at sets' starts' j ≡ slots_at sets starts j
   pub zeroed : area' ≡ fill cap []
 
--- there is no room, and all is as it was
-pub record Unmoved (sets starts next sets' starts' next' : List ℕ) : Type 0 where
-  pub sets_are : sets' ≡ sets
-  pub starts_are : starts' ≡ starts
-  pub next_are : next' ≡ next
-
-abbrev pub FoundAs : Table → ℕ → ℕ → List ℕ → List ℕ → List ℕ → List ℕ → ℕ → Pick → List ℕ → List ℕ → List ℕ → List ℕ
-    → Type 0
-FoundAs t cap k sets starts next area count (Set n k') sets' starts' next' area' =
-    SetFound t cap k sets starts (chunks count area) n k' sets' starts' next' area'
-FoundAs t cap k sets starts next area count Full sets' starts' next' area' =
-    Unmoved sets starts next sets' starts' next' × (area' ≡ area)
+-- of the sets of s and the slots of an area those of s' are kept now, and n is the one of those slots; or there is no
+-- room, and all is as it was
+abbrev pub FoundAs : Table → ℕ → MetSets → List ℕ → ℕ → Option ℕ → MetSets → List ℕ → Type 0
+FoundAs t cap s area count (Some n) s' area' =
+    (s'.alphabet ≡ s.alphabet)
+    × SetFound t cap s.count s.sets s.starts (chunks count area) n s'.count s'.sets s'.starts s'.next area'
+FoundAs t cap s area count None s' area' = (s' ≡ s) × (area' ≡ area)
 
 -- the promise of `pick_area`, whatever the table is
-unfoldable pub FoundBy : ℕ → ℕ → List ℕ → List ℕ → List ℕ → List ℕ → ℕ → Pick → List ℕ → List ℕ → List ℕ → List ℕ
-    → Type 0
-FoundBy A k sets starts next area count r sets' starts' next' area' =
-    (t : Table) → Regular t → t.alphabet ≡ A → (h : AreaHolds t area count) → Met t h.slots k sets starts next
-    → FoundAs t h.slots k sets starts next area count r sets' starts' next' area'
+unfoldable pub FoundBy : MetSets → List ℕ → ℕ → Option ℕ → MetSets → List ℕ → Type 0
+FoundBy s area count r s' area' =
+    (t : Table) → Regular t → (h : AreaHolds t area count) → MetIn t h.slots s → FoundAs t h.slots s area count r s' area'
 
 -- both areas, of cap slots, are zero
 pub record Zeroed (cap : ℕ) (a b : List ℕ) : Type 0 where
@@ -106,19 +99,15 @@ pub record Picked (t : Table) (cap k : ℕ) (sets starts : List ℕ) (m : Monito
   pub kept : (j : ℕ) → j < k → slots_at sets' starts' j ≡ slots_at sets starts j
   pub zeroed : Zeroed cap a b
 
-abbrev pub PickedAs : Table → ℕ → ℕ → List ℕ → List ℕ → List ℕ → Monitor → Pick → List ℕ → List ℕ → List ℕ → List ℕ
-    → List ℕ → Type 0
-PickedAs t cap k sets starts next m (Set n k') sets' starts' next' a b =
-    Picked t cap k sets starts m n k' sets' starts' next' a b
-PickedAs t cap k sets starts next m Full sets' starts' next' a b =
-    Unmoved sets starts next sets' starts' next' × (a ≡ m.area0) × (b ≡ m.area1)
+abbrev pub PickedAs : Table → ℕ → MetSets → Monitor → Option ℕ → MetSets → List ℕ → List ℕ → Type 0
+PickedAs t cap s m (Some n) s' a b =
+    (s'.alphabet ≡ s.alphabet) × Picked t cap s.count s.sets s.starts m n s'.count s'.sets s'.starts s'.next a b
+PickedAs t cap s m None s' a b = (s' ≡ s) × (a ≡ m.area0) × (b ≡ m.area1)
 
 -- the promise of `pick_up`, whatever the table is
-unfoldable pub PickedBy : ℕ → ℕ → List ℕ → List ℕ → List ℕ → Monitor → Pick → List ℕ → List ℕ → List ℕ → List ℕ
-    → List ℕ → Type 0
-PickedBy A k sets starts next m r sets' starts' next' a b =
-    (t : Table) → Regular t → t.alphabet ≡ A → (cap : ℕ) → Met t cap k sets starts next → Laid t cap m
-    → PickedAs t cap k sets starts next m r sets' starts' next' a b
+unfoldable pub PickedBy : MetSets → Monitor → Option ℕ → MetSets → List ℕ → List ℕ → Type 0
+PickedBy s m r s' a b =
+    (t : Table) → Regular t → (cap : ℕ) → MetIn t cap s → Laid t cap m → PickedAs t cap s m r s' a b
 
 -- the promise of `lay`: an area of zeros holds set n
 unfoldable pub LaidIn : List ℕ → List ℕ → ℕ → List ℕ → List ℕ → Type 0

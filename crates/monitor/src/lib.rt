@@ -7,7 +7,7 @@
 pub use feeding::feed;
 pub use offering::offer;
 pub use opening::open;
-pub use state::{Answer, EventBits, Offered, State, Verdict, view};
+pub use state::{Answer, Declined, EventBits, State, Verdict, view};
 pub use trying::try_feed;
 pub use wash_state::{TimedAnswer, TimedState};
 pub use washing::timed_feed;

@@ -2,7 +2,7 @@
 // "Operations"). The promises are in `specs/Opening.antt`; the whole outcome is `open_of` of crate
 // monitor_spec.
 ghost use Rattle.std.specs.Prelude.{◌≡◌, true};
-ghost use Rattle.table_index.specs.Index.{table_in, Indexed};
+ghost use Rattle.index.specs.Handle.{table_of};
 ghost use Rattle.monitor_spec.specs.State.{areas_measured};
 ghost use Rattle.monitor_spec.specs.Open.{open_of};
 ghost use Rattle.state.specs.Answers.{outcome};
@@ -10,52 +10,54 @@ ghost use Rattle.opening.specs.Opening.{Resolved, OpenedBy};
 
 use entering::enter;
 use feeding::take_all;
-use set_step::Held;
-use state::{Answer, State, clear_all, lengths_fit};
-use table::{Judged, Refusal};
+use index::IndexedTable;
+use set_step::Exceeded;
+use state::{Answer, Declined, State, clear_all, lengths_fit};
+use table::Refusal;
 
 // The residuals of the last definition into area 0, zeroes into area 1, where the table's index
 // stands in the work area. Where they exceed the slots, both areas are zero.
-pub fn resolve_last(list: &[u16], work: &[u64], area0: &mut [u64], area1: &mut [u64]) -> Held
-    requires indexed { Indexed list.now work.now }
+pub fn resolve_last(
+    table: &IndexedTable<'_>,
+    area0: &mut [u64],
+    area1: &mut [u64],
+) -> Result<usize, Exceeded>
     requires area1_value { areas_measured area0.old area1.old ≡ true }
-    ensures { Resolved (table_in list.now) area0.old
+    ensures { Resolved (table_of table.now) area0.old
         result area0.new area1.new }
 {
     clear_all(area0);
     clear_all(area1);
-    let last = index::definition_count(list, work) - 1;
-    match set_step::resolve_set(list, work, last, area0) {
-        Held::Count(count) => Held::Count(count),
-        Held::Exceeded => {
+    let last = table.definition_count() - 1;
+    match set_step::resolve_set(table, last, area0) {
+        Ok(count) => Ok(count),
+        Err(Exceeded) => {
             clear_all(area0);
-            Held::Exceeded
+            Err(Exceeded)
         }
     }
 }
 
 // Open of an accepted table: what is resolved, and then Feed's run from there.
 fn open_accepted(
-    list: &[u16],
-    work: &[u64],
+    table: &IndexedTable<'_>,
     area0: &mut [u64],
     area1: &mut [u64],
     events: &[u8],
 ) -> Answer
-    requires indexed { Indexed list.now work.now }
     requires area1_value { areas_measured area0.old area1.old ≡ true }
-    ensures { OpenedBy (table_in list.now) area0.old events.now
+    ensures { OpenedBy (table_of table.now) area0.old events.now
         result area0.new area1.new }
 {
-    match resolve_last(list, work, area0, area1) {
-        Held::Count(count) => {
+    match resolve_last(table, area0, area1) {
+        Ok(count) => {
             let fresh = State::fresh(count as u64);
-            take_all(list, work, fresh, area0, area1, events)
+            take_all(table, fresh, area0, area1, events)
         }
-        Held::Exceeded => Answer::Refused(Refusal {
+        Err(Exceeded) => Err(Declined::Refused(Refusal {
             number: 13,
             place: 0,
-        }),
+        })),
     }
 }
 
@@ -74,11 +76,12 @@ pub fn open(
         events.now work.old }
 {
     match enter(list, lengths_fit(area0.len(), area1.len()), work) {
-        Judged::Accepted => {
-            let answer = open_accepted(list, work, area0, area1, events);
+        Ok(()) => {
+            let table = IndexedTable { list, work };
+            let answer = open_accepted(&table, area0, area1, events);
             clear_all(work);
             answer
         }
-        Judged::Declined(refusal) => Answer::Refused(refusal),
+        Err(refusal) => Err(Declined::Refused(refusal)),
     }
 }

@@ -6,7 +6,7 @@ ghost use Rattle.table_index.specs.Parse.{SetsReady, DefinitionsRead};
 ghost use Rattle.table_index.specs.Parse.Terms.{DefinitionRead};
 
 use crate::terms::read_term;
-use table::{Refusal, Spot, TermEnd};
+use table::{Refusal, Spot, TermEnd, number_at};
 use table_index::layout;
 
 // The definition at a place: its level and its body, whose number is n.
@@ -17,21 +17,15 @@ fn read_definition(
     d: usize,
     at: usize,
     n: usize,
-) -> TermEnd
+) -> Result<TermEnd, Refusal>
     requires sets_ready { SetsReady list.now work.old sets }
     requires d_bound { (d < 32) × (at ≤ length list.now) × (n ≤ 1024) }
     ensures { DefinitionRead (sets_in list.now) list.now d n at work.old
         work.new result }
 {
-    if list.len() <= at {
-        return TermEnd::NoTerm(Refusal {
-            number: 3,
-            place: list.len(),
-        });
-    }
-    let level = list[at];
+    let level = number_at(list, at)?;
     if 7 < level {
-        return TermEnd::NoTerm(Refusal {
+        return Err(Refusal {
             number: 5,
             place: at,
         });
@@ -61,26 +55,15 @@ pub fn read_definitions(
     sets: usize,
     count: usize,
     at: usize,
-) -> TermEnd
+) -> Result<TermEnd, Refusal>
     requires sets_ready { SetsReady list.now work.old sets }
     requires at_in_bounds { (at ≤ length list.now) × (count ≤ 32) }
     ensures { DefinitionsRead (sets_in list.now) list.now count at
         work.old work.new result }
 {
-    let mut d = 0;
-    let mut p = at;
-    let mut n = 0;
-    while d < count {
-        match read_definition(list, work, sets, d, p, n) {
-            TermEnd::NextTerm { next, terms } => {
-                p = next;
-                n = terms;
-                d += 1;
-            }
-            TermEnd::NoTerm(r) => {
-                return TermEnd::NoTerm(r);
-            }
-        }
+    let mut end = TermEnd { next: at, terms: 0 };
+    for d in 0..count {
+        end = read_definition(list, work, sets, d, end.next, end.terms)?;
     }
-    TermEnd::NextTerm { next: p, terms: n }
+    Ok(end)
 }

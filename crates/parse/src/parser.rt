@@ -6,7 +6,7 @@ ghost use Rattle.table_index.specs.Parse.Structure.{counted};
 
 use crate::definitions::read_definitions;
 use event_sets::read_sets;
-use table::{Judged, Place, Refusal, TermEnd, bounds};
+use table::{Refusal, bounds, number_at};
 use table_index::layout;
 
 // Stores the alphabet size, the number of definitions and of terms, the place where the definitions
@@ -23,83 +23,59 @@ fn store_counts(work: &mut [u64], alphabet: u16, definitions: usize, terms: usiz
 }
 
 // The definitions of a table, whose number stands at a place, and the end of the list.
-fn parse_definitions(list: &[u16], work: &mut [u64], sets: usize, at: usize) -> Judged
+fn parse_definitions(list: &[u16], work: &mut [u64], sets: usize, at: usize) -> Result<(), Refusal>
     requires { Header list.now work.old sets at }
     ensures { ParseDone list.now work.new result }
 {
-    if list.len() <= at {
-        return Judged::Declined(Refusal {
-            number: 3,
-            place: list.len(),
-        });
-    }
-    let count = list[at] as usize;
+    let count = number_at(list, at)? as usize;
     if count < 1 {
-        return Judged::Declined(Refusal {
+        return Err(Refusal {
             number: 5,
             place: at,
         });
     }
     if 32 < count {
-        return Judged::Declined(Refusal {
+        return Err(Refusal {
             number: 5,
             place: at,
         });
     }
-    match read_definitions(list, work, sets, count, at + 1) {
-        TermEnd::NextTerm { next, terms } => {
-            if next < list.len() {
-                return Judged::Declined(Refusal {
-                    number: 6,
-                    place: next,
-                });
-            }
-            store_counts(work, list[0], count, terms, at + 1);
-            Judged::Accepted
-        }
-        TermEnd::NoTerm(r) => Judged::Declined(r),
+    let end = read_definitions(list, work, sets, count, at + 1)?;
+    if end.next < list.len() {
+        return Err(Refusal {
+            number: 6,
+            place: end.next,
+        });
     }
+    store_counts(work, list[0], count, end.terms, at + 1);
+    Ok(())
 }
 
 // The table that a number list is; its sets, terms and definitions stand in the work area.
-pub fn parse(list: &[u16], work: &mut [u64]) -> Judged
+pub fn parse(list: &[u16], work: &mut [u64]) -> Result<(), Refusal>
     requires { length work.old ≡ 8192 }
     ensures { ParseDone list.now work.new result }
 {
-    if list.len() <= 0 {
-        return Judged::Declined(Refusal {
-            number: 3,
-            place: list.len(),
-        });
-    }
-    let alphabet = list[0];
+    let alphabet = number_at(list, 0)?;
     if alphabet < 1 {
-        return Judged::Declined(Refusal {
+        return Err(Refusal {
             number: 5,
             place: 0,
         });
     }
     if bounds::ALPHABET_MOST < alphabet {
-        return Judged::Declined(Refusal {
+        return Err(Refusal {
             number: 5,
             place: 0,
         });
     }
-    if list.len() <= 1 {
-        return Judged::Declined(Refusal {
-            number: 3,
-            place: list.len(),
-        });
-    }
-    let sets = list[1] as usize;
+    let sets = number_at(list, 1)? as usize;
     if 64 < sets {
-        return Judged::Declined(Refusal {
+        return Err(Refusal {
             number: 5,
             place: 1,
         });
     }
-    match read_sets(list, work, alphabet, sets, 2) {
-        Place::At(p) => parse_definitions(list, work, sets, p),
-        Place::Stop(r) => Judged::Declined(r),
-    }
+    let p = read_sets(list, work, alphabet, sets, 2)?;
+    parse_definitions(list, work, sets, p)
 }

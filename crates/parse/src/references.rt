@@ -3,24 +3,23 @@ ghost use Rattle.std.specs.Prelude.{◌≤◌, length};
 ghost use Rattle.table_index.specs.Index.{sets_in};
 ghost use Rattle.table_index.specs.Parse.{SetsReady, ReferenceRead};
 
-use table::{Reference, Refusal};
+use table::{Reference, Refusal, number_at};
 use table_index::layout;
 
 // The set reference at a place.
-pub fn read_reference(list: &[u16], work: &[u64], sets: usize, at: usize) -> Reference
+pub fn read_reference(
+    list: &[u16],
+    work: &[u64],
+    sets: usize,
+    at: usize,
+) -> Result<Reference, Refusal>
     requires sets_ready { SetsReady list.now work.now sets }
     requires at_in_bounds { at ≤ length list.now }
     ensures { ReferenceRead (sets_in list.now) list.now at result }
 {
-    if list.len() <= at {
-        return Reference::NoReference(Refusal {
-            number: 3,
-            place: list.len(),
-        });
-    }
-    let s = list[at] as usize;
+    let s = number_at(list, at)? as usize;
     if sets <= s {
-        return Reference::NoReference(Refusal {
+        return Err(Refusal {
             number: 5,
             place: at,
         });
@@ -28,28 +27,22 @@ pub fn read_reference(list: &[u16], work: &[u64], sets: usize, at: usize) -> Ref
     let w = work[layout::SETS_AT + s];
     let p = at + 1;
     if w % 2 == 0 {
-        return Reference::Found {
+        return Ok(Reference {
             target: w / 2,
             parameter: 0,
             next: p,
-        };
-    }
-    if list.len() <= p {
-        return Reference::NoReference(Refusal {
-            number: 3,
-            place: list.len(),
         });
     }
-    let k = list[p];
+    let k = number_at(list, p)?;
     if 3 < k {
-        return Reference::NoReference(Refusal {
+        return Err(Refusal {
             number: 5,
             place: p,
         });
     }
-    Reference::Found {
+    Ok(Reference {
         target: w / 2,
         parameter: k as u64 + 1,
         next: p + 1,
-    }
+    })
 }

@@ -12,7 +12,7 @@ ghost use Rattle.table_index.specs.Parse.Terms.{follower_of, sides_of};
 use crate::leaves::{read_call, read_leaf, store_term};
 use crate::references::read_reference;
 use crate::spots::{beside, follower, side};
-use table::{Head, Reference, Refusal, Spot, TermEnd};
+use table::{Head, Refusal, Spot, TermEnd, number_at};
 
 // The term at a place, number n, with room for so many levels of terms.
 #[cycle(read_follower_read_sides_read_term)]
@@ -24,31 +24,26 @@ pub fn read_term(
     n: usize,
     deep: usize,
     spot: Spot,
-) -> TermEnd
+) -> Result<TermEnd, Refusal>
     requires sets_ready { SetsReady list.now work.old sets }
     requires at_in_bounds { (at ≤ length list.now) × (n ≤ 1024) × SpotFits spot deep }
     ensures { TermRead (sets_in list.now) list.now spot deep n at
         work.old work.new result }
 {
-    if list.len() <= at {
-        return TermEnd::NoTerm(Refusal {
-            number: 3,
-            place: list.len(),
-        });
-    }
+    let kind = number_at(list, at)?;
     if deep == 0 {
-        return TermEnd::NoTerm(Refusal {
+        return Err(Refusal {
             number: 5,
             place: at,
         });
     }
     if 1024 <= n {
-        return TermEnd::NoTerm(Refusal {
+        return Err(Refusal {
             number: 5,
             place: at,
         });
     }
-    let kind = list[at];
+    // 01 names this form: one match over kind numbers, with a range arm
     match kind {
         0 => read_leaf(
             work,
@@ -72,29 +67,16 @@ pub fn read_term(
             },
             at + 1,
         ),
-        2 => match read_reference(list, work, sets, at + 1) {
-            Reference::Found {
-                target,
-                parameter,
-                next,
-            } => {
-                read_follower(
-                    list,
-                    work,
-                    sets,
-                    next,
-                    n,
-                    deep - 1,
-                    Head {
-                        kind: 2,
-                        parameter,
-                        target,
-                        spot,
-                    },
-                )
-            }
-            Reference::NoReference(r) => TermEnd::NoTerm(r),
-        },
+        2 => {
+            let r = read_reference(list, work, sets, at + 1)?;
+            let h = Head {
+                kind: 2,
+                parameter: r.parameter,
+                target: r.target,
+                spot,
+            };
+            read_follower(list, work, sets, r.next, n, deep - 1, h)
+        }
         3 => {
             let h = Head {
                 kind: 3,
@@ -104,24 +86,18 @@ pub fn read_term(
             };
             read_sides(list, work, sets, at + 1, n, deep - 1, h, side(spot))
         }
-        4 => match read_reference(list, work, sets, at + 1) {
-            Reference::Found {
-                target,
-                parameter,
-                next,
-            } => {
-                let h = Head {
-                    kind: 4,
-                    parameter,
-                    target,
-                    spot,
-                };
-                read_sides(list, work, sets, next, n, deep - 1, h, beside(spot))
-            }
-            Reference::NoReference(r) => TermEnd::NoTerm(r),
-        },
+        4 => {
+            let r = read_reference(list, work, sets, at + 1)?;
+            let h = Head {
+                kind: 4,
+                parameter: r.parameter,
+                target: r.target,
+                spot,
+            };
+            read_sides(list, work, sets, r.next, n, deep - 1, h, beside(spot))
+        }
         5 => read_call(list, work, at, n, spot),
-        6..=65535 => TermEnd::NoTerm(Refusal {
+        6..=65535 => Err(Refusal {
             number: 5,
             place: at,
         }),
@@ -138,7 +114,7 @@ fn read_follower(
     n: usize,
     deep: usize,
     h: Head,
-) -> TermEnd
+) -> Result<TermEnd, Refusal>
     requires sets_ready { SetsReady list.now work.old sets }
     requires at_in_bounds { (at ≤ length list.now) × (n < 1024) }
     requires head_fits { HeadFits h × (h.spot.prefixes + deep < 32) }
@@ -147,14 +123,9 @@ fn read_follower(
         → TermReadBy (follower_of (sets_in list.now) deep n r) (sets_in list.now)
         list.now h.spot n i at work.old work.new result }
 {
-    let s = h.spot;
-    match read_term(list, work, sets, at, n + 1, deep, follower(s)) {
-        TermEnd::NextTerm { next, terms } => {
-            store_term(work, n, h, n + 1);
-            TermEnd::NextTerm { next, terms }
-        }
-        TermEnd::NoTerm(r) => TermEnd::NoTerm(r),
-    }
+    let end = read_term(list, work, sets, at, n + 1, deep, follower(h.spot))?;
+    store_term(work, n, h, n + 1);
+    Ok(end)
 }
 
 // The two sides at a place of term n, which is stored once the number of the right side is known.
@@ -168,18 +139,14 @@ fn read_sides(
     deep: usize,
     h: Head,
     inner: Spot,
-) -> TermEnd
+) -> Result<TermEnd, Refusal>
     requires sets_ready { SetsReady list.now work.old sets }
     requires at_in_bounds { (at ≤ length list.now) × (n < 1024) × HeadFits h × SpotFits inner deep }
     ensures { (i : ℕ) (g : Joint) → TwoSided g → HeadOf (sets_in list.now) h i inner at g
         → TermReadBy (sides_of (sets_in list.now) deep n g) (sets_in list.now)
         list.now h.spot n i at work.old work.new result }
 {
-    match read_term(list, work, sets, at, n + 1, deep, inner) {
-        TermEnd::NextTerm { next, terms } => {
-            store_term(work, n, h, terms);
-            read_term(list, work, sets, next, terms, deep, inner)
-        }
-        TermEnd::NoTerm(r) => TermEnd::NoTerm(r),
-    }
+    let left = read_term(list, work, sets, at, n + 1, deep, inner)?;
+    store_term(work, n, h, left.terms);
+    read_term(list, work, sets, left.next, left.terms, deep, inner)
 }

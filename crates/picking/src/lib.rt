@@ -4,4 +4,4 @@
 
 mod picker;
 
-pub use picker::{lay_out, pick_first, pick_up};
+pub use picker::{lay_out, lay_set, pick_first, pick_up};

@@ -2,12 +2,13 @@
 // that is a leaf is found without a call of `term_into`. The definitions are in
 // `specs/ResidualWords.antt`.
 ghost use Rattle.std.specs.Prelude.{◌≡◌, ◌<◌};
-ghost use Rattle.table_index.specs.Index.{table_in, Indexed};
+ghost use Rattle.index.specs.Handle.{table_of};
 ghost use Rattle.node_word.specs.Word.{memory_bound, memory_of};
 ghost use Rattle.resolving.specs.ResidualWords.{Resolves, resolved_into, Lands};
 
 use crate::resolve::{push_into, term_into};
 use crate::words::node_at;
+use index::IndexedTable;
 
 // Where the way to a residual comes to: a leaf, by its node word; a parallel, and which of its
 // residuals it is; or nothing, which FAIL has.
@@ -26,38 +27,37 @@ pub enum Landed {
 // The way to the i-th residual of term n with the memory of m, through choices and calls. The slot,
 // which is not read, names in the contract what the residual is to follow.
 pub fn descend(
-    list: &[u16],
-    work: &[u64],
+    table: &IndexedTable<'_>,
     bound: usize,
     n: usize,
     m: u64,
     i: u64,
     slot: &[u64],
 ) -> Landed
-    requires indexed { Indexed list.now work.now }
-    requires resolves { Resolves (table_in list.now) bound n (memory_of m) i slot.now }
+    requires resolves { Resolves (table_of table.now) bound n (memory_of m) i slot.now }
     requires m_lt_memory_bound { m < memory_bound }
-    ensures { Lands (table_in list.now) n (memory_of m) i slot.now result }
+    ensures { Lands (table_of table.now) n (memory_of m) i slot.now result }
 {
     let mut at = n;
     let mut memory = m;
     let mut j = i;
     let mut b = bound;
+    // no index: a walk down choices and calls; 01 names the match over kind numbers, with a range arm
     loop {
-        match index::kind(list, work, at) {
+        match table.kind(at) {
             0 | 2 => {
-                return Landed::Leaf(node_at(list, work, at, memory));
+                return Landed::Leaf(node_at(table, at, memory));
             }
             1 => {
                 return Landed::Nothing;
             }
             3 => {
-                let c = index::branches(list, work, at + 1);
+                let c = table.branches(at + 1);
                 if j < c {
                     at += 1;
                     continue;
                 }
-                at = index::right(list, work, at);
+                at = table.right(at);
                 j -= c;
             }
             4 => {
@@ -69,8 +69,8 @@ pub fn descend(
                 };
             }
             5 => {
-                b = index::called(list, work, at);
-                at = index::body(list, work, b);
+                b = table.called(at);
+                at = table.body(b);
                 memory = 0;
             }
             6..=18446744073709551615 => {
@@ -82,21 +82,19 @@ pub fn descend(
 
 // Puts the i-th residual of term n with the memory of m after what the slot has; as `term_into`.
 pub fn resolve_into(
-    list: &[u16],
-    work: &[u64],
+    table: &IndexedTable<'_>,
     bound: usize,
     n: usize,
     m: u64,
     i: u64,
     slot: &mut [u64],
 )
-    requires indexed { Indexed list.now work.now }
-    requires resolves { Resolves (table_in list.now) bound n (memory_of m) i slot.old }
+    requires resolves { Resolves (table_of table.now) bound n (memory_of m) i slot.old }
     requires m_lt_memory_bound { m < memory_bound }
     ensures { slot.new
-        ≡ resolved_into (table_in list.now) n (memory_of m) i slot.old }
+        ≡ resolved_into (table_of table.now) n (memory_of m) i slot.old }
 {
-    match descend(list, work, bound, n, m, i, slot) {
+    match descend(table, bound, n, m, i, slot) {
         Landed::Nothing => {}
         Landed::Leaf(w) => push_into(slot, w),
         Landed::Pair {
@@ -104,26 +102,24 @@ pub fn resolve_into(
             term,
             memory,
             index,
-        } => term_into(list, work, b, term, memory, index, slot),
+        } => term_into(table, b, term, memory, index, slot),
     }
 }
 
 // The i-th residual of term n with the memory of m, after what the slot has.
 pub fn resolve_at(
-    list: &[u16],
-    work: &[u64],
+    table: &IndexedTable<'_>,
     bound: usize,
     n: usize,
     m: u64,
     i: u64,
     slot: [u64; 16],
 ) -> [u64; 16]
-    requires indexed { Indexed list.now work.now }
-    requires resolves { Resolves (table_in list.now) bound n (memory_of m) i slot }
+    requires resolves { Resolves (table_of table.now) bound n (memory_of m) i slot }
     requires m_lt_memory_bound { m < memory_bound }
-    ensures { result ≡ resolved_into (table_in list.now) n (memory_of m) i slot }
+    ensures { result ≡ resolved_into (table_of table.now) n (memory_of m) i slot }
 {
     let mut s = slot;
-    resolve_into(list, work, bound, n, m, i, &mut s);
+    resolve_into(table, bound, n, m, i, &mut s);
     s
 }

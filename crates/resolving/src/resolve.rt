@@ -3,12 +3,13 @@
 // in a loop: only a call and the left side of a parallel take stack. The definitions are in
 // `specs/ResidualWords.antt`.
 ghost use Rattle.std.specs.Prelude.{◌≡◌, ◌-◌, ◌<◌, length, get_or};
-ghost use Rattle.table_index.specs.Index.{table_in, Indexed};
+ghost use Rattle.index.specs.Handle.{table_of};
 ghost use Rattle.node_word.specs.Word.{memory_bound, memory_of};
 ghost use Rattle.resolving.specs.ResidualWords.{pushed, pop_all, Resolves, resolved_into};
 ghost use Rattle.resolving.specs.ResidualWords.{ResolvesDefinition, definition_into};
 
 use crate::words::node_at;
+use index::IndexedTable;
 
 // Puts one word more into a slot.
 pub fn push_into(slot: &mut [u64], w: u64)
@@ -25,52 +26,44 @@ pub fn push_into(slot: &mut [u64], w: u64)
 // term with no prefix around them name definitions below `bound`, which serves the proof that this
 // ends.
 #[cycle(definition_into_term_into)]
-pub fn term_into(
-    list: &[u16],
-    work: &[u64],
-    bound: usize,
-    n: usize,
-    m: u64,
-    i: u64,
-    slot: &mut [u64],
-)
-    requires indexed { Indexed list.now work.now }
-    requires resolves { Resolves (table_in list.now) bound n (memory_of m) i slot.old }
+pub fn term_into(table: &IndexedTable<'_>, bound: usize, n: usize, m: u64, i: u64, slot: &mut [u64])
+    requires resolves { Resolves (table_of table.now) bound n (memory_of m) i slot.old }
     requires m_lt_memory_bound { m < memory_bound }
     ensures { slot.new
-        ≡ resolved_into (table_in list.now) n (memory_of m) i slot.old }
+        ≡ resolved_into (table_of table.now) n (memory_of m) i slot.old }
 {
     let mut at = n;
     let mut j = i;
+    // no index: a walk down choices; 01 names the match over kind numbers, with a range arm
     loop {
-        match index::kind(list, work, at) {
+        match table.kind(at) {
             0 | 2 => {
-                push_into(slot, node_at(list, work, at, m));
+                push_into(slot, node_at(table, at, m));
                 return;
             }
             1 => {
                 return;
             }
             3 => {
-                let c = index::branches(list, work, at + 1);
+                let c = table.branches(at + 1);
                 if j < c {
                     at += 1;
                     continue;
                 }
-                at = index::right(list, work, at);
+                at = table.right(at);
                 j -= c;
             }
             4 => {
-                let r = index::right(list, work, at);
-                let c = index::branches(list, work, r);
-                push_into(slot, node_at(list, work, at, m));
+                let r = table.right(at);
+                let c = table.branches(r);
+                push_into(slot, node_at(table, at, m));
                 let left = j / c;
                 j %= c;
-                term_into(list, work, bound, at + 1, m, left, slot);
+                term_into(table, bound, at + 1, m, left, slot);
                 at = r;
             }
             5 => {
-                definition_into(list, work, index::called(list, work, at), j, slot);
+                definition_into(table, table.called(at), j, slot);
                 return;
             }
             6..=18446744073709551615 => {
@@ -82,13 +75,12 @@ pub fn term_into(
 
 // Puts the i-th residual of the body of definition d after what the slot has.
 #[cycle(definition_into_term_into)]
-fn definition_into(list: &[u16], work: &[u64], d: usize, i: u64, slot: &mut [u64])
-    requires indexed { Indexed list.now work.now }
-    requires resolves_definition { ResolvesDefinition (table_in list.now) d i slot.old }
+fn definition_into(table: &IndexedTable<'_>, d: usize, i: u64, slot: &mut [u64])
+    requires resolves_definition { ResolvesDefinition (table_of table.now) d i slot.old }
     ensures { slot.new
-        ≡ definition_into (table_in list.now) d i slot.old }
+        ≡ definition_into (table_of table.now) d i slot.old }
 {
-    term_into(list, work, d, index::body(list, work, d), 0, i, slot);
+    term_into(table, d, table.body(d), 0, i, slot);
 }
 
 // Takes words off a slot until it has n of them, the last first.
@@ -98,6 +90,7 @@ pub fn pop_to(slot: &mut [u64], n: u64)
         ≡ pop_all slot.old (get_or slot.old 0 0 - n) }
 {
     let mut c = slot[0];
+    // the last first, so that slot[0] counts what is left at each turn, as pop_all says
     while n < c {
         slot[c as usize] = 0;
         c -= 1;
@@ -106,18 +99,11 @@ pub fn pop_to(slot: &mut [u64], n: u64)
 }
 
 // The i-th residual of the body of definition d, after what the slot has.
-pub fn resolve_definition(
-    list: &[u16],
-    work: &[u64],
-    d: usize,
-    i: u64,
-    slot: [u64; 16],
-) -> [u64; 16]
-    requires indexed { Indexed list.now work.now }
-    requires resolves_definition { ResolvesDefinition (table_in list.now) d i slot }
-    ensures { result ≡ definition_into (table_in list.now) d i slot }
+pub fn resolve_definition(table: &IndexedTable<'_>, d: usize, i: u64, slot: [u64; 16]) -> [u64; 16]
+    requires resolves_definition { ResolvesDefinition (table_of table.now) d i slot }
+    ensures { result ≡ definition_into (table_of table.now) d i slot }
 {
     let mut s = slot;
-    definition_into(list, work, d, i, &mut s);
+    definition_into(table, d, i, &mut s);
     s
 }

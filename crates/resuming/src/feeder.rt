@@ -5,11 +5,12 @@ ghost use Rattle.line_spec.specs.Whole.{resume_of};
 ghost use Rattle.line_spec.specs.Judged.{piece_end};
 ghost use Rattle.resuming.specs.Answers.{resume_said, AfterPiece};
 
-use crate::answer::Course;
 use format::{Line, conclude, refused};
-use state::{Answer, State};
+use state::{Declined, State};
+use std::ops::ControlFlow;
 
-// One piece of events more. A refused event is placed from the input's first.
+// One piece of events more: the monitor goes on, or a line stands. A refused event is placed from
+// the input's first.
 pub fn resume(
     list: &[u16],
     state: State,
@@ -17,7 +18,7 @@ pub fn resume(
     area1: &mut [u64],
     events: &[u8],
     work: &mut [u64],
-) -> Course
+) -> ControlFlow<Line, State>
     ensures { resume_said list.now result area0.new area1.new
         work.new
         ≡ resume_of list.now
@@ -25,23 +26,24 @@ pub fn resume(
         events.now work.old }
 {
     match feeding::feed(list, state, area0, area1, events, work) {
-        Answer::Given(next) => Course::Going(next),
-        Answer::Refused(refusal) => Course::Over(refused(refusal)),
-        Answer::Stopped(refusal, last) => Course::Over(Line::Refused(refusal.number, last.taken)),
+        Ok(next) => ControlFlow::Continue(next),
+        Err(Declined::Refused(refusal)) => ControlFlow::Break(refused(refusal)),
+        Err(Declined::Stopped(refusal, last)) => ControlFlow::Break(Line::Refused {
+            number: refusal.number,
+            place: last.taken,
+        }),
     }
 }
 
-// The course after a piece: where it was the input's last, its line stands.
-pub fn after_piece(course: Course, last: bool) -> Course
+// What comes after a piece: where it was the input's last, its line stands.
+pub fn after_piece(course: ControlFlow<Line, State>, last: bool) -> ControlFlow<Line, State>
     ensures { AfterPiece course last result }
 {
+    let state = course?;
     if last {
-        return match course {
-            Course::Going(state) => Course::Over(conclude(state)),
-            Course::Over(line) => Course::Over(line),
-        };
+        return ControlFlow::Break(conclude(state));
     }
-    course
+    ControlFlow::Continue(state)
 }
 
 // One piece of events more, with which the input ended or did not.
@@ -53,7 +55,7 @@ pub fn take_piece(
     events: &[u8],
     last: bool,
     work: &mut [u64],
-) -> Course
+) -> ControlFlow<Line, State>
     ensures { resume_said list.now result area0.new area1.new
         work.new
         ≡ piece_end last (resume_of list.now

@@ -6,7 +6,7 @@
 --     TextStands   and of its buffer: the text of a line stands there, from its first byte on
 --     text_put     a buffer that has room has the text of a line
 -- Assumes nothing.
-use Rattle.std.specs.Prelude.{ℕ, ◌+◌, ◌≤◌, ◌<◌, ◌≡◌, List, length, take}
+use Rattle.std.specs.Prelude.{ℕ, ◌+◌, ◌≤◌, ◌<◌, ◌≡◌, List, length, take, Result, Ok, Err}
 use Rattle.io.specs.Counts.{IsPrefixLen}
 use Rattle.trace_text.specs.TraceText.{trace_text_of}
 use Rattle.trace_text.specs.Put.{PutsText}
@@ -15,8 +15,7 @@ use Rattle.tracing.specs.declared.answer.TraceLine as code
 use Rattle.tracing.specs.Answers.{trace_line_said}
 use Rattle.saying.specs.declared.print.Count.{Count}
 use Rattle.saying.specs.declared.print.Said.{Said}
-use Rattle.saying.specs.declared.print.Saying.{Saying}
-use Rattle.saying.specs.declared.print.Saying.TheVariants.{Written, Failed}
+use Rattle.saying.specs.declared.print.Unsaid.{Unsaid}
 
 abbrev pub said_line : Said → TraceLine
 said_line y = trace_line_said y.line
@@ -36,9 +35,9 @@ abbrev pub first_said : TraceLine → Utterance
 first_said x = record { line = x; lines = 1 }
 
 -- after the lines that were said before
-abbrev pub Spoken : code.TraceLine → Count → Saying → Type 0
-Spoken line before (Written y) = (y.line ≡ line) × Counted before.lines 1 y.count.lines
-Spoken line before (Failed u) = Unit
+abbrev pub Spoken : code.TraceLine → Count → Result Said Unsaid → Type 0
+Spoken line before (Ok y) = (y.line ≡ line) × Counted before.lines 1 y.count.lines
+Spoken line before (Err u) = Unit
 
 pub record TextStands (x : TraceLine) (out : List ℕ) : Type 0 where
   pub count : ℕ

@@ -9,9 +9,8 @@ use Rattle.std.specs.Prelude.{ℕ, zero, suc, ◌+◌, ◌*◌, ◌<◌, ◌≤�
 use Rattle.table.specs.Table.{Table}
 use Rattle.residuals.specs.Slots.{nodes}
 use Rattle.residuals.specs.Residual.{Residual}
-use Rattle.slots.specs.Holding.{Outcome, put_all, Gave}
+use Rattle.slots.specs.Holding.{Outcome, put_all, Gave, Held}
 use Rattle.slots.specs.Canon.{SameMembers}
-use Rattle.slots.specs.declared.slots.Held.{Held}
 use Rattle.resolving.specs.Lawful.{Lawful}
 use Rattle.resolving.specs.Distinct.{window, empty}
 use Rattle.tree_walk.specs.Walk.{room, results, onto}

@@ -7,7 +7,7 @@ mod starts;
 mod steps;
 
 pub use leaf_memo::{forget, keeps_some};
-pub use slots::Held;
+pub use slots::Exceeded;
 pub use starts::resolve_set;
 pub use steps::step_set;
 pub use tree_moves::{Tree, takes_at};

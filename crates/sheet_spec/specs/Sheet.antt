@@ -4,11 +4,10 @@
 --     sheet_outcome                    the answer of `sheet` and the output, as an outcome
 -- The laws are in `proofs/Sheets/Laws.antt` and, of the loop that writes, `proofs/Sheets/Writing.antt`. Assumes
 -- nothing.
-use Rattle.std.specs.Prelude.{ℕ, ◌+◌, ◌*◌, ◌≤◌, ◌≡◌, cond, List, [], ◌∷◌, ◌++◌, length, drop, ltb}
+use Rattle.std.specs.Prelude.{ℕ, ◌+◌, ◌*◌, ◌≤◌, ◌≡◌, cond, List, [], ◌∷◌, ◌++◌, length, drop, ltb, Result, Ok, Err}
+use Rattle.table.specs.declared.answer.Refusal.{Refusal}
 use Rattle.lot_book.specs.declared.entry.Lot.{Lot}
 use Rattle.lot_book.specs.Book.{Book, lots, bad, book_of, taken_sum}
-use Rattle.sheet_spec.specs.declared.answer.Sheet.{Sheet}
-use Rattle.sheet_spec.specs.declared.answer.Sheet.TheVariants.{Given, Refused}
 use Rattle.sheet_spec.specs.Line.{lot_line, total_line}
 
 -- "prints each record on a line"
@@ -45,9 +44,9 @@ outcome_of (bad i) out = refused 14 i out
 unfoldable pub sheet_of : List ℕ → List ℕ → Outcome
 sheet_of book out = outcome_of (book_of book) out
 
-abbrev pub sheet_outcome : Sheet → List ℕ → Outcome
-sheet_outcome (Given n) out = given n out
-sheet_outcome (Refused r) out = refused r.number r.place out
+abbrev pub sheet_outcome : Result ℕ Refusal → List ℕ → Outcome
+sheet_outcome (Ok n) out = given n out
+sheet_outcome (Err r) out = refused r.number r.place out
 
 -- ours: what `write` asks: a good book, its sum, and room for its lines
 pub record Writable (book out : List ℕ) (sum : ℕ) : Type 0 where

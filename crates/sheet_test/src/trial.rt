@@ -1,47 +1,39 @@
-// One call on an output full of junk: whether its answer, and what it leaves in the output, are as
-// stored (02, W2).
-use cases::{digest_bytes, fill_bytes};
-use sheet::Sheet;
-use table::Refusal;
+// A line of the file as a case: its call on an output full of junk, and whether its answer, and what
+// it leaves in the output, are as stored (02, W2).
+use crate::call::write_sheet;
+use cases::{
+    Fault, Outcome, Trial, digest, lend, length, numbers, read_list, section, stored_answer,
+};
+use std::alloc::Global;
 
-// What is stored: 0 and a count, or a refusal's number and place; the output's digest.
-#[derive(Clone, Copy)]
-pub struct Stored {
-    pub number: u64,
-    pub value: u64,
-    pub output: u64,
+// The longest book and output that the file asks for.
+const LONGEST: usize = 16500;
+
+#[derive(Drop)]
+pub struct Books {
+    book: Vec<u8>,
+    out: Vec<u8>,
 }
 
-fn is_result(n: usize, s: Stored) -> bool {
-    if s.number == 0 {
-        n as u64 == s.value
-    } else {
-        false
-    }
-}
-
-fn is_refusal(r: Refusal, s: Stored) -> bool {
-    if s.number == 0 {
-        return false;
-    }
-    if r.number as u64 == s.number {
-        r.place as u64 == s.value
-    } else {
-        false
+impl Books {
+    pub fn new(alloc: Global) -> Books {
+        Books {
+            book: Vec::new(alloc),
+            out: Vec::new(alloc),
+        }
     }
 }
 
-fn is_answer(answer: Sheet, s: Stored) -> bool {
-    match answer {
-        Sheet::Given(n) => is_result(n, s),
-        Sheet::Refused(r) => is_refusal(r, s),
+impl Trial for Books {
+    // `s OUTLEN : b b .. = NUMBER VALUE OUTPUT`
+    fn take_line(&mut self, line: &str) -> Result<Outcome, Fault> {
+        let (call, stored) = line.split_once(" =").ok_or(Fault::Malformed)?;
+        let (head, book) = section(call)?;
+        let [out] = numbers::<1>(head.strip_prefix('s').ok_or(Fault::Malformed)?)?;
+        let [number, value, output] = numbers::<3>(stored)?;
+        read_list(book, LONGEST, &mut self.book)?;
+        lend(&mut self.out, length(out, LONGEST)?)?;
+        let answer = write_sheet(&self.book, &mut self.out);
+        Ok(Outcome::from(answer == stored_answer(number, value) && digest(&self.out) == output))
     }
-}
-
-pub fn sheet_right(book: &[u8], out: &mut [u8], s: Stored) -> bool {
-    fill_bytes(out);
-    if !is_answer(sheet::sheet(book, out), s) {
-        return false;
-    }
-    digest_bytes(out) == s.output
 }

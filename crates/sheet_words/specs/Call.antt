@@ -4,9 +4,8 @@
 --     sheet_call              of the bytes lent
 --     SheetWay                the same by the operation's outcome
 -- The laws are in `proofs/Call/Laws.antt`. Assumes nothing.
-use Rattle.std.specs.Prelude.{ℕ, ◌≡◌, Bool, true, false, List}
-use Rattle.sheet_spec.specs.declared.answer.Sheet.{Sheet}
-use Rattle.sheet_spec.specs.declared.answer.Sheet.TheVariants.{Given, Refused}
+use Rattle.std.specs.Prelude.{ℕ, ◌≡◌, Bool, true, false, List, Result, Ok, Err}
+use Rattle.table.specs.declared.answer.Refusal.{Refusal}
 use Rattle.sheet_spec.specs.Sheet.{Outcome, given, refused, sheet_of}
 
 pub record SheetCall : Type 0 where
@@ -20,17 +19,17 @@ sheet_said n v out = record { number = n; value = v; output = out }
 -- ---- an answer
 
 -- the refusal's number, 0 where there is none
-unfoldable pub sheet_number : Sheet → ℕ
-sheet_number (Given n) = 0
-sheet_number (Refused q) = q.number
+unfoldable pub sheet_number : Result ℕ Refusal → ℕ
+sheet_number (Ok n) = 0
+sheet_number (Err q) = q.number
 
 -- "the byte count given", or the refusal's place
-unfoldable pub sheet_value : Sheet → ℕ
-sheet_value (Given n) = n
-sheet_value (Refused q) = q.place
+unfoldable pub sheet_value : Result ℕ Refusal → ℕ
+sheet_value (Ok n) = n
+sheet_value (Err q) = q.place
 
 -- the promise of `tell_sheet`
-pub record SheetTold (x : Sheet) (n v : ℕ) : Type 0 where
+pub record SheetTold (x : Result ℕ Refusal) (n v : ℕ) : Type 0 where
   pub number : n ≡ sheet_number x
   pub value : v ≡ sheet_value x
 

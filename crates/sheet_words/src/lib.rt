@@ -4,20 +4,20 @@
 
 ghost use Rattle.sheet_words.specs.Call.{SheetTold};
 
-use sheet::Sheet;
+use table::Refusal;
 
 // The number to return; the count or the place goes into value.
-pub fn tell_sheet(answer: Sheet, value: &mut u64) -> u32
+pub fn tell_sheet(answer: Result<usize, Refusal>, value: &mut u64) -> u32
     ensures { SheetTold answer result value.new }
 {
     match answer {
-        Sheet::Given(n) => {
+        Ok(n) => {
             *value = n as u64;
             0
         }
-        Sheet::Refused(r) => {
+        Err(r) => {
             *value = r.place as u64;
-            r.number as u32
+            u32::from(r.number)
         }
     }
 }

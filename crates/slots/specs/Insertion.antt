@@ -1,5 +1,6 @@
 -- Slots of sixteen words in an area (01, "Residuals": "ascending by first differing word").
 --     order                         how a new slot stands to a held one, word by word
+--     order_of                      the same, as slices compare
 --     seek                          the place of a slot among those held, from one of them on
 --     middle_of, halved, narrowed    from which one: by halving, the last looked at first
 --     place_in                       the place by both
@@ -8,12 +9,12 @@
 -- The laws are in `proofs/Insertion/Laws.antt`, `proofs/Insertion/Narrow.antt` and `proofs/Insertion/Gap.antt`. Assumes
 -- nothing.
 use Rattle.std.specs.Prelude.{ℕ, zero, suc, ◌+◌, ◌-◌, ◌*◌, ◌/◌, List, ◌++◌, Bool, true, false, cond, length, get_or, take, drop, ltb}
+use Rattle.std.specs.Prelude.{Option, Some, None, Result, Ok, Err}
+use Rattle.std.specs.declared.cmp.Ordering.{Ordering}
+use Rattle.std.specs.declared.cmp.Ordering.TheVariants.{Less, Equal, Greater}
 use Rattle.std.proofs.Math.Seq.{slice, paste}
 use Rattle.slots.specs.Canon.{Order, below, same, above}
-use Rattle.slots.specs.declared.slots.Inserted.{Inserted}
-use Rattle.slots.specs.declared.slots.Inserted.TheVariants as ins
-use Rattle.slots.specs.declared.slots.Place.{Place}
-use Rattle.slots.specs.declared.slots.Place.TheVariants.{Held, At}
+use Rattle.slots.specs.declared.slots.Exceeded.{Exceeded}
 
 -- n words of the new slot from q on, against those of the area from p on: `compare_words` of them (`order_is` of
 -- `proofs/Canon/Places.antt`)
@@ -25,15 +26,25 @@ order (suc n) a p b q =
       | false ↦ elim (ltb (get_or a p 0) (get_or b q 0)) [ true ↦ above | false ↦ order n a (p + 1) b (q + 1) ]
     ]
 
+-- as the held slot stands to the new one, by first differing word
+abbrev pub order_of : Ordering → Order
+order_of Less = above
+order_of Equal = same
+order_of Greater = below
+
+-- the place of a slot, or none where it is held already
+abbrev pub Place : Type 0
+Place = Option ℕ
+
 -- the place among the n slots from the i-th on
 abbrev pub place_by : Order → Place → Place → Place
 place_by below here next = here
-place_by same here next = Held
+place_by same here next = None
 place_by above here next = next
 
 unfoldable pub seek : ℕ → List ℕ → List ℕ → ℕ → Place
-seek zero a b i = At i
-seek (suc n) a b i = place_by (order 16 a (i * 16) b 0) (At i) (seek n a b (i + 1))
+seek zero a b i = Some i
+seek (suc n) a b i = place_by (order 16 a (i * 16) b 0) (Some i) (seek n a b (i + 1))
 
 -- ---- the place, by halving
 
@@ -81,14 +92,22 @@ gapped l p n = take (p + 16) l ++ (slice p n l ++ drop (n + 16) l)
 unfoldable pub stored : List ℕ → ℕ → List ℕ → ℕ → List ℕ
 stored l p s n = paste l p s n
 
+-- one slot more has no room
+abbrev pub no_room : Exceeded
+no_room = record {}
+
+-- whether a slot is new, or has no room
+abbrev pub Inserted : Type 0
+Inserted = Result Bool Exceeded
+
 -- the answer and the words, by the place found
 abbrev pub answer_by : Place → Bool → Inserted
-answer_by Held full = ins.Held
-answer_by (At i) full = cond full ins.Full ins.New
+answer_by None full = Ok false
+answer_by (Some i) full = cond full (Err no_room) (Ok true)
 
 abbrev pub words_by : Place → Bool → List ℕ → ℕ → List ℕ → List ℕ
-words_by Held full l n s = l
-words_by (At i) full l n s = cond full l (stored (gapped l (i * 16) n) (i * 16) s 16)
+words_by None full l n s = l
+words_by (Some i) full l n s = cond full l (stored (gapped l (i * 16) n) (i * 16) s 16)
 
 unfoldable pub insert_answer : List ℕ → ℕ → List ℕ → Inserted
 insert_answer l count s = answer_by (place_in count l s) (ltb (length l - count * 16) 16)

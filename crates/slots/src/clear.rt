@@ -6,16 +6,12 @@ pub fn clear_first(words: &mut [u64], n: usize)
     requires { n ≤ length words.old }
     ensures { words.new ≡ replicate n 0 ++ drop n words.old }
 {
-    let mut i = 0;
-    while i < n {
-        words[i] = 0;
-        i += 1;
-    }
+    words[..n].fill(0);
 }
 
 // Zeroes all words.
 pub fn clear_all(words: &mut [u64])
     ensures { words.new ≡ replicate (length words.old) 0 }
 {
-    clear_first(words, words.len());
+    words.fill(0);
 }

@@ -7,4 +7,4 @@ mod clear;
 mod slots;
 
 pub use clear::{clear_all, clear_first};
-pub use slots::{Held, put, store};
+pub use slots::{Exceeded, put, store};

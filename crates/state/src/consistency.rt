@@ -1,7 +1,7 @@
 // Whether state and area agree (document 01, "Disturbed"; refusal 10). The definitions are in
 // `specs/Consistent.antt` of crate monitor_spec.
 ghost use Rattle.std.specs.Prelude.{◌≡◌, ◌*◌, ◌≤◌, ◌&&◌, length};
-ghost use Rattle.table_index.specs.Index.{table_in, Indexed};
+ghost use Rattle.index.specs.Handle.{table_of};
 ghost use Rattle.monitor_spec.specs.State.{chunks};
 ghost use Rattle.monitor_spec.specs.Valid.{valid_slot};
 ghost use Rattle.monitor_spec.specs.Consistent.{every, ascends, all_zero, verdict_fits};
@@ -10,22 +10,19 @@ ghost use Rattle.monitor_spec.specs.Consistent.{consistent as agrees};
 ghost use Rattle.state.specs.Record.{verdict_of, state_of, monitor_of};
 
 use crate::record::{State, Verdict};
+use index::IndexedTable;
 use valid_slots::{all_zero, below, slot_fits};
 
 // Whether the first slots of an area are valid.
-fn slots_fit(list: &[u16], work: &[u64], area: &[u64], count: usize) -> bool
-    requires indexed { Indexed list.now work.now }
+fn slots_fit(table: &IndexedTable<'_>, area: &[u64], count: usize) -> bool
     requires count_in_bounds { count * 16 ≤ length area.now }
-    ensures { result ≡ every (valid_slot (table_in list.now)) (chunks count area.now) }
+    ensures { result ≡ every (valid_slot (table_of table.now)) (chunks count area.now) }
 {
-    let mut i = 0;
-    while i < count {
+    for i in 0..count {
         let p = i * 16;
-        let q = p + 16;
-        if !slot_fits(list, work, &area[p..q]) {
+        if !slot_fits(table, &area[p..p + 16]) {
             return false;
         }
-        i += 1;
     }
     true
 }
@@ -35,65 +32,39 @@ fn slots_ascend(area: &[u64], count: usize) -> bool
     requires { count * 16 ≤ length area.now }
     ensures { result ≡ ascends (chunks count area.now) }
 {
-    let mut i = 0;
-    while i + 1 < count {
+    for i in 1..count {
         let p = i * 16;
-        let q = p + 16;
-        let e = q + 16;
-        if !below(&area[p..q], &area[q..e]) {
+        if !below(&area[p - 16..p], &area[p..p + 16]) {
             return false;
         }
-        i += 1;
     }
     true
 }
 
 // Whether an area is so many ascending valid slots and then zeros.
-fn area_fits(list: &[u16], work: &[u64], area: &[u64], count: usize) -> bool
-    requires indexed { Indexed list.now work.now }
+fn area_fits(table: &IndexedTable<'_>, area: &[u64], count: usize) -> bool
     requires count_in_bounds { count * 16 ≤ length area.now }
-    ensures { result ≡ area_fits (table_in list.now) count area.now }
+    ensures { result ≡ area_fits (table_of table.now) count area.now }
 {
-    if !slots_fit(list, work, area, count) {
-        return false;
-    }
-    if !slots_ascend(area, count) {
-        return false;
-    }
-    all_zero(area, count * 16)
+    slots_fit(table, area, count) && slots_ascend(area, count) && all_zero(area, count * 16)
 }
 
 // Whether the present area is that, and the other zero.
-fn areas_fit(list: &[u16], work: &[u64], present: &[u64], other: &[u64], count: usize) -> bool
-    requires indexed { Indexed list.now work.now }
+fn areas_fit(table: &IndexedTable<'_>, present: &[u64], other: &[u64], count: usize) -> bool
     requires count_in_bounds { count * 16 ≤ length present.now }
-    ensures { result ≡ (area_fits (table_in list.now) count present.now
+    ensures { result ≡ (area_fits (table_of table.now) count present.now
         && all_zero other.now) }
 {
-    if !area_fits(list, work, present, count) {
-        return false;
-    }
-    all_zero(other, 0)
+    area_fits(table, present, count) && all_zero(other, 0)
 }
 
 // Whether the verdict agrees with the events taken and the residuals held.
 fn verdict_fits(state: State, slots: u64) -> bool
     ensures { result ≡ verdict_fits (verdict_of state.verdict) state.taken state.count slots }
 {
-    let verdict = state.verdict;
-    match verdict {
-        Verdict::Running => {
-            if state.count == 0 {
-                return false;
-            }
-            state.count <= slots
-        }
-        Verdict::Failed(place) => {
-            if state.taken < place {
-                return false;
-            }
-            state.count == 0
-        }
+    match state.verdict {
+        Verdict::Running => 0 < state.count && state.count <= slots,
+        Verdict::Failed(place) => place <= state.taken && state.count == 0,
     }
 }
 
@@ -104,17 +75,13 @@ fn record_fits(state: State, slots: u64) -> bool
     if !verdict_fits(state, slots) {
         return false;
     }
-    if state.peak < state.count {
-        return false;
-    }
-    state.peak <= slots
+    state.count <= state.peak && state.peak <= slots
 }
 
 // Whether state and areas agree: refusal 10 is not met.
-pub fn consistent(list: &[u16], work: &[u64], state: State, area0: &[u64], area1: &[u64]) -> bool
-    requires indexed { Indexed list.now work.now }
+pub fn consistent(table: &IndexedTable<'_>, state: State, area0: &[u64], area1: &[u64]) -> bool
     requires area0_len { length area0.now ≡ length area1.now }
-    ensures { result ≡ agrees (table_in list.now)
+    ensures { result ≡ agrees (table_of table.now)
         (monitor_of state area0.now area1.now) }
 {
     let slots = (area0.len() / 16) as u64;
@@ -122,8 +89,10 @@ pub fn consistent(list: &[u16], work: &[u64], state: State, area0: &[u64], area1
         return false;
     }
     let count = state.count as usize;
+    // The parity is tested where it is used: each place picks other things by it (`&`, `&mut`, a pointer).
     if state.taken % 2 == 0 {
-        return areas_fit(list, work, area0, area1, count);
+        areas_fit(table, area0, area1, count)
+    } else {
+        areas_fit(table, area1, area0, count)
     }
-    areas_fit(list, work, area1, area0, count)
 }

@@ -9,8 +9,9 @@ mod lengths;
 mod record;
 mod viewer;
 
-pub use answer::{Answer, EventBits, Offered};
+pub use answer::{Answer, Declined, EventBits};
 pub use consistency::consistent;
+pub use index::IndexedTable;
 pub use lengths::lengths_fit;
 pub use record::{State, Verdict};
 pub use slots::{clear_all, clear_first};

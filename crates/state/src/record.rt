@@ -27,12 +27,9 @@ impl State {
         requires { self.taken < 18446744073709551615 }
         ensures { state_of result ≡ counted (state_of self) }
     {
-        let verdict = self.verdict;
         State {
             taken: self.taken + 1,
-            count: self.count,
-            peak: self.peak,
-            verdict,
+            ..self
         }
     }
 
@@ -40,20 +37,14 @@ impl State {
     pub fn fail(self) -> Self
         ensures { state_of result ≡ holding (state_of self) 0 }
     {
-        let verdict = self.verdict;
-        match verdict {
-            Verdict::Running => State {
-                taken: self.taken,
-                count: 0,
-                peak: self.peak,
-                verdict: Verdict::Failed(self.taken),
-            },
-            Verdict::Failed(place) => State {
-                taken: self.taken,
-                count: 0,
-                peak: self.peak,
-                verdict: Verdict::Failed(place),
-            },
+        let verdict = match self.verdict {
+            Verdict::Running => Verdict::Failed(self.taken),
+            Verdict::Failed(place) => Verdict::Failed(place),
+        };
+        State {
+            count: 0,
+            verdict,
+            ..self
         }
     }
 
@@ -65,9 +56,7 @@ impl State {
             return self.fail();
         }
         self.count = count;
-        if self.peak < count {
-            self.peak = count;
-        }
+        self.peak = self.peak.max(count);
         self
     }
 

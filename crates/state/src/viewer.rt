@@ -7,7 +7,8 @@ ghost use Rattle.state.specs.Viewed.{part_of, Viewed};
 
 use crate::record::{State, Verdict};
 
-// Which area, 0 or 1, and how many of its words from its beginning.
+// Which area, 0 or 1, and how many of its words from its beginning. The area is a number, as
+// `view_part` and `cspe_view` tell it.
 #[derive(Drop)]
 struct Part {
     area: u64,

@@ -2,7 +2,7 @@
 --     step_holds, step_exceeds                  one event, from an area that holds residuals
 --     definition_holds, definition_exceeds      the residuals of a definition
 -- Assumes nothing.
-use Rattle.std.specs.Prelude.{ℕ, ◌≤◌, ◌<◌, ◌≡◌, List, [], length}
+use Rattle.std.specs.Prelude.{ℕ, ◌≤◌, ◌<◌, ◌≡◌, List, [], length, Ok, Err}
 use Rattle.std.proofs.Math.Path.{refl}
 use Rattle.numbers.specs.Every.{All}
 use Rattle.table.specs.Table.{Table}
@@ -15,8 +15,7 @@ use Rattle.monitor_spec.specs.State.{fill}
 use Rattle.monitor_spec.specs.Proper.{Proper}
 use Rattle.monitor_spec.specs.Valid.{held}
 use Rattle.monitor_spec.proofs.Valid.Residuals.{slots_after}
-use Rattle.slots.specs.declared.slots.Held.TheVariants.{Count, Exceeded}
-use Rattle.slots.specs.Holding.{held_as, put_all}
+use Rattle.slots.specs.Holding.{held_as, put_all, no_room}
 use Rattle.slots.specs.Canon.{canon, SameMembers}
 use Rattle.slots.proofs.Canon.Areas.{fill_none}
 use Rattle.slots.proofs.Canon.Laws.{put_canon, put_exceeded_canon}
@@ -47,14 +46,14 @@ module _ (t : Table) (rules : Rules t) where
     source = rw same_length (step_source t rules rs proper n room e small)
 
     pub step_holds : (cap : ℕ) → length (slots_of (after_all t e rs)) ≤ cap → put_all (fill cap []) 0 xs
-        ≡ held_as (Count (length (slots_of (after_all t e rs)))) (fill cap (slots_of (after_all t e rs)))
+        ≡ held_as (Ok (length (slots_of (after_all t e rs)))) (fill cap (slots_of (after_all t e rs)))
     step_holds cap k =
         rw (fill_none cap, ← same_slots)
         (stepped t e (fill n (slots_of rs)) hs (holds_slots t rules rs proper n) source cap xs (rw same_length m)
         (rw same_slots k))
 
     pub step_exceeds : (cap : ℕ) → cap < length (slots_of (after_all t e rs))
-        → (put_all (fill cap []) 0 xs).held ≡ Exceeded
+        → (put_all (fill cap []) 0 xs).held ≡ Err no_room
     step_exceeds cap k =
         rw (fill_none cap)
         (exceeded t e (fill n (slots_of rs)) hs (holds_slots t rules rs proper n) source cap xs (rw same_length m)
@@ -79,13 +78,13 @@ module _ (t : Table) (rules : Rules t) where
     first_slots = rw first_is
 
     pub definition_holds : (cap : ℕ) → length (slots_of settled) ≤ cap → put_all (fill cap []) 0 (initial t d)
-        ≡ held_as (Count (length (slots_of settled))) (fill cap (slots_of settled))
+        ≡ held_as (Ok (length (slots_of settled))) (fill cap (slots_of settled))
     definition_holds cap h =
         rw (← first_slots)
         (put_canon cap (initial t d) (sixteen_words (resolve_def t (body_count t) d) first_short) (rw first_slots h))
 
     pub definition_exceeds : (cap : ℕ) → cap < length (slots_of settled)
-        → (put_all (fill cap []) 0 (initial t d)).held ≡ Exceeded
+        → (put_all (fill cap []) 0 (initial t d)).held ≡ Err no_room
     definition_exceeds cap h =
         put_exceeded_canon cap (initial t d) (sixteen_words (resolve_def t (body_count t) d) first_short)
         (rw first_slots h)

@@ -6,26 +6,27 @@
 -- Assumes nothing.
 use Rattle.std.specs.Prelude.{ℕ, ◌≡◌, List}
 use Rattle.numbers.specs.Number.{list_bytes}
-use Rattle.table.specs.declared.answer.Answer as code
-use Rattle.table.specs.declared.answer.Answer.TheVariants.{Count, Refused}
+use Rattle.std.specs.declared.result.Result.{Result}
+use Rattle.std.specs.declared.result.Result.TheVariants.{Ok, Err}
+use Rattle.table.specs.declared.answer.Refusal.{Refusal}
 use Rattle.table.specs.Judge.{judge_bytes, judge_list}
 use Rattle.table.specs.Operations.{Answer, done, refusal, Outcome, read_judged, write_judged}
 
 -- "When the monitor declines": a refusal is its number and its place
-abbrev pub answer_of : code.Answer → Answer
-answer_of (Count n) = done n
-answer_of (Refused r) = refusal r.number r.place
+abbrev pub answer_of : Result ℕ Refusal → Answer
+answer_of (Ok n) = done n
+answer_of (Err r) = refusal r.number r.place
 
-abbrev pub outcome : code.Answer → List ℕ → List ℕ → Outcome
+abbrev pub outcome : Result ℕ Refusal → List ℕ → List ℕ → Outcome
 outcome r out work = record { answer = answer_of r; output = out; work = work }
 
-pub record Said (r : code.Answer) (out : List ℕ) (o : Outcome) : Type 0 where
+pub record Said (r : Result ℕ Refusal) (out : List ℕ) (o : Outcome) : Type 0 where
   pub answer : answer_of r ≡ o.answer
   pub output : out ≡ o.output
 
 -- the promises of `read_bytes` and `write_list`
-abbrev pub ReadSaid : List ℕ → code.Answer → List ℕ → Type 0
+abbrev pub ReadSaid : List ℕ → Result ℕ Refusal → List ℕ → Type 0
 ReadSaid s r out = Said r out (read_judged (judge_bytes s))
 
-abbrev pub WriteSaid : List ℕ → List ℕ → code.Answer → List ℕ → Type 0
+abbrev pub WriteSaid : List ℕ → List ℕ → Result ℕ Refusal → List ℕ → Type 0
 WriteSaid l out r out' = Said r out' (write_judged (list_bytes l) out (judge_list l))

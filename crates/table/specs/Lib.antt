@@ -24,6 +24,8 @@ pub mod Refusals
 pub mod BytesRefused
 pub mod Operations
 pub mod Answers
+pub mod Reading
+pub mod Kind
 pub mod Node
 pub mod Stands
 pub mod Member

@@ -1,5 +1,4 @@
-// What the reading of a term is told and what it answers.
-use crate::answer::Refusal;
+// What the reading of a term is told and what it gives.
 
 // Where a term stands: how many prefixes and whether a parallel is around it, whether it is a body
 // or a prefix's follower, and its definition.
@@ -12,7 +11,7 @@ pub struct Spot {
 }
 
 // What a term's word says apart from its right side.
-#[derive(Drop)]
+#[derive(Clone, Copy)]
 pub struct Head {
     pub kind: u64,
     pub parameter: u64,
@@ -20,21 +19,17 @@ pub struct Head {
     pub spot: Spot,
 }
 
-// A set reference: the set's first row, 0 or the parameter and 1, and the place after it; or why
-// there is none.
-#[derive(Drop)]
-pub enum Reference {
-    Found {
-        target: u64,
-        parameter: u64,
-        next: usize,
-    },
-    NoReference(Refusal),
+// A set reference: the set's first row, 0 or the parameter and 1, and the place after it.
+#[derive(Clone, Copy)]
+pub struct Reference {
+    pub target: u64,
+    pub parameter: u64,
+    pub next: usize,
 }
 
-// The place and the term number after what was read, or why it was not.
-#[derive(Drop)]
-pub enum TermEnd {
-    NextTerm { next: usize, terms: usize },
-    NoTerm(Refusal),
+// The place and the term number after what was read.
+#[derive(Clone, Copy)]
+pub struct TermEnd {
+    pub next: usize,
+    pub terms: usize,
 }

@@ -1,20 +1,23 @@
 -- The judgement of bytes from that of the numbers written in them (01, "When the monitor declines": "Place").
+--     ended_by         that of bytes that end where a number is wanted, by why there is none
 --     on_bytes         the judgement of bytes that begin with given numbers, from the judgement of these
 --     JudgedAs         the code's answer is a judgement;  BytesJudged, BytesDeclined: promises of the code
 --     judged_bytes     on_bytes gives the judgement of the bytes
 --     on-..            on_bytes by cases
 --     PlaceInside, place_within    a refused number's place is one of the list, or its end
 -- Assumes nothing.
-use Rattle.std.specs.Prelude.{ℕ, suc, ◌+◌, ◌≤◌, ◌<◌, ◌≡◌, refl, Bool, true, false, cond, ◌||◌, ◌⊎◌, List, [], ◌∷◌, length, drop, get_or, eqb, ltb}
+use Rattle.std.specs.Prelude.{ℕ, suc, ◌+◌, ◌≤◌, ◌<◌, ◌≡◌, refl, cond, ◌||◌, ◌⊎◌, List, [], ◌∷◌, length, drop, get_or, eqb, ltb}
 use native.Mathlib.Omega.{arith}
 use Rattle.std.proofs.Math.Decide.{dec_lt}
 use Rattle.std.proofs.Common.{sym, ap, ◌∙◌, subst, inl, inr, append-nil, length-append, drop_of_length-le, drop-cons}
 use Rattle.std.proofs.Math.Logic.{⊎_elim}
 use borrow.Author.Tests.{le-ltb, lt-ltb, ne_eqb}
 use Rattle.numbers.specs.Number.{list_bytes, Incomplete, IllWritten}
+use Rattle.numbers.specs.declared.ReadError.{ReadError}
+use Rattle.numbers.specs.declared.ReadError.TheVariants.{Truncated, Malformed}
 use Rattle.table.specs.declared.answer.Refusal.{Refusal}
-use Rattle.table.specs.declared.answer.Judged.{Judged}
-use Rattle.table.specs.declared.answer.Judged.TheVariants.{Accepted, Declined}
+use Rattle.std.specs.declared.result.Result.{Result}
+use Rattle.std.specs.declared.result.Result.TheVariants.{Ok, Err}
 use Rattle.table.proofs.FirstLaws.{first_short}
 use Rattle.table.specs.Table.{Table}
 use Rattle.table.specs.Tokens.{ended, list_tokens}
@@ -36,72 +39,76 @@ use Rattle.table_index.specs.Judging.{Decoding}
 
 -- 3, "cut short", at "input length", or 4, "loose number", at "its first byte"; 5 and 6 at the number's first byte;
 -- before 7, 8 and 9 6, "left over": "input after the table" that is no number
-unfoldable pub on_bytes : List ℕ → ℕ → ℕ → Bool → Judgement → Judgement
-on_bytes ns next size bad (accepted ms t) = cond (ltb next size) (declined 6 next) (accepted ms t)
-on_bytes ns next size bad (declined n at) =
-    cond (eqb n 3) (cond bad (declined 4 next) (declined 3 size))
+abbrev pub ended_by : ReadError → ℕ → ℕ → Judgement
+ended_by Truncated next size = declined 3 size
+ended_by Malformed next size = declined 4 next
+
+unfoldable pub on_bytes : List ℕ → ℕ → ℕ → ReadError → Judgement → Judgement
+on_bytes ns next size stop (accepted ms t) = cond (ltb next size) (declined 6 next) (accepted ms t)
+on_bytes ns next size stop (declined n at) =
+    cond (eqb n 3) (ended_by stop next size)
     (cond (eqb n 5 || eqb n 6) (declined n (byte_place ns at))
     (cond (ltb next size) (declined 6 next) (cond (eqb n 7) (declined n (byte_place ns at)) (declined n at))))
 
 -- what the code says of a judgement, where it is one of a table with the numbers l
-abbrev pub JudgedAs : List ℕ → Judged → Judgement → Type 0
-JudgedAs l Accepted j = j ≡ accepted l (table_in l)
-JudgedAs l (Declined r) j = j ≡ declined r.number r.place
+abbrev pub JudgedAs : List ℕ → Result Unit Refusal → Judgement → Type 0
+JudgedAs l (Ok _) j = j ≡ accepted l (table_in l)
+JudgedAs l (Err r) j = j ≡ declined r.number r.place
 
 -- the promise of `judge_decoded`, on the numbers ns of some bytes
-abbrev pub BytesJudged : List ℕ → ℕ → ℕ → Bool → Judged → Type 0
-BytesJudged ns next size bad r = JudgedAs ns r (on_bytes ns next size bad (judge (list_tokens 0 ns)))
+abbrev pub BytesJudged : List ℕ → ℕ → ℕ → ReadError → Result Unit Refusal → Type 0
+BytesJudged ns next size stop r = JudgedAs ns r (on_bytes ns next size stop (judge (list_tokens 0 ns)))
 
 -- the promise of `refused_bytes`: q is r on the bytes
-abbrev pub BytesDeclined : List ℕ → ℕ → ℕ → Bool → Refusal → Refusal → Type 0
-BytesDeclined ns next size bad r q =
-    declined q.number q.place ≡ on_bytes ns next size bad (declined r.number r.place)
+abbrev pub BytesDeclined : List ℕ → ℕ → ℕ → ReadError → Refusal → Refusal → Type 0
+BytesDeclined ns next size stop r q =
+    declined q.number q.place ≡ on_bytes ns next size stop (declined r.number r.place)
 
 -- ---- on_bytes by cases
-module _ (ns : List ℕ) (next size : ℕ) (bad : Bool) (n at : ℕ) where
-  pub on_short : n ≡ 3 → bad ≡ false → declined 3 size ≡ on_bytes ns next size bad (declined n at)
+module _ (ns : List ℕ) (next size : ℕ) (stop : ReadError) (n at : ℕ) where
+  pub on_short : n ≡ 3 → stop ≡ Truncated → declined 3 size ≡ on_bytes ns next size stop (declined n at)
   unfolding on_bytes
   on_short e b = simp (e, b)
 
-  pub on_loose : n ≡ 3 → bad ≡ true → declined 4 next ≡ on_bytes ns next size bad (declined n at)
+  pub on_loose : n ≡ 3 → stop ≡ Malformed → declined 4 next ≡ on_bytes ns next size stop (declined n at)
   unfolding on_bytes
   on_loose e b = simp (e, b)
 
-  pub on_number : 5 ≤ n → n ≤ 6 → declined n (byte_place ns at) ≡ on_bytes ns next size bad (declined n at)
+  pub on_number : 5 ≤ n → n ≤ 6 → declined n (byte_place ns at) ≡ on_bytes ns next size stop (declined n at)
   unfolding on_bytes
   on_number a b = go (dec_lt n 6)
     where
-      go : Dec (n < 6) → declined n (byte_place ns at) ≡ on_bytes ns next size bad (declined n at)
+      go : Dec (n < 6) → declined n (byte_place ns at) ≡ on_bytes ns next size stop (declined n at)
       go (yes h) = let e : n ≡ 5 = omega arith in simp e
       go (no h) = let e : n ≡ 6 = omega arith in simp e
 
   -- 7 and more, or a number that is not given
   pub on_over : (n ≡ 3 → ⊥) → (n < 5) ⊎ (7 ≤ n) → next < size
-      → declined 6 next ≡ on_bytes ns next size bad (declined n at)
+      → declined 6 next ≡ on_bytes ns next size stop (declined n at)
   unfolding on_bytes
   on_over a b h =
       let c : (n ≡ 5 → ⊥) = λ x. ⊎_elim (λ w. omega arith) (λ w. omega arith) b in
       let d : (n ≡ 6 → ⊥) = λ x. ⊎_elim (λ w. omega arith) (λ w. omega arith) b in
       simp (ne_eqb _ _ a, ne_eqb _ _ c, ne_eqb _ _ d, lt-ltb _ _ h)
 
-  pub on_reference : n ≡ 7 → size ≤ next → declined n (byte_place ns at) ≡ on_bytes ns next size bad (declined n at)
+  pub on_reference : n ≡ 7 → size ≤ next → declined n (byte_place ns at) ≡ on_bytes ns next size stop (declined n at)
   unfolding on_bytes
   on_reference e h = simp (e, le-ltb _ _ h)
 
   pub on_kept : (n ≡ 3 → ⊥) → (n < 5) ⊎ (7 ≤ n) → (n ≡ 7 → ⊥) → size ≤ next
-      → declined n at ≡ on_bytes ns next size bad (declined n at)
+      → declined n at ≡ on_bytes ns next size stop (declined n at)
   unfolding on_bytes
   on_kept a b e h =
       let c : (n ≡ 5 → ⊥) = λ x. ⊎_elim (λ w. omega arith) (λ w. omega arith) b in
       let d : (n ≡ 6 → ⊥) = λ x. ⊎_elim (λ w. omega arith) (λ w. omega arith) b in
       simp (ne_eqb _ _ a, ne_eqb _ _ c, ne_eqb _ _ d, ne_eqb _ _ e, le-ltb _ _ h)
 
-module _ (ns : List ℕ) (next size : ℕ) (bad : Bool) (ms : List ℕ) (t : Table) where
-  pub on_accepted : size ≤ next → accepted ms t ≡ on_bytes ns next size bad (accepted ms t)
+module _ (ns : List ℕ) (next size : ℕ) (stop : ReadError) (ms : List ℕ) (t : Table) where
+  pub on_accepted : size ≤ next → accepted ms t ≡ on_bytes ns next size stop (accepted ms t)
   unfolding on_bytes
   on_accepted h = simp (le-ltb _ _ h)
 
-  pub on_after : next < size → declined 6 next ≡ on_bytes ns next size bad (accepted ms t)
+  pub on_after : next < size → declined 6 next ≡ on_bytes ns next size stop (accepted ms t)
   unfolding on_bytes
   on_after h = simp (lt-ltb _ _ h)
 
@@ -142,13 +149,13 @@ pub place_within : (l : List ℕ) (n at : ℕ) → judge (list_tokens 0 l) ≡ d
 place_within l n at e = within l n at e (refused_out l n at (list_declined l n at e))
 
 -- ---- the judgement of bytes
-module _ (s ns : List ℕ) (next : ℕ) (bad : Bool) (d : Decoding s ns next bad) (fits : length s ≤ 16384) where
-  ends : (b : Bool) → bad ≡ b → Incomplete (drop next s) ⊎ IllWritten (drop next s)
-  ends true e = inr (d.loose e)
-  ends false e = inl (d.short e)
+module _ (s ns : List ℕ) (next : ℕ) (stop : ReadError) (d : Decoding s ns next stop) (fits : length s ≤ 16384) where
+  ends : (b : ReadError) → stop ≡ b → Incomplete (drop next s) ⊎ IllWritten (drop next s)
+  ends Malformed e = inr (d.loose e)
+  ends Truncated e = inl (d.short e)
 
   decoded : Decoded s ns (drop next s)
-  decoded = record { bytes = d.bytes; small = d.small; ends = ends bad refl }
+  decoded = record { bytes = d.bytes; small = d.small; ends = ends stop refl }
 
   decoded_whole : length s ≤ next → Decoded s ns []
   decoded_whole h = subst (λ (u : List ℕ). Decoded s ns u) (drop_of_length-le s h) decoded
@@ -162,42 +169,42 @@ module _ (s ns : List ℕ) (next : ℕ) (bad : Bool) (d : Decoding s ns next bad
 
   -- 7, 8 and 9: those bytes come first
   by_table : (n at : ℕ) (t : Table) → Fields t → ns ≡ numbers_of t → 7 ≤ n
-      → (length s ≤ next → judge_bytes s ≡ on_bytes ns next (length s) bad (declined n at))
-      → judge_bytes s ≡ on_bytes ns next (length s) bad (declined n at)
+      → (length s ≤ next → judge_bytes s ≡ on_bytes ns next (length s) stop (declined n at))
+      → judge_bytes s ≡ on_bytes ns next (length s) stop (declined n at)
   by_table n at t f w e whole = go (dec_lt next (length s))
     where
-      go : Dec (next < length s) → judge_bytes s ≡ on_bytes ns next (length s) bad (declined n at)
-      go (yes k) = over t f w k ∙ on_over ns next (length s) bad n at (λ x. omega arith) (inr e) k
+      go : Dec (next < length s) → judge_bytes s ≡ on_bytes ns next (length s) stop (declined n at)
+      go (yes k) = over t f w k ∙ on_over ns next (length s) stop n at (λ x. omega arith) (inr e) k
       go (no k) = whole (omega arith)
 
-  kept : (n at : ℕ) → 8 ≤ n → length s ≤ next → declined n at ≡ on_bytes ns next (length s) bad (declined n at)
+  kept : (n at : ℕ) → 8 ≤ n → length s ≤ next → declined n at ≡ on_bytes ns next (length s) stop (declined n at)
   kept n at e k =
-      on_kept ns next (length s) bad n at (λ x. omega arith) (inr (omega arith)) (λ x. omega arith) k
+      on_kept ns next (length s) stop n at (λ x. omega arith) (inr (omega arith)) (λ x. omega arith) k
 
   by_refusal : (n at : ℕ) → judge (list_tokens 0 ns) ≡ declined n at → Refused ns n at
-      → judge_bytes s ≡ on_bytes ns next (length s) bad (declined n at)
+      → judge_bytes s ≡ on_bytes ns next (length s) stop (declined n at)
   by_refusal n at j (too_long e h) = absurd (not_long ns n at at j h)
-  by_refusal n at j (truncated_list e h) = go bad refl
+  by_refusal n at j (truncated_list e h) = go stop refl
     where
-      go : (b : Bool) → bad ≡ b → judge_bytes s ≡ on_bytes ns next (length s) bad (declined n at)
-      go true c =
+      go : (b : ReadError) → stop ≡ b → judge_bytes s ≡ on_bytes ns next (length s) stop (declined n at)
+      go Malformed c =
           refused_bytes_in s 4 next d.proper
           (malformed_number ns (drop next s) refl fits decoded h.within (d.loose c) d.size)
-          ∙ on_loose ns next (length s) bad n at e c
-      go false c =
+          ∙ on_loose ns next (length s) stop n at e c
+      go Truncated c =
           refused_bytes_in s 3 (length s) d.proper
           (short_bytes ns (drop next s) refl fits decoded h.within (d.short c) refl)
-          ∙ on_short ns next (length s) bad n at e c
+          ∙ on_short ns next (length s) stop n at e c
   by_refusal n at j (out_of_range e h) =
       refused_bytes_in s n (byte_place ns at) d.proper (off_bytes ns (drop next s) at e fits decoded h refl)
-      ∙ on_number ns next (length s) bad n at (omega arith) (omega arith)
+      ∙ on_number ns next (length s) stop n at (omega arith) (omega arith)
   by_refusal n at j (trailing_input e h) =
       refused_bytes_in s n (byte_place ns at) d.proper (over_number ns (drop next s) at e fits decoded h refl)
-      ∙ on_number ns next (length s) bad n at (omega arith) (omega arith)
+      ∙ on_number ns next (length s) stop n at (omega arith) (omega arith)
   by_refusal n at j (bad_reference e h) =
       by_table n at h.table h.fields h.numbers (omega arith)
       (λ k. refused_bytes_in s n (byte_place ns at) d.proper (wrong_bytes ns at e fits (decoded_whole k) h refl)
-      ∙ on_reference ns next (length s) bad n at e k)
+      ∙ on_reference ns next (length s) stop n at e k)
   by_refusal n at j (too_wide e h) =
       by_table n at h.table h.fields h.numbers (omega arith)
       (λ k. refused_bytes_in s n at d.proper (wide_bytes ns e fits (decoded_whole k) h) ∙ kept n at (omega arith) k)
@@ -206,7 +213,7 @@ module _ (s ns : List ℕ) (next : ℕ) (bad : Bool) (d : Decoding s ns next bad
       (λ k. refused_bytes_in s n at d.proper (branches_bytes ns e fits (decoded_whole k) h)
       ∙ kept n at (omega arith) k)
 
-  by_judgement : (j : Judgement) → judge (list_tokens 0 ns) ≡ j → judge_bytes s ≡ on_bytes ns next (length s) bad j
+  by_judgement : (j : Judgement) → judge (list_tokens 0 ns) ≡ j → judge_bytes s ≡ on_bytes ns next (length s) stop j
   by_judgement (declined n at) e = by_refusal n at e (refused_out ns n at (list_declined ns n at e))
   by_judgement (accepted ms t) e = go (dec_lt next (length s))
     where
@@ -216,8 +223,8 @@ module _ (s ns : List ℕ) (next : ℕ) (bad : Bool) (d : Decoding s ns next bad
       w : ns ≡ numbers_of t
       w = list_whole (numbers_of t) 0 ns a.rest a.follows a.nothing
 
-      go : Dec (next < length s) → judge_bytes s ≡ on_bytes ns next (length s) bad (accepted ms t)
-      go (yes k) = over t a.rules.fields w k ∙ on_after ns next (length s) bad ms t k
+      go : Dec (next < length s) → judge_bytes s ≡ on_bytes ns next (length s) stop (accepted ms t)
+      go (yes k) = over t a.rules.fields w k ∙ on_after ns next (length s) stop ms t k
       go (no k) =
           let k' : length s ≤ next = omega arith in
           let m : ms ≡ ns = a.numbers ∙ sym w in
@@ -228,7 +235,7 @@ module _ (s ns : List ℕ) (next : ℕ) (bad : Bool) (d : Decoding s ns next bad
             rules = a.rules;
             short = fits;
           })
-          ∙ on_accepted ns next (length s) bad ms t k'
+          ∙ on_accepted ns next (length s) stop ms t k'
 
-  pub judged_bytes : judge_bytes s ≡ on_bytes ns next (length s) bad (judge (list_tokens 0 ns))
+  pub judged_bytes : judge_bytes s ≡ on_bytes ns next (length s) stop (judge (list_tokens 0 ns))
   judged_bytes = by_judgement (judge (list_tokens 0 ns)) refl

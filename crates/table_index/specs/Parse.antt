@@ -8,24 +8,18 @@
 use Rattle.std.specs.Prelude.{ℕ, ◌+◌, ◌<◌, ◌≤◌, ◌≡◌, List, [], map, cond, leb}
 use lib.ListN.{length, get_or, set}
 use Rattle.table.specs.declared.answer.Refusal.{Refusal}
-use Rattle.table.specs.declared.answer.Place.{Place}
-use Rattle.table.specs.declared.answer.Place.TheVariants.{At, Stop}
-use Rattle.table.specs.declared.answer.Judged.{Judged}
-use Rattle.table.specs.declared.answer.Judged.TheVariants.{Accepted, Declined}
+use Rattle.std.specs.declared.result.Result.{Result}
+use Rattle.std.specs.declared.result.Result.TheVariants.{Ok, Err}
 use Rattle.table.specs.declared.rows.Row.{Row}
-use Rattle.table.specs.declared.rows.Row.TheVariants.{Mask, NoRow}
 use Rattle.table.specs.declared.rows.SetEnd.{SetEnd}
-use Rattle.table.specs.declared.rows.SetEnd.TheVariants.{NextSet, NoSet}
 use Rattle.table.specs.declared.terms.Spot.{Spot}
 use Rattle.table.specs.declared.terms.Head.{Head}
 use Rattle.table.specs.declared.terms.Reference.{Reference}
-use Rattle.table.specs.declared.terms.Reference.TheVariants.{Found, NoReference}
 use Rattle.table.specs.declared.terms.TermEnd.{TermEnd}
-use Rattle.table.specs.declared.terms.TermEnd.TheVariants.{NextTerm, NoTerm}
 use Rattle.table.specs.Table.{SetRef, Term, SetDef, Definition, size, sizes}
 use Rattle.table.specs.Rows.{large_above, rows_of, RowsFit}
 use Rattle.table.specs.Tokens.{list_tokens, tokens_at}
-use Rattle.table.specs.Parser.{Result, got, refused, times}
+use Rattle.table.specs.Parser.{Result as Parsing, got, refused, times}
 use Rattle.table.specs.Grammar.{row, event_set, event_sets, set_ref, term_with, definitions_of, table}
 use Rattle.table.specs.References.{level_in}
 use Rattle.table.specs.Judge.{declined, judge}
@@ -41,7 +35,7 @@ pub mod Header
 pub mod Structure
 
 -- a parser's refusal is the code's
-abbrev pub Refuses : {A : Type 0} → Result A → Refusal → Type 0
+abbrev pub Refuses : {A : Type 0} → Parsing A → Refusal → Type 0
 Refuses x r = x ≡ refused r.number r.place
 
 -- the sets of the list are known and stand in the work area
@@ -76,9 +70,9 @@ pub record RowFound (l : List ℕ) (A i low high j : ℕ) : Type 0 where
   pub second : high ≡ second_word (mask_of events)
   pub within : j ≤ length l
 
-abbrev pub RowRead : List ℕ → ℕ → ℕ → Row → Type 0
-RowRead l A i (Mask low high j) = RowFound l A i low high j
-RowRead l A i (NoRow r) = Refuses (row A (tokens_at l i)) r
+abbrev pub RowRead : List ℕ → ℕ → ℕ → Result Row Refusal → Type 0
+RowRead l A i (Ok r) = RowFound l A i r.low r.high r.next
+RowRead l A i (Err r) = Refuses (row A (tokens_at l i)) r
 
 -- one row stored: its first word, and its second where the alphabet has more than 64 events
 unfoldable pub row_stored : ℕ → ℕ → ℕ → ℕ → List ℕ → List ℕ
@@ -101,9 +95,9 @@ pub record RowsFound (l : List ℕ) (A count i row₀ : ℕ) (w w' : List ℕ) (
   pub words : RowsStored A row₀ (map mask_of rows) w w'
   pub within : j ≤ length l
 
-abbrev pub RowsRead : List ℕ → ℕ → ℕ → ℕ → ℕ → List ℕ → List ℕ → Place → Type 0
-RowsRead l A count i row₀ w w' (At j) = RowsFound l A count i row₀ w w' j
-RowsRead l A count i row₀ w w' (Stop r) = Refuses (times count (row A) (tokens_at l i)) r × (length w' ≡ length w)
+abbrev pub RowsRead : List ℕ → ℕ → ℕ → ℕ → ℕ → List ℕ → List ℕ → Result ℕ Refusal → Type 0
+RowsRead l A count i row₀ w w' (Ok j) = RowsFound l A count i row₀ w w' j
+RowsRead l A count i row₀ w w' (Err r) = Refuses (times count (row A) (tokens_at l i)) r × (length w' ≡ length w)
 
 pub record SetFound (l : List ℕ) (A i row₀ : ℕ) (w w' : List ℕ) (j kind end : ℕ) : Type 0 where
   pub value : SetDef
@@ -117,9 +111,9 @@ pub record SetFound (l : List ℕ) (A i row₀ : ℕ) (w w' : List ℕ) (j kind 
   pub words : RowsStored A row₀ (set_masks value) w w'
   pub within : j ≤ length l
 
-abbrev pub SetRead : List ℕ → ℕ → ℕ → ℕ → List ℕ → List ℕ → SetEnd → Type 0
-SetRead l A i row₀ w w' (NextSet j kind end) = SetFound l A i row₀ w w' j kind end
-SetRead l A i row₀ w w' (NoSet r) = Refuses (event_set A row₀ (tokens_at l i)) r × (length w' ≡ length w)
+abbrev pub SetRead : List ℕ → ℕ → ℕ → ℕ → List ℕ → List ℕ → Result SetEnd Refusal → Type 0
+SetRead l A i row₀ w w' (Ok e) = SetFound l A i row₀ w w' e.next e.kind e.row
+SetRead l A i row₀ w w' (Err r) = Refuses (event_set A row₀ (tokens_at l i)) r × (length w' ≡ length w)
 
 pub record SetsFound (l : List ℕ) (A count i : ℕ) (w w' : List ℕ) (j : ℕ) : Type 0 where
   pub sets : List SetDef
@@ -129,9 +123,9 @@ pub record SetsFound (l : List ℕ) (A count i : ℕ) (w w' : List ℕ) (j : ℕ
   pub same : length w' ≡ length w
   pub within : j ≤ length l
 
-abbrev pub SetsRead : List ℕ → ℕ → ℕ → ℕ → List ℕ → List ℕ → Place → Type 0
-SetsRead l A count i w w' (At j) = SetsFound l A count i w w' j
-SetsRead l A count i w w' (Stop r) = Refuses (event_sets A count 0 (tokens_at l i)) r × (length w' ≡ length w)
+abbrev pub SetsRead : List ℕ → ℕ → ℕ → ℕ → List ℕ → List ℕ → Result ℕ Refusal → Type 0
+SetsRead l A count i w w' (Ok j) = SetsFound l A count i w w' j
+SetsRead l A count i w w' (Err r) = Refuses (event_sets A count 0 (tokens_at l i)) r × (length w' ≡ length w)
 
 -- ---- terms
 
@@ -144,9 +138,9 @@ pub record ReferenceFound (sets : List SetDef) (l : List ℕ) (i target paramete
   pub digit_few : parameter ≤ 4
   pub within : j ≤ length l
 
-abbrev pub ReferenceRead : List SetDef → List ℕ → ℕ → Reference → Type 0
-ReferenceRead sets l i (Found target parameter j) = ReferenceFound sets l i target parameter j
-ReferenceRead sets l i (NoReference r) = Refuses (set_ref sets (tokens_at l i)) r
+abbrev pub ReferenceRead : List SetDef → List ℕ → ℕ → Result Reference Refusal → Type 0
+ReferenceRead sets l i (Ok f) = ReferenceFound sets l i f.target f.parameter f.next
+ReferenceRead sets l i (Err r) = Refuses (set_ref sets (tokens_at l i)) r
 
 -- the word of a term with this head and this right side, and nothing else, was stored; it is a structure
 pub record WordStored (h : Head) (n right : ℕ) (w w' : List ℕ) : Type 0 where
@@ -169,9 +163,10 @@ pub record TermFound (sets : List SetDef) (l : List ℕ) (s : Spot) (deep n i : 
   pub stored : TermStored sets s n i term w w'
   pub within : j ≤ length l
 
-abbrev pub TermRead : List SetDef → List ℕ → Spot → ℕ → ℕ → ℕ → List ℕ → List ℕ → TermEnd → Type 0
-TermRead sets l s deep n i w w' (NextTerm j m) = TermFound sets l s deep n i w w' j m
-TermRead sets l s deep n i w w' (NoTerm r) = Refuses (term_with sets deep n (tokens_at l i)) r × (length w' ≡ length w)
+abbrev pub TermRead : List SetDef → List ℕ → Spot → ℕ → ℕ → ℕ → List ℕ → List ℕ → Result TermEnd Refusal → Type 0
+TermRead sets l s deep n i w w' (Ok e) = TermFound sets l s deep n i w w' e.next e.terms
+TermRead sets l s deep n i w w' (Err r) =
+    Refuses (term_with sets deep n (tokens_at l i)) r × (length w' ≡ length w)
 
 pub record DefinitionsFound (sets : List SetDef) (l : List ℕ) (count i : ℕ) (w w' : List ℕ) (j m : ℕ) : Type 0 where
   pub definitions : List Definition
@@ -188,9 +183,9 @@ pub record DefinitionsFound (sets : List SetDef) (l : List ℕ) (count i : ℕ) 
       → get_or w' x 0 ≡ get_or w x 0
   pub within : j ≤ length l
 
-abbrev pub DefinitionsRead : List SetDef → List ℕ → ℕ → ℕ → List ℕ → List ℕ → TermEnd → Type 0
-DefinitionsRead sets l count i w w' (NextTerm j m) = DefinitionsFound sets l count i w w' j m
-DefinitionsRead sets l count i w w' (NoTerm r) =
+abbrev pub DefinitionsRead : List SetDef → List ℕ → ℕ → ℕ → List ℕ → List ℕ → Result TermEnd Refusal → Type 0
+DefinitionsRead sets l count i w w' (Ok e) = DefinitionsFound sets l count i w w' e.next e.terms
+DefinitionsRead sets l count i w w' (Err r) =
     Refuses (definitions_of sets count 0 (tokens_at l i)) r × (length w' ≡ length w)
 
 -- ---- the whole
@@ -199,6 +194,6 @@ pub record Parsed (l w : List ℕ) : Type 0 where
   pub parsed : table (list_tokens 0 l) ≡ got (table_in l) (list_tokens (length l) [])
   pub structure : Structured (table_in l) w
 
-abbrev pub ParseDone : List ℕ → List ℕ → Judged → Type 0
-ParseDone l w' Accepted = Parsed l w'
-ParseDone l w' (Declined r) = (judge (list_tokens 0 l) ≡ declined r.number r.place) × (length w' ≡ 8192)
+abbrev pub ParseDone : List ℕ → List ℕ → Result Unit Refusal → Type 0
+ParseDone l w' (Ok _) = Parsed l w'
+ParseDone l w' (Err r) = (judge (list_tokens 0 l) ≡ declined r.number r.place) × (length w' ≡ 8192)

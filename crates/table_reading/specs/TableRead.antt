@@ -3,14 +3,14 @@
 --     TableRefused     why there are none, with what stands in the list and in the work area
 --     TableSaid        the promise of `read_table`
 -- The laws are in `TableRead/Laws.antt`. Assumes nothing.
-use Rattle.std.specs.Prelude.{ℕ, ◌-◌, ◌≤◌, ◌≡◌, true, false, List, ◌++◌, length, drop}
+use Rattle.std.specs.Prelude.{ℕ, ◌-◌, ◌≤◌, ◌≡◌, true, false, List, ◌++◌, length, drop, Result, Ok, Err}
+use Rattle.table.specs.declared.answer.Refusal.{Refusal}
 use Rattle.table.specs.Table.{Table}
 use Rattle.table.specs.Judge.{accepted, declined, judge_bytes}
 use Rattle.table.specs.Operations.{zeros}
 use Rattle.line_spec.specs.Line.{parts, wrong, head_of}
 use Rattle.line_spec.specs.Opening.{lent}
 use Rattle.table_reading.specs.declared.answer.TableRead.{TableRead}
-use Rattle.table_reading.specs.declared.answer.TableRead.TheVariants.{Numbers, Refused}
 pub mod Laws
 
 -- of the input s, lent l, a, b and w: l' is the table's `count` numbers, "zeros after", and w' is clear
@@ -33,6 +33,7 @@ pub data TableRefused (s l a b w : List ℕ) : ℕ → ℕ → List ℕ → List
   refused_table : (bs es : List ℕ) (n p : ℕ) (l' w' : List ℕ) → lent l a b w ≡ true → head_of s ≡ parts bs es
       → judge_bytes bs ≡ declined n p → l' ≡ zeros 16384 → w' ≡ zeros 8192 → TableRefused s l a b w n p l' w'
 
-abbrev pub TableSaid : List ℕ → List ℕ → List ℕ → List ℕ → List ℕ → TableRead → List ℕ → List ℕ → Type 0
-TableSaid s l a b w (Numbers count next) l' w' = NumbersRead s l a b w count next l' w'
-TableSaid s l a b w (Refused q) l' w' = TableRefused s l a b w q.number q.place l' w'
+abbrev pub TableSaid : List ℕ → List ℕ → List ℕ → List ℕ → List ℕ → Result TableRead Refusal → List ℕ → List ℕ
+    → Type 0
+TableSaid s l a b w (Ok r) l' w' = NumbersRead s l a b w r.count r.next l' w'
+TableSaid s l a b w (Err q) l' w' = TableRefused s l a b w q.number q.place l' w'

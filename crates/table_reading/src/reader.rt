@@ -6,7 +6,7 @@ ghost use Rattle.line_spec.specs.Opening.{lent_fit};
 ghost use Rattle.table_reading.specs.TableRead.{TableSaid};
 
 use crate::answer::TableRead;
-use format::{Head, head};
+use format::head;
 use table::Refusal;
 
 // Whether lent lengths are the program's: of the list, the areas ("256 slots") and the work area.
@@ -33,21 +33,20 @@ pub fn read_table(
     area0: &[u64],
     area1: &[u64],
     work: &mut [u64],
-) -> TableRead
+) -> Result<TableRead, Refusal>
     ensures { TableSaid input.now list.old area0.now
         area1.now work.old result list.new work.new }
 {
     if !lent_fit(list.len(), area0.len(), area1.len(), work.len()) {
-        return TableRead::Refused(Refusal {
+        return Err(Refusal {
             number: 1,
             place: 0,
         });
     }
-    match head(input) {
-        Head::Parts(from, to) => match codec::read(&input[from..to], list, work) {
-            table::Answer::Count(count) => TableRead::Numbers { count, next: to },
-            table::Answer::Refused(refusal) => TableRead::Refused(refusal),
-        },
-        Head::Wrong(refusal) => TableRead::Refused(refusal),
-    }
+    let bytes = head(input)?;
+    let count = codec::read(&input[bytes.start..bytes.end], list, work)?;
+    Ok(TableRead {
+        count,
+        next: bytes.end,
+    })
 }

@@ -1,24 +1,16 @@
 // Runs Read, Write and the list check of crates `codec` and `judge` on the cases of `tables.txt`,
 // and prints a line for each group of cases, then `ok` if every answer was the stored one.
-//     file       the file, line by line
-//     case       a line as a case
-//     trial      one call, held to its answer
+//     trial      a line as a case, held to its answer
+//     call       one call
 // The file's head says how a line is read, and where the answers come from.
 #![tactic(auto)]
 
-mod case;
-mod file;
+mod call;
 mod trial;
 
-use std::fs::File;
-use std::io::Result;
+use std::io;
+use trial::Tables;
 
-fn main(rt: HostRuntime) -> Result<()> {
-    let path = "tables.txt";
-    let mut opened = match File::open(&rt, path) {
-        Ok(opened) => opened,
-        Err(error) => return eprintln!(rt; "{path}: {error}"),
-    };
-    let mut buffer = [0u8; 65536];
-    file::run(&mut opened, path, rt.stdout(), rt.stderr(), &mut buffer)
+fn main(rt: HostRuntime) -> io::Result<()> {
+    cases::run(&rt, "tables.txt", &mut Tables::new(rt.alloc()))
 }

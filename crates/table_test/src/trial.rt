@@ -1,91 +1,85 @@
-// One call on buffers full of junk: whether its answer, and what it leaves in them, are as stored
-// (01, "Operations", "When the monitor declines"). Of the index that the check leaves only the term
-// count is looked at.
-ghost use Rattle.std.specs.Prelude.{◌≡◌, length};
+// A line of the file as a case: its call on buffers full of junk, and whether its answer, and what it
+// leaves in them, are as stored (01, "Operations", "When the monitor declines").
+use crate::call;
+use cases::{
+    Fault, Outcome, Trial, digest, lend, length, numbers, read_list, section, stands, stored_answer,
+};
+use std::alloc::Global;
 
-use cases::{digest_bytes, digest_numbers, fill_bytes, fill_numbers, fill_words, stands};
-use table::{Answer, Judged, Refusal};
+// The longest list and output, and the longest work area, that the file asks for.
+const LONGEST: usize = 16500;
 
-// What is stored: 0 and a count, or a refusal's number and place; the output's digest, but for the
-// check; how the work area stands.
-#[derive(Clone, Copy)]
-pub struct Stored {
-    pub number: u64,
-    pub place: u64,
-    pub output: u64,
-    pub work: u64,
+const LONGEST_WORK: usize = 8300;
+
+// The buffers of a call: an input and an output, in bytes and in numbers, and a work area.
+#[derive(Drop)]
+pub struct Tables {
+    bytes: Vec<u8>,
+    list: Vec<u16>,
+    work: Vec<u64>,
 }
 
-fn is_result(n: usize, s: Stored) -> bool {
-    if s.number == 0 {
-        n as u64 == s.place
-    } else {
-        false
+impl Tables {
+    pub fn new(alloc: Global) -> Tables {
+        Tables {
+            bytes: Vec::new(alloc),
+            list: Vec::new(alloc),
+            work: Vec::new(alloc),
+        }
+    }
+
+    // `r OUTLEN WORKLEN : b b .. = NUMBER PLACE OUTPUT WORK`
+    fn try_read(&mut self, lengths: &str, input: &str, stored: &str) -> Result<Outcome, Fault> {
+        let [out, work] = numbers::<2>(lengths)?;
+        let [number, place, output, kept] = numbers::<4>(stored)?;
+        read_list(input, LONGEST, &mut self.bytes)?;
+        lend(&mut self.list, length(out, LONGEST)?)?;
+        lend(&mut self.work, length(work, LONGEST_WORK)?)?;
+        let answer = call::read(&self.bytes, &mut self.list, &mut self.work);
+        Ok(Outcome::from(
+            answer == stored_answer(number, place)
+                && digest(&self.list) == output
+                && stands(&self.work, kept),
+        ))
+    }
+
+    // `w OUTLEN WORKLEN : n n .. = NUMBER PLACE OUTPUT WORK`
+    fn try_write(&mut self, lengths: &str, input: &str, stored: &str) -> Result<Outcome, Fault> {
+        let [out, work] = numbers::<2>(lengths)?;
+        let [number, place, output, kept] = numbers::<4>(stored)?;
+        read_list(input, LONGEST, &mut self.list)?;
+        lend(&mut self.bytes, length(out, LONGEST)?)?;
+        lend(&mut self.work, length(work, LONGEST_WORK)?)?;
+        let answer = call::write(&self.list, &mut self.bytes, &mut self.work);
+        Ok(Outcome::from(
+            answer == stored_answer(number, place)
+                && digest(&self.bytes) == output
+                && stands(&self.work, kept),
+        ))
+    }
+
+    // `c : n n .. = NUMBER PLACE WORK`
+    fn try_check(&mut self, input: &str, stored: &str) -> Result<Outcome, Fault> {
+        let [number, place, kept] = numbers::<3>(stored)?;
+        read_list(input, LONGEST, &mut self.list)?;
+        lend(&mut self.work, 8192)?;
+        let answer = call::check(&self.list, &mut self.work);
+        Ok(Outcome::from(answer == stored_answer(number, place) && stands(&self.work, kept)))
     }
 }
 
-fn is_refusal(r: Refusal, s: Stored) -> bool {
-    if s.number == 0 {
-        return false;
-    }
-    if r.number as u64 == s.number {
-        r.place as u64 == s.place
-    } else {
-        false
-    }
-}
-
-fn is_answer(answer: Answer, s: Stored) -> bool {
-    match answer {
-        Answer::Count(n) => is_result(n, s),
-        Answer::Refused(r) => is_refusal(r, s),
-    }
-}
-
-pub fn read_right(bytes: &[u8], out: &mut [u16], work: &mut [u64], s: Stored) -> bool {
-    fill_numbers(out);
-    fill_words(work);
-    if !is_answer(codec::read(bytes, out, work), s) {
-        return false;
-    }
-    if digest_numbers(out) != s.output {
-        return false;
-    }
-    stands(work, s.work)
-}
-
-pub fn write_right(list: &[u16], out: &mut [u8], work: &mut [u64], s: Stored) -> bool {
-    fill_bytes(out);
-    fill_words(work);
-    if !is_answer(codec::write(list, out, work), s) {
-        return false;
-    }
-    if digest_bytes(out) != s.output {
-        return false;
-    }
-    stands(work, s.work)
-}
-
-fn is_accepted(count: usize, work: &[u64], s: Stored) -> bool {
-    if !is_result(count, s) {
-        return false;
-    }
-    stands(work, s.work)
-}
-
-fn is_declined(r: Refusal, work: &[u64], s: Stored) -> bool {
-    if !is_refusal(r, s) {
-        return false;
-    }
-    stands(work, s.work)
-}
-
-pub fn check_right(list: &[u16], work: &mut [u64], s: Stored) -> bool
-    requires { length work.old ≡ 8192 }
-{
-    fill_words(work);
-    match judge::check(list, work) {
-        Judged::Accepted => is_accepted(index::term_count(list, work), work, s),
-        Judged::Declined(r) => is_declined(r, work, s),
+impl Trial for Tables {
+    fn take_line(&mut self, line: &str) -> Result<Outcome, Fault> {
+        let (call, stored) = line.split_once(" =").ok_or(Fault::Malformed)?;
+        let (head, input) = section(call)?;
+        if let Some(lengths) = head.strip_prefix('r') {
+            self.try_read(lengths, input, stored)
+        } else if let Some(lengths) = head.strip_prefix('w') {
+            self.try_write(lengths, input, stored)
+        } else if head == "c" {
+            self.try_check(input, stored)
+        } else {
+            Err(Fault::Malformed)
+        }
     }
 }

@@ -4,9 +4,9 @@
 --     Empty, NextBy        an area of zeros; the residuals after an event there, or a refusal
 --     Stepped              both areas after an event, or as they were
 --     Advanced, Moved      the same, from the present area to the other; of a monitor's
---     TakenBy              one event
+--     Taken, TakenBy       what is answered after one event, and what that says
 -- The laws are with the proofs, in `proofs/event/`. Assumes nothing.
-use Rattle.std.specs.Prelude.{ℕ, ◌≡◌, List, [], length}
+use Rattle.std.specs.Prelude.{ℕ, ◌≡◌, List, [], length, Result, Ok, Err}
 use Rattle.std.proofs.Math.Option.{Option, none, some}
 use Rattle.table.specs.Table.{Table}
 use Rattle.residuals.specs.Residual.{Residual, after_all}
@@ -16,10 +16,7 @@ use Rattle.monitor_spec.specs.Fold.{went, stops}
 use Rattle.monitor_spec.specs.Feed.{next_slots, taking, event_refused, take_event}
 use Rattle.monitor_spec.proofs.Feed.Laws.{met_by}
 use Rattle.monitor_spec.specs.Sensible.{Laid}
-use Rattle.taking.specs.declared.event.Next.{Next}
-use Rattle.taking.specs.declared.event.Next.TheVariants.{Count, Refused}
-use Rattle.taking.specs.declared.event.Taken.{Taken}
-use Rattle.taking.specs.declared.event.Taken.TheVariants.{Went, Stopped}
+use Rattle.state.specs.declared.record.State as code
 use Rattle.state.specs.Record.{monitor_of}
 use Rattle.tree_walk.specs.Layout.{store_words}
 use Rattle.monitor_spec.specs.Holds.{AreaHolds, held_in}
@@ -44,12 +41,12 @@ Empty a = a ≡ fill (slot_count a) []
 
 -- the residuals after event e of rs, with room for cap and k events taken: an area of zeros is filled with their slots;
 -- or the event is refused, and it is zero again
-unfoldable pub NextBy : Table → ℕ → ℕ → List Residual → ℕ → Next → List ℕ → Type 0
-NextBy t cap k rs e (Count n) a =
+unfoldable pub NextBy : Table → ℕ → ℕ → List Residual → ℕ → Result ℕ ℕ → List ℕ → Type 0
+NextBy t cap k rs e (Ok n) a =
     (event_refused t cap k rs e ≡ none)
     × (n ≡ length (slots_of (after_all t e rs)))
     × (a ≡ fill cap (slots_of (after_all t e rs)))
-NextBy t cap k rs e (Refused x) a = (event_refused t cap k rs e ≡ some x) × (a ≡ fill cap [])
+NextBy t cap k rs e (Err x) a = (event_refused t cap k rs e ≡ some x) × (a ≡ fill cap [])
 
 -- the event meets no refusal: areas that were asked for
 pub record AreasFilled (met : Option ℕ) (next : List (List ℕ)) (a⁺ b⁺ : List ℕ) (c : ℕ) (a' b' : List ℕ) : Type 0 where
@@ -65,12 +62,12 @@ pub record AreasKept (met : Option ℕ) (x : ℕ) (a b a' b' : List ℕ) : Type 
   pub second : b' ≡ b
 
 -- of areas a and b: they become a⁺ and b⁺, or are kept
-abbrev pub Stepped : Option ℕ → List (List ℕ) → List ℕ → List ℕ → List ℕ → List ℕ → Next → List ℕ → List ℕ → Type 0
-Stepped met next a b a⁺ b⁺ (Count c) a' b' = AreasFilled met next a⁺ b⁺ c a' b'
-Stepped met next a b a⁺ b⁺ (Refused x) a' b' = AreasKept met x a b a' b'
+abbrev pub Stepped : Option ℕ → List (List ℕ) → List ℕ → List ℕ → List ℕ → List ℕ → Result ℕ ℕ → List ℕ → List ℕ → Type 0
+Stepped met next a b a⁺ b⁺ (Ok c) a' b' = AreasFilled met next a⁺ b⁺ c a' b'
+Stepped met next a b a⁺ b⁺ (Err x) a' b' = AreasKept met x a b a' b'
 
 -- "each event fills the other and zeroes the first": of area p with c residuals and area o, with k events taken
-unfoldable pub Advanced : Table → ℕ → ℕ → ℕ → List ℕ → List ℕ → Next → List ℕ → List ℕ → Type 0
+unfoldable pub Advanced : Table → ℕ → ℕ → ℕ → List ℕ → List ℕ → Result ℕ ℕ → List ℕ → List ℕ → Type 0
 Advanced t e k c p o r p' o' =
     let n = slot_count p in
     let rs = held_in t p c in
@@ -78,12 +75,16 @@ Advanced t e k c p o r p' o' =
     Stepped (event_refused t n k rs e) next p o (fill n []) (fill n next) r p' o'
 
 -- the same, where the present area is the one that the events taken say
-unfoldable pub Moved : Table → Monitor → ℕ → Next → List ℕ → List ℕ → Type 0
+unfoldable pub Moved : Table → Monitor → ℕ → Result ℕ ℕ → List ℕ → List ℕ → Type 0
 Moved t m e r a b =
     let next = next_slots t m e in
     Stepped (met_by t m e) next m.area0 m.area1 (taking m next).area0 (taking m next).area1 r a b
 
+-- the record after an event, or the number of a refusal
+abbrev pub Taken : Type 0
+Taken = Result code.State ℕ
+
 -- the monitor after an event, or the number of the refusal
 abbrev pub TakenBy : Table → Monitor → ℕ → Taken → List ℕ → List ℕ → Type 0
-TakenBy t m e (Went s) a b = take_event t m e ≡ went (monitor_of s a b)
-TakenBy t m e (Stopped k) a b = (take_event t m e ≡ stops k) × (a ≡ m.area0) × (b ≡ m.area1)
+TakenBy t m e (Ok s) a b = take_event t m e ≡ went (monitor_of s a b)
+TakenBy t m e (Err k) a b = (take_event t m e ≡ stops k) × (a ≡ m.area0) × (b ≡ m.area1)

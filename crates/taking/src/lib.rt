@@ -6,5 +6,5 @@
 mod event;
 mod run;
 
-pub use event::{Next, Taken, advance, next_set, take_anew, take_event};
+pub use event::{advance, next_set, take_anew, take_event};
 pub use run::{Run, take_each};

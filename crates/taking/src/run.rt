@@ -1,13 +1,14 @@
 // A part of a call's events, one after the other. The promises are in `specs/Runs.antt`.
 ghost use Rattle.std.specs.Prelude.{◌≤◌, length};
-ghost use Rattle.table_index.specs.Index.{table_in, Indexed};
+ghost use Rattle.index.specs.Handle.{table_of};
 ghost use Rattle.state.specs.Record.{monitor_of};
 ghost use Rattle.leaf_memo.specs.Memo.{StoreOf};
 ghost use Rattle.taking.specs.Taking.{Standing};
 ghost use Rattle.taking.specs.Runs.{RunBy};
 
-use crate::event::{Taken, take_event};
-use state::{Answer, State};
+use crate::event::take_event;
+use index::IndexedTable;
+use state::{Answer, Declined, State};
 use table::Refusal;
 
 // Where a run over events comes to: the call's answer, or a record that is reached at a place.
@@ -19,8 +20,7 @@ pub enum Run {
 
 // Takes the events from one place on up to another, with what the store keeps of leaves.
 pub fn take_each(
-    list: &[u16],
-    work: &[u64],
+    table: &IndexedTable<'_>,
     state: State,
     area0: &mut [u64],
     area1: &mut [u64],
@@ -29,27 +29,25 @@ pub fn take_each(
     to: usize,
     store: &mut [u64],
 ) -> Run
-    requires indexed { Indexed list.now work.now }
-    requires standing { Standing (table_in list.now) (monitor_of state area0.old area1.old) }
+    requires standing { Standing (table_of table.now) (monitor_of state area0.old area1.old) }
     requires from_in_bounds { (from ≤ length events.now) × (to ≤ length events.now) }
-    requires store_of { StoreOf (table_in list.now) store.old }
-    ensures { RunBy (table_in list.now)
+    requires store_of { StoreOf (table_of table.now) store.old }
+    ensures { RunBy (table_of table.now)
         (monitor_of state area0.old area1.old) events.now from to
         result area0.new area1.new
-        × StoreOf (table_in list.now) store.new }
+        × StoreOf (table_of table.now) store.new }
 {
     let mut reached = state;
-    let mut i = from;
-    while i < to {
-        match take_event(list, work, events[i], reached, area0, area1, store) {
-            Taken::Went(next) => {
+    for i in from..to {
+        match take_event(table, events[i], reached, area0, area1, store) {
+            Ok(next) => {
                 reached = next;
-                i += 1;
             }
-            Taken::Stopped(number) => {
-                return Run::Ended(Answer::Stopped(Refusal { number, place: i }, reached));
+            Err(number) => {
+                return Run::Ended(Err(Declined::Stopped(Refusal { number, place: i }, reached)));
             }
         }
     }
-    Run::Left(reached, i)
+    // none is taken where `to` is before `from`
+    Run::Left(reached, from.max(to))
 }

@@ -8,6 +8,7 @@
 mod change;
 mod force;
 mod judging;
+mod window;
 
 pub use change::changes;
 pub use force::in_force;

@@ -9,6 +9,6 @@
 mod answer;
 mod opener;
 
-pub use answer::Opened;
+pub use answer::Started;
 pub use opener::open_trace;
-pub use tracing::{TraceLine, Traced, trace_event};
+pub use tracing::{Refused, TraceLine, Traced, trace_event};

@@ -1,37 +1,40 @@
 // The front of an input: its table read and judged, and a monitor opened on it. The table's index
 // stays in the work area.
 ghost use Rattle.std.specs.Prelude.{◌≡◌, length};
-ghost use Rattle.table_index.specs.Index.{Indexed};
 ghost use Rattle.trace.specs.Opening.{ListOpened, TraceOpened};
 
-use crate::answer::Opened;
+use crate::answer::Started;
 use entering::enter;
 use offering::offered;
 use opening::resolve_last;
-use slots::Held;
-use state::State;
-use table::{Judged, Refusal};
-use table_reading::{TableRead, read_table};
+use slots::Exceeded;
+use state::{IndexedTable, State};
+use table::Refusal;
+use table_reading::read_table;
 
 // Settles a list whose index stands in the work area; its events begin at `next`.
-fn settle(list: &[u16], work: &[u64], next: usize, area0: &mut [u64], area1: &mut [u64]) -> Opened
-    requires indexed { Indexed list.now work.now }
+fn settle(
+    table: &IndexedTable<'_>,
+    next: usize,
+    area0: &mut [u64],
+    area1: &mut [u64],
+) -> Result<Started, Refusal>
     requires area0_len { (length area0.old ≡ 4096) × (length area1.old ≡ 4096) }
-    ensures { ListOpened list.now next
-        result area0.new area1.new work.now }
+    ensures { ListOpened table.now.list.now next
+        result area0.new area1.new table.now.work.now }
 {
-    match resolve_last(list, work, area0, area1) {
-        Held::Count(count) => {
+    match resolve_last(table, area0, area1) {
+        Ok(count) => {
             let state = State::fresh(count as u64);
-            let permitted = offered(list, work, state, area0, area1);
-            Opened::Started {
+            let permitted = offered(table, state, area0, area1);
+            Ok(Started {
                 state,
                 permitted,
-                count: list.len(),
+                count: table.list.len(),
                 next,
-            }
+            })
         }
-        Held::Exceeded => Opened::Refused(Refusal {
+        Err(Exceeded) => Err(Refusal {
             number: 13,
             place: 0,
         }),
@@ -45,15 +48,18 @@ fn open_list(
     area0: &mut [u64],
     area1: &mut [u64],
     work: &mut [u64],
-) -> Opened
+) -> Result<Started, Refusal>
     requires area0_len { (length area0.old ≡ 4096) × (length area1.old ≡ 4096) }
     requires work_len { length work.old ≡ 8192 }
     ensures { ListOpened list.now next
         result area0.new area1.new work.new }
 {
     match enter(list, true, work) {
-        Judged::Accepted => settle(list, work, next, area0, area1),
-        Judged::Declined(refusal) => Opened::Refused(refusal),
+        Ok(()) => {
+            let table = IndexedTable { list, work };
+            settle(&table, next, area0, area1)
+        }
+        Err(refusal) => Err(refusal),
     }
 }
 
@@ -65,13 +71,13 @@ pub fn open_trace(
     area0: &mut [u64],
     area1: &mut [u64],
     work: &mut [u64],
-) -> Opened
+) -> Result<Started, Refusal>
     ensures { TraceOpened input.now list.old area0.old
         area1.old work.old
         result list.new area0.new area1.new work.new }
 {
     match read_table(input, list, area0, area1, work) {
-        TableRead::Numbers { count, next } => open_list(&list[..count], next, area0, area1, work),
-        TableRead::Refused(refusal) => Opened::Refused(refusal),
+        Ok(read) => open_list(&list[..read.count], read.next, area0, area1, work),
+        Err(refusal) => Err(refusal),
     }
 }

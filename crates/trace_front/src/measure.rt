@@ -3,10 +3,11 @@
 ghost use Rattle.std.specs.Prelude.{◌≡◌, ◌-◌, ◌≤◌};
 ghost use Rattle.trace_front.specs.Wanted.{missing_of, wanted_of};
 
-use numbers::Reading;
+use numbers::{ReadError, Reading};
 
 // What is missing of a table of `value` bytes that begins at `next`, in an input of so many bytes;
 // 0 for one that is too long.
+#[tactic(auto, unfolding(crate::specs::Wanted::missing_of))]
 fn missing(size: usize, value: usize, next: usize) -> usize
     requires { next ≤ size }
     ensures { result ≡ missing_of value (size - next) }
@@ -14,11 +15,7 @@ fn missing(size: usize, value: usize, next: usize) -> usize
     if 16384 < value {
         return 0;
     }
-    let rest = size - next;
-    if rest < value {
-        return value - rest;
-    }
-    0
+    value.saturating_sub(size - next)
 }
 
 // How many bytes more a front needs: 1 while its length number goes on, then what is missing of the
@@ -27,8 +24,8 @@ pub fn wanted(front: &[u8]) -> usize
     ensures { result ≡ wanted_of front.now }
 {
     match numbers::read(front, 0) {
-        Reading::Value { value, next } => missing(front.len(), value as usize, next),
-        Reading::Truncated => 1,
-        Reading::Malformed => 0,
+        Ok(Reading { value, next }) => missing(front.len(), value as usize, next),
+        Err(ReadError::Truncated) => 1,
+        Err(ReadError::Malformed) => 0,
     }
 }

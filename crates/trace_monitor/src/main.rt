@@ -10,34 +10,29 @@
 ghost use Rattle.trace_front.specs.Front.{FrontRead};
 ghost use Rattle.trace_monitor.specs.FrontTold.{FrontTold};
 
-use course::Told;
-use input::Source;
-use std::io::{Result, Stdout};
+use course::Ending;
+use input::Failure;
+use std::io;
+use std::io::{Stdin, Stdout};
 use trace_front::Front;
 
 // What is told of an input by its front.
-fn told_by(source: &mut Source, out: Stdout, front: &[u8], read: Front) -> Told
+fn told_by(source: &mut Stdin, out: Stdout, front: &[u8], read: Result<Front, Failure>) -> Ending
     requires { FrontRead front.now read }
     ensures { FrontTold front.now read result }
 {
-    match read {
+    match read? {
         Front::Whole(n) => course::run(source, out, &front[..n]),
         Front::Ended(n, _) => course::run(source, out, &front[..n]),
-        Front::Broken(failure) => Told::Unread(failure),
     }
 }
 
-fn main(rt: HostRuntime) -> Result<()> {
-    let mut source = Source::new(rt.stdin());
+fn main(rt: HostRuntime) -> io::Result<()> {
+    let mut source = rt.stdin();
     let mut front = [0u8; 16387];
     let read = trace_front::read_front(&mut source, &mut front);
     match told_by(&mut source, rt.stdout(), &front, read) {
-        Told::Ended(_, _) => Ok(()),
-        Told::Refused(_) => Ok(()),
-        Told::Unread(failure) => input::fail(&source, rt.stderr(), failure),
-        Told::Unwritten(unsaid) => {
-            let error = unsaid.error();
-            eprintln!(rt; "standard output: {error}")
-        }
+        Ok(_) => Ok(()),
+        Err(trouble) => eprintln!(rt; "{trouble}"),
     }
 }

@@ -1,115 +1,131 @@
-// Parts of a line. Each is put into the buffer after the n bytes that stand there; the answer is
-// how many stand then.
-ghost use Rattle.std.specs.Prelude.{◌+◌, ◌≤◌, length};
+// Parts of a line, put one after the other into a lent buffer.
+ghost use Rattle.std.specs.Prelude.{◌≡◌, ◌≤◌, length};
 ghost use Rattle.state.specs.Record.{state_of, verdict_of};
 ghost use Rattle.state.specs.Answers.{bits_of};
 ghost use Rattle.trace_spec.specs.TraceLine.{events_from, events_in};
 ghost use Rattle.trace_text.specs.TraceText.{number_text, numbers_text, verdict_text};
 ghost use Rattle.trace_text.specs.TraceText.{record_text, rest_text};
-ghost use Rattle.trace_text.specs.Put.{Puts};
+ghost use Rattle.trace_text.specs.Put.{Fits, Grows};
 
 use state::{EventBits, State, Verdict};
 
-// Some bytes.
-pub fn put(out: &mut [u8], n: usize, part: &[u8]) -> usize
-    requires { n + length part.now ≤ length out.old }
-    ensures { Puts (length part.now) out.old n part.now
-        out.new result }
-{
-    let mut j = 0;
-    while j < part.len() {
-        out[n + j] = part[j];
-        j += 1;
+// A lent buffer, of which the first `len` bytes are written. `Text` of crate `format` owns its bytes
+// and is seen as a list by a Model, which can hold no `&mut`: so each has a `put` of its own.
+#[derive(Drop)]
+pub struct Writer<'a> {
+    out: &'a mut [u8],
+    len: usize,
+}
+
+impl<'a> Writer<'a> {
+    pub fn new(out: &'a mut [u8]) -> Writer<'a>
+        ensures same_buffer { result.out.ghost_name ≡ out.entry.ghost_name }
+        ensures empty { (result.out.now ≡ out.old) × (result.len ≡ 0) }
+    {
+        Writer { out, len: 0 }
     }
-    n + j
-}
 
-// A space and a number.
-pub fn put_number(out: &mut [u8], n: usize, v: u64) -> usize
-    requires { n + 21 ≤ length out.old }
-    ensures { Puts 21 out.old n (number_text v) out.new result }
-{
-    let mut digits = [0u8; 20];
-    let k = io::decimal(v, &mut digits);
-    let m = put(out, n, b" ");
-    put(out, m, &digits[..k])
-}
-
-// An event, if its bit is set: the lowest of the word.
-fn put_event(out: &mut [u8], n: usize, word: u64, e: u64) -> usize
-    requires { n + 21 ≤ length out.old }
-    ensures { Puts 21 out.old n (numbers_text (events_from word e 1))
-        out.new result }
-{
-    if word % 2 == 1 {
-        return put_number(out, n, e);
+    pub fn len(&self) -> usize
+        ensures { result ≡ self.now.len }
+    {
+        self.len
     }
-    n
-}
 
-// The events of a word, of which the first is b.
-fn put_events(out: &mut [u8], n: usize, word: u64, b: u64) -> usize
-    requires { (n + 1344 ≤ length out.old) × (b ≤ 64) }
-    ensures { Puts 1344 out.old n (numbers_text (events_from word b 64))
-        out.new result }
-{
-    let mut m = n;
-    let mut left = word;
-    let mut i = 0;
-    while i < 64 {
-        m = put_event(out, m, left, b + i);
-        left /= 2;
-        i += 1;
+    // Some bytes.
+    pub fn put(&mut self, part: &[u8])
+        requires { Fits self.old (length part.now) }
+        ensures same_buffer { self.new.out.ghost_name ≡ self.old.out.ghost_name }
+        ensures grows { Grows (length part.now) self.old part.now self.new }
+    {
+        let end = self.len + part.len();
+        self.out[self.len..end].copy_from_slice(part);
+        self.len = end;
     }
-    m
-}
 
-// The events permitted next.
-fn put_permitted(out: &mut [u8], n: usize, bits: EventBits) -> usize
-    requires { n + 2688 ≤ length out.old }
-    ensures { Puts 2688 out.old n (numbers_text (events_in (bits_of bits)))
-        out.new result }
-{
-    let m = put_events(out, n, bits.first, 0);
-    put_events(out, m, bits.second, 64)
-}
+    // A space and a number.
+    pub fn put_number(&mut self, v: u64)
+        requires { Fits self.old 21 }
+        ensures same_buffer { self.new.out.ghost_name ≡ self.old.out.ghost_name }
+        ensures grows { Grows 21 self.old (number_text v) self.new }
+    {
+        let mut digits = [0u8; 20];
+        let k = io::decimal(v, &mut digits);
+        self.put(b" ");
+        self.put(&digits[..k]);
+    }
 
-// The verdict with its place.
-fn put_verdict(out: &mut [u8], n: usize, verdict: Verdict) -> usize
-    requires { n + 29 ≤ length out.old }
-    ensures { Puts 29 out.old n (verdict_text (verdict_of verdict)) out.new result }
-{
-    match verdict {
-        Verdict::Running => {
-            let m = put(out, n, b" running");
-            put_number(out, m, 0)
-        }
-        Verdict::Failed(place) => {
-            let m = put(out, n, b" failed");
-            put_number(out, m, place)
+    // An event, if its bit is set: the lowest of the word.
+    fn put_event(&mut self, word: u64, e: u64)
+        requires { Fits self.old 21 }
+        ensures same_buffer { self.new.out.ghost_name ≡ self.old.out.ghost_name }
+        ensures grows { Grows 21 self.old (numbers_text (events_from word e 1)) self.new }
+    {
+        if word % 2 == 1 {
+            self.put_number(e);
         }
     }
-}
 
-// Events taken, verdict, residuals and peak.
-fn put_record(out: &mut [u8], n: usize, state: State) -> usize
-    requires { n + 92 ≤ length out.old }
-    ensures { Puts 92 out.old n (record_text (state_of state)) out.new result }
-{
-    let verdict = state.verdict;
-    let a = put_number(out, n, state.taken);
-    let b = put_verdict(out, a, verdict);
-    let c = put_number(out, b, state.count);
-    put_number(out, c, state.peak)
-}
+    // The events of a word, of which the first is b.
+    fn put_events(&mut self, word: u64, b: u64)
+        requires { Fits self.old 1344 × (b ≤ 64) }
+        ensures same_buffer { self.new.out.ghost_name ≡ self.old.out.ghost_name }
+        ensures grows { Grows 1344 self.old (numbers_text (events_from word b 64)) self.new }
+    {
+        let mut left = word;
+        for i in 0..64 {
+            self.put_event(left, b + i);
+            left /= 2;
+        }
+    }
 
-// All that follows the event, and a line feed.
-pub fn put_rest(out: &mut [u8], n: usize, state: State, bits: EventBits) -> usize
-    requires { n + 2781 ≤ length out.old }
-    ensures { Puts 2781 out.old n (rest_text (state_of state) (bits_of bits))
-        out.new result }
-{
-    let a = put_record(out, n, state);
-    let b = put_permitted(out, a, bits);
-    put(out, b, b"\n")
+    // The events permitted next.
+    fn put_permitted(&mut self, bits: EventBits)
+        requires { Fits self.old 2688 }
+        ensures same_buffer { self.new.out.ghost_name ≡ self.old.out.ghost_name }
+        ensures grows { Grows 2688 self.old (numbers_text (events_in (bits_of bits))) self.new }
+    {
+        self.put_events(bits.first, 0);
+        self.put_events(bits.second, 64);
+    }
+
+    // The verdict with its place.
+    fn put_verdict(&mut self, verdict: Verdict)
+        requires { Fits self.old 29 }
+        ensures same_buffer { self.new.out.ghost_name ≡ self.old.out.ghost_name }
+        ensures grows { Grows 29 self.old (verdict_text (verdict_of verdict)) self.new }
+    {
+        match verdict {
+            Verdict::Running => {
+                self.put(b" running");
+                self.put_number(0);
+            }
+            Verdict::Failed(place) => {
+                self.put(b" failed");
+                self.put_number(place);
+            }
+        }
+    }
+
+    // Events taken, verdict, residuals and peak.
+    fn put_record(&mut self, state: State)
+        requires { Fits self.old 92 }
+        ensures same_buffer { self.new.out.ghost_name ≡ self.old.out.ghost_name }
+        ensures grows { Grows 92 self.old (record_text (state_of state)) self.new }
+    {
+        self.put_number(state.taken);
+        self.put_verdict(state.verdict);
+        self.put_number(state.count);
+        self.put_number(state.peak);
+    }
+
+    // All that follows the event, and a line feed.
+    pub fn put_rest(&mut self, state: State, bits: EventBits)
+        requires { Fits self.old 2781 }
+        ensures same_buffer { self.new.out.ghost_name ≡ self.old.out.ghost_name }
+        ensures grows { Grows 2781 self.old (rest_text (state_of state) (bits_of bits)) self.new }
+    {
+        self.put_record(state);
+        self.put_permitted(bits);
+        self.put(b"\n");
+    }
 }

@@ -6,7 +6,7 @@ ghost use Rattle.trace_spec.specs.TraceLine.{starts, takes, refuses};
 ghost use Rattle.trace_text.specs.TraceText.{trace_text_of};
 ghost use Rattle.trace_text.specs.Put.{PutsText};
 
-use crate::parts::{put, put_number, put_rest};
+use crate::parts::Writer;
 use state::{EventBits, State};
 
 // No line is longer: 128 events and five numbers of 20 digits, each after a space, and some words.
@@ -19,8 +19,10 @@ pub fn start_text(state: State, permitted: EventBits, out: &mut [u8]) -> usize
     if out.len() < ROOM {
         return 0;
     }
-    let n = put(out, 0, b"start -");
-    put_rest(out, n, state, permitted)
+    let mut text = Writer::new(out);
+    text.put(b"start -");
+    text.put_rest(state, permitted);
+    text.len()
 }
 
 // After an event.
@@ -31,9 +33,11 @@ pub fn event_text(e: u8, state: State, permitted: EventBits, out: &mut [u8]) -> 
     if out.len() < ROOM {
         return 0;
     }
-    let a = put(out, 0, b"event");
-    let b = put_number(out, a, e as u64);
-    put_rest(out, b, state, permitted)
+    let mut text = Writer::new(out);
+    text.put(b"event");
+    text.put_number(e as u64);
+    text.put_rest(state, permitted);
+    text.len()
 }
 
 // A refusal.
@@ -43,8 +47,10 @@ pub fn refusal_text(number: u8, place: u64, out: &mut [u8]) -> usize
     if out.len() < ROOM {
         return 0;
     }
-    let a = put(out, 0, b"refused");
-    let b = put_number(out, a, number as u64);
-    let c = put_number(out, b, place);
-    put(out, c, b"\n")
+    let mut text = Writer::new(out);
+    text.put(b"refused");
+    text.put_number(number as u64);
+    text.put_number(place);
+    text.put(b"\n");
+    text.len()
 }

@@ -4,7 +4,7 @@
 --     TracedBy     the promise of `trace_event`
 -- A loop over events keeps `Tracing l w m` together with `reached_by s ≡ at (table_in l) m` of crate trace_spec, where s
 -- is what was read so far; `Tracing/Laws.antt` has both for the next event. Assumes nothing.
-use Rattle.std.specs.Prelude.{ℕ, ◌≡◌, List}
+use Rattle.std.specs.Prelude.{ℕ, ◌≡◌, List, Result, Ok, Err}
 use Rattle.table_index.specs.Index.{table_in, Indexed}
 use Rattle.monitor_spec.specs.State.{Monitor}
 use Rattle.monitor_spec.specs.Fold.{went, stops}
@@ -16,7 +16,7 @@ use Rattle.state.specs.Record.{monitor_of}
 use Rattle.state.specs.Answers.{bits_of}
 use Rattle.trace_spec.specs.Trace.{permitted_by}
 use Rattle.tracing.specs.declared.answer.Traced.{Traced}
-use Rattle.tracing.specs.declared.answer.Traced.TheVariants.{Went, Stopped}
+use Rattle.tracing.specs.declared.answer.Refused.{Refused}
 pub mod Laws
 
 -- of a number list l, the work words w and a monitor
@@ -37,6 +37,6 @@ pub record RefusedEvent (l : List ℕ) (m : Monitor) (e number place : ℕ) (a b
   pub first : a ≡ m.area0
   pub second : b ≡ m.area1
 
-abbrev pub TracedBy : List ℕ → List ℕ → Monitor → ℕ → Traced → List ℕ → List ℕ → Type 0
-TracedBy l w m e (Went s bits) a b = TracedOn l w m e s bits a b
-TracedBy l w m e (Stopped number place) a b = RefusedEvent l m e number place a b
+abbrev pub TracedBy : List ℕ → List ℕ → Monitor → ℕ → Result Traced Refused → List ℕ → List ℕ → Type 0
+TracedBy l w m e (Ok t) a b = TracedOn l w m e t.state t.permitted a b
+TracedBy l w m e (Err q) a b = RefusedEvent l m e q.number q.place a b

@@ -6,15 +6,31 @@ use state::{EventBits, State};
 // a refusal by number and place.
 #[derive(Clone, Copy)]
 pub enum TraceLine {
-    Starts(State, EventBits),
-    Takes(u8, State, EventBits),
-    Refuses(u8, u64),
+    Starts {
+        state: State,
+        permitted: EventBits,
+    },
+    Takes {
+        event: u8,
+        state: State,
+        permitted: EventBits,
+    },
+    Refuses {
+        number: u8,
+        place: u64,
+    },
 }
 
-// The record after an event and the events permitted next; or a refusal, placed from the input's
-// first event.
-#[derive(Drop)]
-pub enum Traced {
-    Went(State, EventBits),
-    Stopped(u8, u64),
+// The record after an event, and the events permitted next.
+#[derive(Clone, Copy)]
+pub struct Traced {
+    pub state: State,
+    pub permitted: EventBits,
+}
+
+// A refusal of an event, placed from the input's first.
+#[derive(Clone, Copy)]
+pub struct Refused {
+    pub number: u8,
+    pub place: u64,
 }

@@ -7,5 +7,5 @@
 mod answer;
 mod tracer;
 
-pub use answer::{TraceLine, Traced};
+pub use answer::{Refused, TraceLine, Traced};
 pub use tracer::trace_event;

@@ -1,21 +1,21 @@
 // The results that moves say of a residual, held one after the other. The definitions are in
 // `specs/Moving.antt`.
 ghost use Rattle.std.specs.Prelude.{◌≡◌};
-ghost use Rattle.table_index.specs.Index.{table_in, Indexed};
+ghost use Rattle.index.specs.Handle.{table_of};
 ghost use Rattle.slots.specs.Holding.{Gave};
 ghost use Rattle.tree_moves.specs.Moving.{StepsLeaf, stepped_leaf, StepsMoves, stepped_moves};
 
 use crate::rebuilding::{carry, rebuild};
+use index::IndexedTable;
 use node_word::{memory_of, remember, term_of};
 use resolving::{pop_to, resolve_into};
-use slots::{Held, put};
+use slots::{Exceeded, put};
 
 // Holds a slot followed by each residual that the leaf at p comes to and by the nodes after it, of
 // which the marked leaves have taken the event. There are n nodes from p on. The slot is left as it
 // was.
 fn step_leaf(
-    list: &[u16],
-    work: &[u64],
+    table: &IndexedTable<'_>,
     bound: usize,
     e: u64,
     src: &[u64],
@@ -25,44 +25,33 @@ fn step_leaf(
     slot: &mut [u64],
     dst: &mut [u64],
     count: usize,
-) -> Held
-    requires indexed { Indexed list.now work.now }
-    requires steps_leaf { StepsLeaf (table_in list.now) bound e src.now p n also slot.old dst.old
+) -> Result<usize, Exceeded>
+    requires steps_leaf { StepsLeaf (table_of table.now) bound e src.now p n also slot.old dst.old
         count }
-    ensures { Gave (stepped_leaf (table_in list.now) e src.now p n also
+    ensures { Gave (stepped_leaf (table_of table.now) e src.now p n also
         slot.old dst.old count) result dst.new
         × (slot.new ≡ slot.old) }
 {
     let w = src[p];
     let t = term_of(w) + 1;
     let m = remember(e, memory_of(w));
-    let b = index::branches(list, work, t);
+    let b = table.branches(t);
     let before = slot[0];
     let mut c = count;
-    let mut i = 0;
-    while i < b {
-        resolve_into(list, work, bound, t, m, i, slot);
-        rebuild(list, work, bound, e, src, p + 1, n - 1, also / 2, slot);
+    for i in 0..b {
+        resolve_into(table, bound, t, m, i, slot);
+        rebuild(table, bound, e, src, p + 1, n - 1, also / 2, slot);
         let held = put(dst, c, slot);
         pop_to(slot, before);
-        match held {
-            Held::Count(d) => {
-                c = d;
-                i += 1;
-            }
-            Held::Exceeded => {
-                return Held::Exceeded;
-            }
-        }
+        c = held?;
     }
-    Held::Count(c)
+    Ok(c)
 }
 
 // Holds a slot followed by each result that moves say of the n nodes from p on: leaf after leaf,
 // the nodes before it pushed on the slot; a leaf that has been stepped is a node like the others.
 pub fn step_moves(
-    list: &[u16],
-    work: &[u64],
+    table: &IndexedTable<'_>,
     bound: usize,
     e: u64,
     src: &[u64],
@@ -73,11 +62,10 @@ pub fn step_moves(
     slot: [u64; 16],
     dst: &mut [u64],
     count: usize,
-) -> Held
-    requires indexed { Indexed list.now work.now }
-    requires steps_moves { StepsMoves (table_in list.now) bound e src.now p n each also slot dst.old
+) -> Result<usize, Exceeded>
+    requires steps_moves { StepsMoves (table_of table.now) bound e src.now p n each also slot dst.old
         count }
-    ensures { Gave (stepped_moves (table_in list.now) e src.now p n each also slot
+    ensures { Gave (stepped_moves (table_of table.now) e src.now p n each also slot
         dst.old count) result dst.new }
 {
     let mut at = p;
@@ -86,35 +74,18 @@ pub fn step_moves(
     let mut u = also;
     let mut s = slot;
     let mut c = count;
+    // no index: it stays at a leaf for its turn, and ends with the last mark
     while 0 < x {
         if x % 2 == 1 {
-            match step_leaf(list, work, bound, e, src, at, left, u, &mut s, dst, c) {
-                Held::Count(d) => {
-                    c = d;
-                    x -= 1;
-                    continue;
-                }
-                Held::Exceeded => {
-                    return Held::Exceeded;
-                }
-            }
-        }
-        let w = src[at];
-        if u % 2 == 0 {
-            let k = s[0] + 1;
-            s[k as usize] = w;
-            s[0] = k;
-            at += 1;
-            left -= 1;
-            x /= 2;
-            u /= 2;
+            c = step_leaf(table, bound, e, src, at, left, u, &mut s, dst, c)?;
+            x -= 1;
             continue;
         }
-        carry(list, work, bound, e, w, u, &mut s);
+        carry(table, bound, e, src[at], u, &mut s);
         at += 1;
         left -= 1;
         x /= 2;
         u /= 2;
     }
-    Held::Count(c)
+    Ok(c)
 }

@@ -2,7 +2,7 @@
 // reading order; for each tree a mode says whether it takes the event or is kept. The definitions
 // are in `specs/Walk.antt`, `specs/Forest.antt` and `specs/Course.antt`.
 ghost use Rattle.std.specs.Prelude.{◌≡◌, ◌+◌, ◌*◌, ◌<◌, ◌≤◌, get_or, eqb};
-ghost use Rattle.table_index.specs.Index.{table_in, Indexed};
+ghost use Rattle.index.specs.Handle.{table_of};
 ghost use Rattle.table.specs.Table.{term_count};
 ghost use Rattle.node_word.specs.Word.{term_of_word};
 ghost use Rattle.resolving.specs.Words.{kind_at};
@@ -10,18 +10,19 @@ ghost use Rattle.resolving.specs.ResidualWords.{pushed, Clean};
 ghost use Rattle.slots.specs.Holding.{Gave};
 ghost use Rattle.tree_walk.specs.Course.{node_count, Ready, Place, walked};
 
+use index::IndexedTable;
 use node_word::{memory_of, remember, term_of};
 use resolving::{holds_at, kind_at, pop_to, push_into, resolve_into};
-use slots::{Held, put};
+use slots::{Exceeded, put};
 
 // Whether a node is a pair, by the kind of its term. A residual's other nodes are STOP and
 // prefixes.
-pub fn is_pair(list: &[u16], work: &[u64], w: u64) -> bool
-    requires indexed { Indexed list.now work.now }
-    requires w_bound { term_of_word w < term_count (table_in list.now) }
-    ensures { result ≡ eqb (kind_at (table_in list.now) w) 4 }
+pub fn is_pair(table: &IndexedTable<'_>, w: u64) -> bool
+    requires w_bound { term_of_word w < term_count (table_of table.now) }
+    ensures { result ≡ eqb (kind_at (table_of table.now) w) 4 }
 {
-    match kind_at(list, work, w) {
+    // 01 names this form: a match over kind numbers, with a range arm
+    match kind_at(table, w) {
         4 => true,
         0 | 2 | 5 => false,
         3 => false,
@@ -35,8 +36,7 @@ pub fn is_pair(list: &[u16], work: &[u64], w: u64) -> bool
 // `area`. The slot has what stands before node k; each function leaves it as it was.
 #[cycle(walk_walk_kept_walk_leaf_walk_pair)]
 pub fn walk(
-    list: &[u16],
-    work: &[u64],
+    table: &IndexedTable<'_>,
     store: &[u64],
     bound: usize,
     e: u64,
@@ -45,12 +45,11 @@ pub fn walk(
     slot: &mut [u64],
     area: &mut [u64],
     count: usize,
-) -> Held
-    requires indexed { Indexed list.now work.now }
-    requires ready { Ready (table_in list.now) bound e store.now }
-    requires place { Place (table_in list.now) e store.now k modes slot.old area.old
+) -> Result<usize, Exceeded>
+    requires ready { Ready (table_of table.now) bound e store.now }
+    requires place { Place (table_of table.now) e store.now k modes slot.old area.old
         count }
-    ensures { Gave (walked (table_in list.now) e store.now k modes
+    ensures { Gave (walked (table_of table.now) e store.now k modes
         slot.old area.old count) result area.new
         × (slot.new ≡ slot.old) }
 {
@@ -60,24 +59,23 @@ pub fn walk(
     }
     let w = store[k];
     let rest = modes / 2;
-    let pair = is_pair(list, work, w);
+    let pair = is_pair(table, w);
     if modes % 2 == 0 {
         if pair {
-            return walk_kept(list, work, store, bound, e, k, rest * 4, slot, area, count);
+            return walk_kept(table, store, bound, e, k, rest * 4, slot, area, count);
         }
-        return walk_kept(list, work, store, bound, e, k, rest, slot, area, count);
+        return walk_kept(table, store, bound, e, k, rest, slot, area, count);
     }
     if pair {
-        return walk_pair(list, work, store, bound, e, k, rest, slot, area, count);
+        return walk_pair(table, store, bound, e, k, rest, slot, area, count);
     }
-    walk_leaf(list, work, store, bound, e, k, rest, slot, area, count)
+    walk_leaf(table, store, bound, e, k, rest, slot, area, count)
 }
 
 // The ways to go on after node k, which stands in each result.
 #[cycle(walk_walk_kept_walk_leaf_walk_pair)]
 fn walk_kept(
-    list: &[u16],
-    work: &[u64],
+    table: &IndexedTable<'_>,
     store: &[u64],
     bound: usize,
     e: u64,
@@ -86,20 +84,19 @@ fn walk_kept(
     slot: &mut [u64],
     area: &mut [u64],
     count: usize,
-) -> Held
-    requires indexed { Indexed list.now work.now }
-    requires ready { Ready (table_in list.now) bound e store.now }
+) -> Result<usize, Exceeded>
+    requires ready { Ready (table_of table.now) bound e store.now }
     requires clean { Clean slot.old
-        × Place (table_in list.now) e store.now (k + 1) modes
+        × Place (table_of table.now) e store.now (k + 1) modes
         (pushed slot.old (get_or store.now k 0)) area.old count }
-    ensures { Gave (walked (table_in list.now) e store.now (k + 1) modes
+    ensures { Gave (walked (table_of table.now) e store.now (k + 1) modes
         (pushed slot.old (get_or store.now k 0)) area.old count)
         result area.new
         × (slot.new ≡ slot.old) }
 {
     let words = slot[0];
     push_into(slot, store[k]);
-    let held = walk(list, work, store, bound, e, k + 1, modes, slot, area, count);
+    let held = walk(table, store, bound, e, k + 1, modes, slot, area, count);
     pop_to(slot, words);
     held
 }
@@ -107,8 +104,7 @@ fn walk_kept(
 // A pair that is to take the event; its number in the store says whether it can.
 #[cycle(walk_walk_kept_walk_leaf_walk_pair)]
 fn walk_pair(
-    list: &[u16],
-    work: &[u64],
+    table: &IndexedTable<'_>,
     store: &[u64],
     bound: usize,
     e: u64,
@@ -117,35 +113,31 @@ fn walk_pair(
     slot: &mut [u64],
     area: &mut [u64],
     count: usize,
-) -> Held
-    requires indexed { Indexed list.now work.now }
-    requires ready { Ready (table_in list.now) bound e store.now }
-    requires place { Place (table_in list.now) e store.now k (rest * 2 + 1) slot.old
+) -> Result<usize, Exceeded>
+    requires ready { Ready (table_of table.now) bound e store.now }
+    requires place { Place (table_of table.now) e store.now k (rest * 2 + 1) slot.old
         area.old count
-        × (k ≤ node_count store.now) × (kind_at (table_in list.now) (get_or store.now k 0) ≡ 4) }
-    ensures { Gave (walked (table_in list.now) e store.now k (rest * 2 + 1)
+        × (k ≤ node_count store.now) × (kind_at (table_of table.now) (get_or store.now k 0) ≡ 4) }
+    ensures { Gave (walked (table_of table.now) e store.now k (rest * 2 + 1)
         slot.old area.old count) result area.new
         × (slot.new ≡ slot.old) }
 {
     if store[k * 257] == 0 {
-        return Held::Count(count);
+        return Ok(count);
     }
     let w = store[k];
     let kept = rest * 4;
-    if holds_at(list, work, w, e) {
-        return walk_kept(list, work, store, bound, e, k, kept + 3, slot, area, count);
+    if holds_at(table, w, e) {
+        return walk_kept(table, store, bound, e, k, kept + 3, slot, area, count);
     }
-    match walk_kept(list, work, store, bound, e, k, kept + 1, slot, area, count) {
-        Held::Count(c) => walk_kept(list, work, store, bound, e, k, kept + 2, slot, area, c),
-        Held::Exceeded => Held::Exceeded,
-    }
+    let c = walk_kept(table, store, bound, e, k, kept + 1, slot, area, count)?;
+    walk_kept(table, store, bound, e, k, kept + 2, slot, area, c)
 }
 
 // A leaf that takes the event.
 #[cycle(walk_walk_kept_walk_leaf_walk_pair)]
 fn walk_leaf(
-    list: &[u16],
-    work: &[u64],
+    table: &IndexedTable<'_>,
     store: &[u64],
     bound: usize,
     e: u64,
@@ -154,14 +146,13 @@ fn walk_leaf(
     slot: &mut [u64],
     area: &mut [u64],
     count: usize,
-) -> Held
-    requires indexed { Indexed list.now work.now }
-    requires ready { Ready (table_in list.now) bound e store.now }
-    requires place { Place (table_in list.now) e store.now k (rest * 2 + 1) slot.old
+) -> Result<usize, Exceeded>
+    requires ready { Ready (table_of table.now) bound e store.now }
+    requires place { Place (table_of table.now) e store.now k (rest * 2 + 1) slot.old
         area.old count
         × (k ≤ node_count store.now)
-        × (kind_at (table_in list.now) (get_or store.now k 0) ≡ 4 → ⊥) }
-    ensures { Gave (walked (table_in list.now) e store.now k (rest * 2 + 1)
+        × (kind_at (table_of table.now) (get_or store.now k 0) ≡ 4 → ⊥) }
+    ensures { Gave (walked (table_of table.now) e store.now k (rest * 2 + 1)
         slot.old area.old count) result area.new
         × (slot.new ≡ slot.old) }
 {
@@ -171,21 +162,12 @@ fn walk_leaf(
     let m = remember(e, memory_of(w));
     let before = slot[0];
     let mut c = count;
-    let mut j = 0;
-    while j < f {
+    for j in 0..f {
         let i = store[k * 257 + 1 + j as usize];
-        resolve_into(list, work, bound, t + 1, m, i, slot);
-        let held = walk(list, work, store, bound, e, k + 1, rest, slot, area, c);
+        resolve_into(table, bound, t + 1, m, i, slot);
+        let held = walk(table, store, bound, e, k + 1, rest, slot, area, c);
         pop_to(slot, before);
-        match held {
-            Held::Count(d) => {
-                c = d;
-                j += 1;
-            }
-            Held::Exceeded => {
-                return Held::Exceeded;
-            }
-        }
+        c = held?;
     }
-    Held::Count(c)
+    Ok(c)
 }

@@ -2,12 +2,13 @@
 // residual needs no store. Its nodes are gone through once, from the last to the first, the ways of
 // the trees so far on a stack. The definitions are in `specs/Only.antt` and `specs/Code.antt`.
 ghost use Rattle.std.specs.Prelude.{◌≡◌, ◌+◌, ◌<◌};
-ghost use Rattle.table_index.specs.Index.{table_in, Indexed};
+ghost use Rattle.index.specs.Handle.{table_of};
 ghost use Rattle.resolving.specs.Words.{KnownWord};
 ghost use Rattle.tree_ways.specs.Only.{leaf_way, Rooted, WayIn};
 ghost use Rattle.tree_ways.specs.Code.{way_code, either_code, both_code, pair_code, code_bound};
 ghost use Rattle.tree_ways.specs.Code.{DecodedWay, CodeIn};
 
+use index::IndexedTable;
 use node_word::term_of;
 use resolving::{holds_at, kind_at};
 use tree_walk::is_pair;
@@ -41,16 +42,16 @@ const SEVERAL: u64 = 2 * LONE;
 const MANY: u64 = 3 * LONE + ALSO;
 
 // The word of a leaf's way, the leaf being the j-th node.
-fn leaf_code(list: &[u16], work: &[u64], w: u64, e: u64, j: usize) -> u64
-    requires indexed { Indexed list.now work.now }
-    requires known_word { KnownWord (table_in list.now) w }
-    requires e_bound { (e < (table_in list.now).alphabet) × (j < 15) }
-    ensures { result ≡ way_code (leaf_way (table_in list.now) e w) j }
+fn leaf_code(table: &IndexedTable<'_>, w: u64, e: u64, j: usize) -> u64
+    requires known_word { KnownWord (table_of table.now) w }
+    requires e_bound { (e < (table_of table.now).alphabet) × (j < 15) }
+    ensures { result ≡ way_code (leaf_way (table_of table.now) e w) j }
 {
-    match kind_at(list, work, w) {
+    // 01 names this form: a match over kind numbers, with a range arm
+    match kind_at(table, w) {
         2 => {
-            if holds_at(list, work, w, e) {
-                return match index::branches(list, work, term_of(w) + 1) {
+            if holds_at(table, w, e) {
+                return match table.branches(term_of(w) + 1) {
                     0 => 0,
                     1 => (1 << j) + LONE,
                     2..=18446744073709551615 => (1 << j) + SEVERAL,
@@ -137,37 +138,36 @@ fn decode(v: u64) -> Way
 
 // The word of the residual with n nodes from k on. At a pair, its left side's is on top of the
 // stack and its right side's below it.
-fn root_code(list: &[u16], work: &[u64], area: &[u64], k: usize, n: usize, e: u64) -> u64
-    requires indexed { Indexed list.now work.now }
-    requires e_bound { (e < (table_in list.now).alphabet) × Rooted (table_in list.now) area.now k n }
-    ensures { CodeIn (table_in list.now) e area.now k n result }
+fn root_code(table: &IndexedTable<'_>, area: &[u64], k: usize, n: usize, e: u64) -> u64
+    requires e_bound { (e < (table_of table.now).alphabet) × Rooted (table_of table.now) area.now k n }
+    ensures { CodeIn (table_of table.now) e area.now k n result }
 {
     let mut stack = [0u64; 16];
     let mut h = 0;
+    // down, and beside it a stack whose height goes up and down
     let mut j = n;
     while 0 < j {
         j -= 1;
         let w = area[k + j];
-        if is_pair(list, work, w) {
-            let held = holds_at(list, work, w, e);
+        if is_pair(table, w) {
+            let held = holds_at(table, w, e);
             stack[h - 2] = pair_code(stack[h - 1], stack[h - 2], held);
             h -= 1;
             continue;
         }
-        stack[h] = leaf_code(list, work, w, e, j);
+        stack[h] = leaf_code(table, w, e, j);
         h += 1;
     }
     stack[0]
 }
 
 // The way of the residual with n nodes from k on. Many are one leaf.
-pub fn way_of(list: &[u16], work: &[u64], area: &[u64], k: usize, n: usize, e: u64) -> Way
-    requires indexed { Indexed list.now work.now }
-    requires e_bound { (e < (table_in list.now).alphabet) × Rooted (table_in list.now) area.now k n }
-    ensures { WayIn (table_in list.now) e area.now k n result }
+pub fn way_of(table: &IndexedTable<'_>, area: &[u64], k: usize, n: usize, e: u64) -> Way
+    requires e_bound { (e < (table_of table.now).alphabet) × Rooted (table_of table.now) area.now k n }
+    ensures { WayIn (table_of table.now) e area.now k n result }
 {
     if n == 1 {
-        return decode(leaf_code(list, work, area[k], e, 0));
+        return decode(leaf_code(table, area[k], e, 0));
     }
-    decode(root_code(list, work, area, k, n, e))
+    decode(root_code(table, area, k, n, e))
 }

@@ -1,10 +1,11 @@
 // Whether a residual in an area may take an event: whether there is a residual after it.
 // The definitions are in `specs/Takes.antt`.
 ghost use Rattle.std.specs.Prelude.{◌≡◌, ◌<◌};
-ghost use Rattle.table_index.specs.Index.{table_in, Indexed};
+ghost use Rattle.index.specs.Handle.{table_of};
 ghost use Rattle.resolving.specs.Words.{kind_at, KnownWord};
 ghost use Rattle.tree_ways.specs.Takes.{TreeAt, Takes, leaf_takes, pair_takes};
 
+use index::IndexedTable;
 use node_word::term_of;
 use resolving::{holds_at, kind_at};
 
@@ -16,14 +17,13 @@ pub struct Tree {
 }
 
 // Whether a prefix may take event e.
-fn leaf_takes(list: &[u16], work: &[u64], w: u64, e: u64) -> bool
-    requires indexed { Indexed list.now work.now }
-    requires known_word { KnownWord (table_in list.now) w × (kind_at (table_in list.now) w ≡ 2) }
-    requires e_bound { e < (table_in list.now).alphabet }
-    ensures { result ≡ leaf_takes (table_in list.now) e w }
+fn leaf_takes(table: &IndexedTable<'_>, w: u64, e: u64) -> bool
+    requires known_word { KnownWord (table_of table.now) w × (kind_at (table_of table.now) w ≡ 2) }
+    requires e_bound { e < (table_of table.now).alphabet }
+    ensures { result ≡ leaf_takes (table_of table.now) e w }
 {
-    if holds_at(list, work, w, e) {
-        return 0 < index::branches(list, work, term_of(w) + 1);
+    if holds_at(table, w, e) {
+        return 0 < table.branches(term_of(w) + 1);
     }
     false
 }
@@ -45,23 +45,23 @@ fn pair_takes(left: bool, right: bool, held: bool) -> bool
 }
 
 // Whether the tree whose first node stands at k may take event e, and where its words end.
-pub fn takes_at(list: &[u16], work: &[u64], area: &[u64], k: usize, e: u64) -> Tree
-    requires indexed { Indexed list.now work.now }
-    requires e_bound { (e < (table_in list.now).alphabet) × TreeAt (table_in list.now) area.now k }
-    ensures { Takes (table_in list.now) e area.now k result }
+pub fn takes_at(table: &IndexedTable<'_>, area: &[u64], k: usize, e: u64) -> Tree
+    requires e_bound { (e < (table_of table.now).alphabet) × TreeAt (table_of table.now) area.now k }
+    ensures { Takes (table_of table.now) e area.now k result }
 {
     let w = area[k];
     let next = k + 1;
-    match kind_at(list, work, w) {
+    // 01 names this form: a match over kind numbers, with a range arm
+    match kind_at(table, w) {
         2 => {
-            let moves = leaf_takes(list, work, w, e);
+            let moves = leaf_takes(table, w, e);
             Tree { moves, next }
         }
         4 => {
-            let a = takes_at(list, work, area, next, e);
+            let a = takes_at(table, area, next, e);
             let p = a.next;
-            let b = takes_at(list, work, area, p, e);
-            let moves = pair_takes(a.moves, b.moves, holds_at(list, work, w, e));
+            let b = takes_at(table, area, p, e);
+            let moves = pair_takes(a.moves, b.moves, holds_at(table, w, e));
             let end = b.next;
             Tree { moves, next: end }
         }

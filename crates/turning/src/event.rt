@@ -4,23 +4,23 @@ ghost use Rattle.state.specs.Record.{monitor_of};
 ghost use Rattle.tracing.specs.Tracing.{Tracing};
 ghost use Rattle.course_spec.specs.Course.{Rooms, Turned, ToldRefusal};
 
-use course_spec::{Course, Told};
-use saying::{Count, Saying, say};
+use course_spec::{Course, Ending, Told, Trouble};
+use saying::{Count, say};
 use state::State;
-use tracing::{TraceLine, Traced};
+use std::ops::ControlFlow;
+use tracing::TraceLine;
 
 // Says a refusal, which is the last line.
-pub fn say_refusal(number: u8, place: u64, before: Count, text: &mut [u8]) -> Told
+pub fn say_refusal(number: u8, place: u64, before: Count, text: &mut [u8]) -> Ending
     requires { 2816 ≤ length text.old }
     ensures { ToldRefusal number place before.lines result }
 {
-    match say(TraceLine::Refuses(number, place), before, text) {
-        Saying::Written(said) => Told::Refused(said),
-        Saying::Failed(unsaid) => Told::Unwritten(unsaid),
-    }
+    let said = say(TraceLine::Refuses { number, place }, before, text)?;
+    Ok(Told::Refused(said))
 }
 
-// Judges one event, and says its line.
+// Judges one event, and says its line. The buffers stay parameters: `turn` takes slices of any
+// length, a struct of arrays would ask more.
 pub fn turn(
     list: &[u16],
     work: &[u64],
@@ -38,13 +38,19 @@ pub fn turn(
         (monitor_of state area0.old area1.old) before.lines e
         result area0.new area1.new }
 {
-    match tracing::trace_event(list, work, e, state, area0, area1, store) {
-        Traced::Went(next, permitted) => {
-            match say(TraceLine::Takes(e, next, permitted), before, text) {
-                Saying::Written(said) => Course::Going(next, said),
-                Saying::Failed(unsaid) => Course::Over(Told::Unwritten(unsaid)),
-            }
+    let traced = match tracing::trace_event(list, work, e, state, area0, area1, store) {
+        Ok(traced) => traced,
+        Err(refused) => {
+            return ControlFlow::Break(say_refusal(refused.number, refused.place, before, text));
         }
-        Traced::Stopped(number, place) => Course::Over(say_refusal(number, place, before, text)),
+    };
+    let line = TraceLine::Takes {
+        event: e,
+        state: traced.state,
+        permitted: traced.permitted,
+    };
+    match say(line, before, text) {
+        Ok(said) => ControlFlow::Continue((traced.state, said)),
+        Err(unsaid) => ControlFlow::Break(Err(Trouble::Unwritten(unsaid))),
     }
 }

@@ -3,8 +3,8 @@
 // enclosing prefixes; the leaves' reach sums to at most 8"). The definitions are in
 // `specs/Valid.antt` of crate monitor_spec, those of the walk over a slot's node words in
 // `specs/Walk.antt`.
-ghost use Rattle.std.specs.Prelude.{◌≡◌, ◌+◌, ◌≤◌, length, take, drop};
-ghost use Rattle.table_index.specs.Index.{table_in, Indexed};
+ghost use Rattle.std.specs.Prelude.{◌≡◌, ◌+◌, ◌≤◌, length, take, drop, Some};
+ghost use Rattle.index.specs.Handle.{table_of};
 ghost use Rattle.node_word.specs.Word.{memory_of};
 ghost use Rattle.slots.specs.Canon.{compare_words};
 ghost use Rattle.monitor_spec.specs.Valid.{digit_fits, memory_fits, is_below, valid_slot};
@@ -12,6 +12,7 @@ ghost use Rattle.monitor_spec.specs.Consistent.{all_zero};
 ghost use Rattle.valid_slots.specs.Walk.{Few, with_leaf, paired, is_whole};
 ghost use Rattle.valid_slots.specs.Walk.{word_fits, planted, planted_all};
 
+use index::IndexedTable;
 use node_word::{digit, term_of};
 
 // The bits of the eight words from i on: 0 only where the eight are zero.
@@ -34,6 +35,7 @@ fn past_zeros(area: &[u64], from: usize) -> usize
         return from;
     }
     let last = area.len() - 8;
+    // Kept as it is: it steps by eight words, for speed, and says where it ended.
     let mut i = from;
     while i <= last {
         if eight(area, i) != 0 {
@@ -48,12 +50,10 @@ fn past_zeros(area: &[u64], from: usize) -> usize
 pub fn all_zero(area: &[u64], from: usize) -> bool
     ensures { result ≡ all_zero (drop from area.now) }
 {
-    let mut i = past_zeros(area, from);
-    while i < area.len() {
+    for i in past_zeros(area, from)..area.len() {
         if area[i] != 0 {
             return false;
         }
-        i += 1;
     }
     true
 }
@@ -75,118 +75,102 @@ fn digit_fits(alphabet: u64, c: u64, i: u64, v: u64) -> bool
 fn memory_fits(alphabet: u64, c: u64, w: u64) -> bool
     ensures { result ≡ memory_fits alphabet c (memory_of w) }
 {
-    if !digit_fits(alphabet, c, 0, digit(w, 0)) {
-        return false;
+    for i in 0..4 {
+        if !digit_fits(alphabet, c, i, digit(w, i)) {
+            return false;
+        }
     }
-    if !digit_fits(alphabet, c, 1, digit(w, 1)) {
-        return false;
-    }
-    if !digit_fits(alphabet, c, 2, digit(w, 2)) {
-        return false;
-    }
-    digit_fits(alphabet, c, 3, digit(w, 3))
+    true
 }
 
 // Whether a node word has a known term, and a memory that it allows.
-fn word_fits(list: &[u16], work: &[u64], w: u64) -> bool
-    requires { Indexed list.now work.now }
-    ensures { result ≡ word_fits (table_in list.now) w }
+fn word_fits(table: &IndexedTable<'_>, w: u64) -> bool
+    ensures { result ≡ word_fits (table_of table.now) w }
 {
     let n = term_of(w);
-    if index::term_count(list, work) <= n {
+    if table.term_count() <= n {
         return false;
     }
-    memory_fits(
-        index::alphabet(list, work),
-        index::enclosing(list, work, n),
-        w,
-    )
+    memory_fits(table.alphabet(), table.enclosing(n), w)
 }
 
-// What node words spell: nothing, or so many trees, with the sum of their leaves' reach.
-#[derive(Drop)]
-pub enum Forest {
-    Broken,
-    Trees(u64, u64),
+// Trees that node words spell: how many, and the sum of their leaves' reach.
+#[derive(Clone, Copy)]
+pub struct Trees {
+    count: u64,
+    reach: u64,
 }
 
-impl Forest {
+impl Trees {
     // With a leaf in front.
     fn leaf(self, reach: u64) -> Self
-        requires { Few self 14 × (reach ≤ 8) }
-        ensures { result ≡ with_leaf reach self }
+        requires { Few (Some self) 14 × (reach ≤ 8) }
+        ensures { Some result ≡ with_leaf reach (Some self) }
     {
-        match self {
-            Forest::Broken => Forest::Broken,
-            Forest::Trees(count, sum) => Forest::Trees(count + 1, reach + sum),
+        Trees {
+            count: self.count + 1,
+            reach: reach + self.reach,
         }
     }
 
-    // The first two trees under a parallel.
-    fn join(self) -> Self
-        ensures { result ≡ paired self }
+    // The first two under a parallel.
+    fn join(self) -> Option<Self>
+        ensures { result ≡ paired (Some self) }
     {
-        let Forest::Trees(count, sum) = self else {
-            return Forest::Broken;
-        };
-        if count < 2 {
-            return Forest::Broken;
+        if self.count < 2 {
+            return None;
         }
-        Forest::Trees(count - 1, sum)
+        Some(Trees {
+            count: self.count - 1,
+            ..self
+        })
     }
 
-    // One tree, of a reach that is not too large.
+    // One, of a reach that is not too large.
     fn whole(self) -> bool
-        ensures { result ≡ is_whole self }
+        ensures { result ≡ is_whole (Some self) }
     {
-        let Forest::Trees(count, sum) = self else {
-            return false;
-        };
-        if count != 1 {
-            return false;
-        }
-        sum <= 8
+        self.count == 1 && self.reach <= 8
     }
 }
 
-// The forest with one node word in front.
-fn plant(list: &[u16], work: &[u64], w: u64, forest: Forest) -> Forest
-    requires indexed { Indexed list.now work.now }
+// The trees with one node word in front; None where the words spell none.
+fn plant(table: &IndexedTable<'_>, w: u64, forest: Option<Trees>) -> Option<Trees>
     requires few { Few forest 14 }
-    ensures { result ≡ planted (table_in list.now) w forest }
+    ensures { result ≡ planted (table_of table.now) w forest }
 {
-    if !word_fits(list, work, w) {
-        return Forest::Broken;
+    let trees = forest?;
+    if !word_fits(table, w) {
+        return None;
     }
     let n = term_of(w);
-    let kind = index::kind(list, work, n);
+    let kind = table.kind(n);
     match kind {
-        0 | 2 => forest.leaf(index::reach(list, work, n)),
-        4 => forest.join(),
-        _ => Forest::Broken,
+        0 | 2 => Some(trees.leaf(table.reach(n))),
+        4 => trees.join(),
+        _ => None,
     }
 }
 
 // What the first n node words of a slot spell, read from the last.
-fn walk(list: &[u16], work: &[u64], slot: &[u64], n: usize) -> Forest
-    requires indexed { Indexed list.now work.now }
+fn walk(table: &IndexedTable<'_>, slot: &[u64], n: usize) -> Option<Trees>
     requires slot_len { (length slot.now ≡ 16) × (n ≤ 15) }
-    ensures { result ≡ planted_all (table_in list.now) (take n (drop 1 slot.now)) }
+    ensures { result ≡ planted_all (table_of table.now) (take n (drop 1 slot.now)) }
 {
-    let mut forest = Forest::Trees(0, 0);
+    let mut forest = Some(Trees { count: 0, reach: 0 });
+    // Kept as it is: it goes down, from the n-th word to the first.
     let mut i = n;
     while 0 < i {
-        forest = plant(list, work, slot[i], forest);
+        forest = plant(table, slot[i], forest);
         i -= 1;
     }
     forest
 }
 
 // Whether a slot is valid.
-pub fn slot_fits(list: &[u16], work: &[u64], slot: &[u64]) -> bool
-    requires indexed { Indexed list.now work.now }
+pub fn slot_fits(table: &IndexedTable<'_>, slot: &[u64]) -> bool
     requires slot_len { length slot.now ≡ 16 }
-    ensures { result ≡ valid_slot (table_in list.now) slot.now }
+    ensures { result ≡ valid_slot (table_of table.now) slot.now }
 {
     let count = slot[0];
     if count == 0 {
@@ -199,7 +183,10 @@ pub fn slot_fits(list: &[u16], work: &[u64], slot: &[u64]) -> bool
     if !all_zero(slot, n + 1) {
         return false;
     }
-    walk(list, work, slot, n).whole()
+    match walk(table, slot, n) {
+        Some(trees) => trees.whole(),
+        None => false,
+    }
 }
 
 // Whether a slot stands before another.
@@ -207,17 +194,5 @@ pub fn below(slot: &[u64], next: &[u64]) -> bool
     requires { (length slot.now ≡ 16) × (length next.now ≡ 16) }
     ensures { result ≡ is_below (compare_words slot.now next.now) }
 {
-    let mut j = 0;
-    while j < 16 {
-        let a = slot[j];
-        let b = next[j];
-        if a < b {
-            return true;
-        }
-        if b < a {
-            return false;
-        }
-        j += 1;
-    }
-    false
+    slot < next
 }

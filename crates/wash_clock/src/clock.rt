@@ -12,12 +12,7 @@ pub fn clock_back(state: TimedState, minute: u64) -> bool
 {
     match state {
         TimedState::NotStarted => MINUTE_BOUND <= minute,
-        TimedState::Started(_, last) => {
-            if minute < last {
-                return true;
-            }
-            MINUTE_BOUND <= minute
-        }
+        TimedState::Started(_, last) => minute < last || MINUTE_BOUND <= minute,
     }
 }
 

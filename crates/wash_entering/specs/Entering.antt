@@ -4,8 +4,9 @@
 -- The laws are with the proofs. Assumes nothing.
 use Rattle.std.specs.Prelude.{ℕ, ◌≡◌, Bool, List}
 use Rattle.table.specs.Judge.{judge_list}
-use Rattle.table.specs.declared.answer.Judged.{Judged}
-use Rattle.table.specs.declared.answer.Judged.TheVariants.{Accepted, Declined}
+use Rattle.std.specs.declared.result.Result.{Result}
+use Rattle.table.specs.declared.answer.Refusal.{Refusal}
+use Rattle.std.specs.declared.result.Result.TheVariants.{Ok, Err}
 use Rattle.table_index.specs.Index.{table_in, Indexed}
 use Rattle.monitor_spec.specs.Consistent.{consistent}
 use Rattle.monitor_spec.specs.Entering.{judging, entering}
@@ -34,11 +35,11 @@ pub record Agreed (everyday wash windows : List ℕ) (s : TimedState) (a b : Lis
   pub index : IndexAt everyday wash windows s work'
 
 -- the answer is the entrance e; where it admits, all is ready
-unfoldable pub TimedEntered : TimedEntrance → List ℕ → List ℕ → List ℕ → TimedState → List ℕ → List ℕ → Judged → List ℕ
+unfoldable pub TimedEntered : TimedEntrance → List ℕ → List ℕ → List ℕ → TimedState → List ℕ → List ℕ → Result Unit Refusal → List ℕ
     → Type 0
-TimedEntered e everyday wash windows s a b Accepted work' =
+TimedEntered e everyday wash windows s a b (Ok _) work' =
     (e ≡ admits (table_in everyday) (table_in wash)) × TimedReady everyday wash windows s a b work'
-TimedEntered e everyday wash windows s a b (Declined r) work' = e ≡ shut r.number r.place work'
+TimedEntered e everyday wash windows s a b (Err r) work' = e ≡ shut r.number r.place work'
 
 -- what `timed_entrance` comes to after the everyday table, with a work area of the right length
 unfoldable pub after_everyday : List ℕ → List ℕ → List ℕ → TimedMonitor → TimedEntrance

@@ -9,8 +9,9 @@ ghost use Rattle.wash_start.specs.Fresh.{ListAccepted};
 ghost use Rattle.wash_entering.specs.Entering.{AgreedAt, Agreed, TimedEntered, after_everyday};
 
 use entering::enter;
+use index::IndexedTable;
 use state::{State, clear_all, consistent, lengths_fit};
-use table::{Judged, Refusal};
+use table::Refusal;
 use timetable::{good_timetable, in_force};
 use wash_start::stand;
 use wash_state::TimedState;
@@ -43,10 +44,15 @@ fn agrees_at(
         area0.now area1.now result work.new }
 {
     if in_force(windows, last) {
-        return consistent(wash, work, state, area0, area1);
+        let table = IndexedTable { list: wash, work };
+        return consistent(&table, state, area0, area1);
     }
     stand(everyday, work);
-    consistent(everyday, work, state, area0, area1)
+    let table = IndexedTable {
+        list: everyday,
+        work,
+    };
+    consistent(&table, state, area0, area1)
 }
 
 // Whether state and areas agree: refusal 10 is not met. Before the first event the areas hold no
@@ -66,7 +72,10 @@ fn agrees(
         area0.now area1.now result work.new }
 {
     match state {
-        TimedState::NotStarted => consistent(wash, work, State::fresh(0), area0, area1),
+        TimedState::NotStarted => {
+            let table = IndexedTable { list: wash, work };
+            consistent(&table, State::fresh(0), area0, area1)
+        }
         TimedState::Started(record, last) => {
             agrees_at(everyday, wash, windows, record, last, area0, area1, work)
         }
@@ -83,7 +92,7 @@ fn schedule(
     area0: &[u64],
     area1: &[u64],
     work: &mut [u64],
-) -> Judged
+) -> Result<(), Refusal>
     requires list_accepted { ListAccepted everyday.now × Indexed wash.now work.old }
     requires area1_value { (areas_measured area0.now area1.now ≡ true) × (length work.old ≡ 8192) }
     ensures { TimedEntered (scheduling windows.now
@@ -94,16 +103,16 @@ fn schedule(
 {
     if !good_timetable(windows) {
         clear_all(work);
-        return Judged::Declined(Refusal {
+        return Err(Refusal {
             number: 16,
             place: 0,
         });
     }
     if agrees(everyday, wash, windows, state, area0, area1, work) {
-        return Judged::Accepted;
+        return Ok(());
     }
     clear_all(work);
-    Judged::Declined(Refusal {
+    Err(Refusal {
         number: 10,
         place: 0,
     })
@@ -118,7 +127,7 @@ fn enter_wash(
     area0: &[u64],
     area1: &[u64],
     work: &mut [u64],
-) -> Judged
+) -> Result<(), Refusal>
     requires list_accepted { ListAccepted everyday.now × (length work.old ≡ 8192) }
     requires area1_value { areas_measured area0.now area1.now ≡ true }
     ensures { TimedEntered (after_everyday everyday.now wash.now
@@ -127,8 +136,8 @@ fn enter_wash(
         area0.now area1.now result work.new }
 {
     match enter(wash, true, work) {
-        Judged::Accepted => schedule(everyday, wash, windows, state, area0, area1, work),
-        Judged::Declined(refusal) => Judged::Declined(refusal),
+        Ok(()) => schedule(everyday, wash, windows, state, area0, area1, work),
+        Err(refusal) => Err(refusal),
     }
 }
 
@@ -143,7 +152,7 @@ pub fn enter_timed(
     events: usize,
     minutes: usize,
     work: &mut [u64],
-) -> Judged
+) -> Result<(), Refusal>
     ensures { TimedEntered (timed_entrance everyday.now wash.now
         windows.now (timed_monitor_of state area0.now area1.now)
         ((areas_measured area0.now area1.now
@@ -156,7 +165,7 @@ pub fn enter_timed(
         lent_fit(area0.len(), area1.len(), events, minutes),
         work,
     ) {
-        Judged::Accepted => enter_wash(everyday, wash, windows, state, area0, area1, work),
-        Judged::Declined(refusal) => Judged::Declined(refusal),
+        Ok(()) => enter_wash(everyday, wash, windows, state, area0, area1, work),
+        Err(refusal) => Err(refusal),
     }
 }

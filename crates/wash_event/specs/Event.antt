@@ -8,8 +8,8 @@ use Rattle.table_index.specs.Index.{table_in, Indexed}
 use Rattle.monitor_spec.specs.State.{even}
 use Rattle.monitor_spec.specs.Fold.{went, stops}
 use Rattle.state.specs.Record.{monitor_of}
-use Rattle.taking.specs.declared.event.Taken.{Taken}
-use Rattle.taking.specs.declared.event.Taken.TheVariants.{Went, Stopped}
+use Rattle.taking.specs.Taking.{Taken}
+use Rattle.std.specs.declared.result.Result.TheVariants.{Ok, Err}
 use Rattle.feeding.specs.Feeding.{Empty, Standing}
 use Rattle.wash_spec.specs.Taking.{take_on, take_timed}
 use Rattle.wash_state.specs.declared.answer.TimedState.{TimedState}
@@ -26,8 +26,8 @@ OnReady l work due (Started s last) a b =
     Free (even s.taken) a b × (due ≡ false → Indexed l work × Standing (table_in l) (monitor_of s a b))
 
 abbrev pub AreasOn : Table → Bool → TimedState → ℕ → List ℕ → List ℕ → Taken → List ℕ → List ℕ → Type 0
-AreasOn t due s e a b (Went u) a' b' = take_on t due (timed_state_of s) a b e ≡ went (monitor_of u a' b')
-AreasOn t due s e a b (Stopped k) a' b' =
+AreasOn t due s e a b (Ok u) a' b' = take_on t due (timed_state_of s) a b e ≡ went (monitor_of u a' b')
+AreasOn t due s e a b (Err k) a' b' =
     (take_on t due (timed_state_of s) a b e ≡ stops k) × (a' ≡ a) × (b' ≡ b)
 
 pub record OnBy (l : List ℕ) (due : Bool) (s : TimedState) (e : ℕ) (a b : List ℕ) (r : Taken) (a' b' work' : List ℕ)
@@ -38,10 +38,10 @@ pub record OnBy (l : List ℕ) (due : Bool) (s : TimedState) (e : ℕ) (a b : Li
 -- ---- an event with its minute
 abbrev pub TimedBy : List ℕ → List ℕ → List ℕ → TimedState → ℕ → ℕ → List ℕ → List ℕ → Taken → List ℕ → List ℕ
     → List ℕ → Type 0
-TimedBy everyday wash windows s e minute a b (Went u) a' b' work' =
+TimedBy everyday wash windows s e minute a b (Ok u) a' b' work' =
     (take_timed (table_in everyday) (table_in wash) windows (timed_monitor_of s a b) (e, minute)
     ≡ went (timed_monitor_of (Started u minute) a' b'))
     × TimedStanding everyday wash windows (Started u minute) a' b' work'
-TimedBy everyday wash windows s e minute a b (Stopped k) a' b' work' =
+TimedBy everyday wash windows s e minute a b (Err k) a' b' work' =
     (take_timed (table_in everyday) (table_in wash) windows (timed_monitor_of s a b) (e, minute) ≡ stops k)
     × (a' ≡ a) × (b' ≡ b)

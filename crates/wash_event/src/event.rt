@@ -7,7 +7,9 @@ ghost use Rattle.wash_start.specs.Fresh.{ListAccepted};
 ghost use Rattle.wash_start.specs.Standing.{TimedReady};
 ghost use Rattle.wash_event.specs.Event.{OnReady, OnBy, TimedBy};
 
-use feeding::{Taken, take_anew};
+use feeding::take_anew;
+use index::IndexedTable;
+use state::State;
 use timetable::in_force;
 use wash_clock::{clock_back, start_due};
 use wash_start::take_fresh;
@@ -23,7 +25,7 @@ fn take_on(
     area0: &mut [u64],
     area1: &mut [u64],
     store: &mut [u64],
-) -> Taken
+) -> Result<State, u8>
     requires list_accepted { ListAccepted list.now × (length work.old ≡ 8192) }
     requires area1_value { areas_measured area0.old area1.old ≡ true }
     requires on_ready { OnReady list.now work.old due state area0.old area1.old }
@@ -37,7 +39,8 @@ fn take_on(
             if due {
                 return take_fresh(list, work, e, record.taken % 2 == 0, area0, area1, store);
             }
-            take_anew(list, work, e, record, area0, area1, store)
+            let table = IndexedTable { list, work };
+            take_anew(&table, e, record, area0, area1, store)
         }
     }
 }
@@ -54,7 +57,7 @@ pub fn take_timed(
     area1: &mut [u64],
     work: &mut [u64],
     store: &mut [u64],
-) -> Taken
+) -> Result<State, u8>
     requires timed_ready { TimedReady everyday.now wash.now windows.now state
         area0.old area1.old work.old }
     requires store_len { length store.old ≡ store_words }
@@ -63,7 +66,7 @@ pub fn take_timed(
         result area0.new area1.new work.new }
 {
     if clock_back(state, minute) {
-        return Taken::Stopped(17);
+        return Err(17);
     }
     let due = start_due(windows, state, minute);
     if in_force(windows, minute) {

@@ -1,247 +1,144 @@
-// One call on lent areas, with a work area full of junk (02, W5).
-//     take_areas     the areas and the answer of a line, and its call
-use crate::answer::judge;
-use crate::lists::take_words;
-use cases::{Outcome, after_mark, fill_words, take_numbers};
-use monitor::{State, TimedState, Verdict};
+// A line of the file as a call on lent areas, with a work area full of junk, and whether its answer,
+// and what it leaves in them, are as stored (02, W5).
+use crate::call::{Answer, answer_of, state_of};
+use cases::{
+    Element, Fault, Outcome, Trial, digest, digest_more, lend, length, numbers, read_list, section,
+    stands,
+};
+use std::alloc::Global;
 
-// The number at i of those before the lists; 0 past their end.
-fn number_at(head: &[u64], i: usize) -> u64 {
-    if i < head.len() {
-        return head[i];
-    }
-    0
+// The most that the file asks for: numbers of a table and of a timetable, events, words of an area
+// and of a work area.
+const LONGEST_TABLE: usize = 16500;
+
+const LONGEST_TIMETABLE: usize = 8300;
+
+const MOST_EVENTS: usize = 400;
+
+const LONGEST_AREA: usize = 4160;
+
+const LONGEST_WORK: usize = 8300;
+
+#[derive(Drop)]
+pub struct Washes {
+    everyday: Vec<u16>,
+    wash: Vec<u16>,
+    windows: Vec<u16>,
+    events: Vec<u8>,
+    minutes: Vec<u64>,
+    area0: Vec<u64>,
+    area1: Vec<u64>,
+    work: Vec<u64>,
 }
 
-fn verdict_of(failed: u64, at: u64) -> Verdict {
-    if failed == 0 {
-        return Verdict::Running;
+// An area of so many words, the first of which are listed. The others are junk where `fill` is 1.
+fn lend_area(words: &str, length: usize, fill: u64, area: &mut Vec<u64>) -> Result<(), Fault> {
+    read_list(words, length, area)?;
+    for i in area.len()..length {
+        area.push(if fill == 1 { u64::junk(i) } else { 0 })
+            .map_err(|_| Fault::OutOfMemory)?;
     }
-    Verdict::Failed(at)
+    Ok(())
 }
 
-// `STARTED TAKEN COUNT PEAK FAILED AT MINUTE`
-fn state_of(head: &[u64]) -> TimedState {
-    if number_at(head, 4) == 0 {
-        return TimedState::NotStarted;
+impl Washes {
+    pub fn new(alloc: Global) -> Washes {
+        Washes {
+            everyday: Vec::new(alloc),
+            wash: Vec::new(alloc),
+            windows: Vec::new(alloc),
+            events: Vec::new(alloc),
+            minutes: Vec::new(alloc),
+            area0: Vec::new(alloc),
+            area1: Vec::new(alloc),
+            work: Vec::new(alloc),
+        }
     }
-    let state = State {
-        taken: number_at(head, 5),
-        count: number_at(head, 6),
-        peak: number_at(head, 7),
-        verdict: verdict_of(number_at(head, 8), number_at(head, 9)),
-    };
-    TimedState::Started(state, number_at(head, 10))
+
+    // `NUMBER PLACE HAS STATE DIGEST KEPT`
+    fn is_as_stored(&self, answer: Answer, stored: [u64; 12]) -> bool {
+        let [
+            number,
+            place,
+            has,
+            started,
+            taken,
+            count,
+            peak,
+            failed,
+            at,
+            minute,
+            after,
+            kept,
+        ] = stored;
+        let state = [started, taken, count, peak, failed, at, minute];
+        answer
+            == Answer {
+                number,
+                place,
+                has,
+                state,
+            }
+            && digest_more(digest(&self.area0), &self.area1) == after
+            && stands(&self.work, kept)
+    }
 }
 
-// Zeros are there already.
-fn refill(area: &mut [u64], fill: u64) {
-    if fill == 1 {
-        fill_words(area);
+impl Trial for Washes {
+    // `f WORK LENGTH0 LENGTH1 FILL STATE` and the lists
+    fn take_line(&mut self, line: &str) -> Result<Outcome, Fault> {
+        let (call, stored) = line.split_once(" =").ok_or(Fault::Malformed)?;
+        let (head, rest) = section(call)?;
+        let (everyday, rest) = section(rest)?;
+        let (wash, rest) = section(rest)?;
+        let (windows, rest) = section(rest)?;
+        let (events, rest) = section(rest)?;
+        let (minutes, rest) = section(rest)?;
+        let (words0, words1) = section(rest)?;
+        let head = head.strip_prefix('f').ok_or(Fault::Malformed)?;
+        let [
+            work,
+            length0,
+            length1,
+            fill,
+            started,
+            taken,
+            count,
+            peak,
+            failed,
+            at,
+            minute,
+        ] = numbers::<11>(head)?;
+        read_list(everyday, LONGEST_TABLE, &mut self.everyday)?;
+        read_list(wash, LONGEST_TABLE, &mut self.wash)?;
+        read_list(windows, LONGEST_TIMETABLE, &mut self.windows)?;
+        read_list(events, MOST_EVENTS, &mut self.events)?;
+        read_list(minutes, MOST_EVENTS, &mut self.minutes)?;
+        lend_area(
+            words0,
+            length(length0, LONGEST_AREA)?,
+            fill,
+            &mut self.area0,
+        )?;
+        lend_area(
+            words1,
+            length(length1, LONGEST_AREA)?,
+            fill,
+            &mut self.area1,
+        )?;
+        lend(&mut self.work, length(work, LONGEST_WORK)?)?;
+        let stored = numbers::<12>(stored)?;
+        let answer = monitor::timed_feed(
+            &self.everyday,
+            &self.wash,
+            &self.windows,
+            state_of([started, taken, count, peak, failed, at, minute]),
+            &mut self.area0,
+            &mut self.area1,
+            &self.events,
+            &self.minutes,
+            &mut self.work,
+        );
+        Ok(Outcome::from(self.is_as_stored(answer_of(answer), stored)))
     }
-}
-
-fn call(
-    head: &[u64],
-    everyday: &[u16],
-    wash: &[u16],
-    windows: &[u16],
-    events: &[u8],
-    minutes: &[u64],
-    area0: &mut [u64],
-    area1: &mut [u64],
-    work: &mut [u64],
-    stored: &[u64],
-) -> Outcome {
-    fill_words(work);
-    let answer = monitor::timed_feed(
-        everyday,
-        wash,
-        windows,
-        state_of(head),
-        area0,
-        area1,
-        events,
-        minutes,
-        work,
-    );
-    judge(answer, area0, area1, work, stored)
-}
-
-// With a work area of so many words.
-fn try_work(
-    head: &[u64],
-    everyday: &[u16],
-    wash: &[u16],
-    windows: &[u16],
-    events: &[u8],
-    minutes: &[u64],
-    area0: &mut [u64],
-    area1: &mut [u64],
-    stored: &[u64],
-) -> Outcome {
-    let length = number_at(head, 0);
-    if 8300 < length {
-        return Outcome::Malformed;
-    }
-    let n = length as usize;
-    let mut work = [0u64; 8300];
-    call(
-        head,
-        everyday,
-        wash,
-        windows,
-        events,
-        minutes,
-        area0,
-        area1,
-        &mut work[0..n],
-        stored,
-    )
-}
-
-// The answer, up to the line's end.
-fn take_answer(
-    line: &[u8],
-    from: usize,
-    head: &[u64],
-    everyday: &[u16],
-    wash: &[u16],
-    windows: &[u16],
-    events: &[u8],
-    minutes: &[u64],
-    area0: &mut [u64],
-    area1: &mut [u64],
-) -> Outcome {
-    let next = after_mark(line, from, b'=');
-    if next == from {
-        return Outcome::Malformed;
-    }
-    let mut stored = [0u64; 12];
-    let s = take_numbers(line, next, &mut stored);
-    if !s.right {
-        return Outcome::Malformed;
-    }
-    if s.next != line.len() {
-        return Outcome::Malformed;
-    }
-    let n = s.count;
-    try_work(
-        head,
-        everyday,
-        wash,
-        windows,
-        events,
-        minutes,
-        area0,
-        area1,
-        &stored[0..n],
-    )
-}
-
-// The words of area 1.
-fn take_area1(
-    line: &[u8],
-    from: usize,
-    head: &[u64],
-    everyday: &[u16],
-    wash: &[u16],
-    windows: &[u16],
-    events: &[u8],
-    minutes: &[u64],
-    area0: &mut [u64],
-    area1: &mut [u64],
-) -> Outcome {
-    refill(area1, number_at(head, 3));
-    let s = take_words(line, from, area1);
-    if !s.right {
-        return Outcome::Malformed;
-    }
-    take_answer(
-        line, s.next, head, everyday, wash, windows, events, minutes, area0, area1,
-    )
-}
-
-// Area 1, of so many words.
-fn lend_area1(
-    line: &[u8],
-    from: usize,
-    head: &[u64],
-    everyday: &[u16],
-    wash: &[u16],
-    windows: &[u16],
-    events: &[u8],
-    minutes: &[u64],
-    area0: &mut [u64],
-) -> Outcome {
-    let length = number_at(head, 2);
-    if 4160 < length {
-        return Outcome::Malformed;
-    }
-    let n = length as usize;
-    let mut area1 = [0u64; 4160];
-    take_area1(
-        line,
-        from,
-        head,
-        everyday,
-        wash,
-        windows,
-        events,
-        minutes,
-        area0,
-        &mut area1[0..n],
-    )
-}
-
-// The words of area 0.
-fn take_area0(
-    line: &[u8],
-    from: usize,
-    head: &[u64],
-    everyday: &[u16],
-    wash: &[u16],
-    windows: &[u16],
-    events: &[u8],
-    minutes: &[u64],
-    area0: &mut [u64],
-) -> Outcome {
-    refill(area0, number_at(head, 3));
-    let s = take_words(line, from, area0);
-    if !s.right {
-        return Outcome::Malformed;
-    }
-    lend_area1(
-        line, s.next, head, everyday, wash, windows, events, minutes, area0,
-    )
-}
-
-// Area 0, of so many words.
-pub fn take_areas(
-    line: &[u8],
-    from: usize,
-    head: &[u64],
-    everyday: &[u16],
-    wash: &[u16],
-    windows: &[u16],
-    events: &[u8],
-    minutes: &[u64],
-) -> Outcome {
-    let length = number_at(head, 1);
-    if 4160 < length {
-        return Outcome::Malformed;
-    }
-    let n = length as usize;
-    let mut area0 = [0u64; 4160];
-    take_area0(
-        line,
-        from,
-        head,
-        everyday,
-        wash,
-        windows,
-        events,
-        minutes,
-        &mut area0[0..n],
-    )
 }

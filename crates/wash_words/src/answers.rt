@@ -4,6 +4,7 @@ ghost use Rattle.wash_state.specs.Answers.{timed_answer_of};
 ghost use Rattle.wash_words.specs.Call.{TimedTold};
 
 use crate::record::store_timed;
+use state::Declined;
 use wash_state::TimedAnswer;
 
 // The number to return; the place goes into place, and the record, if there is one, into record.
@@ -13,16 +14,16 @@ pub fn tell_timed(answer: TimedAnswer, record: &mut [u64], place: &mut u64) -> u
         «record».new }
 {
     match answer {
-        TimedAnswer::Given(state) => {
+        Ok(state) => {
             store_timed(record, state);
             *place = 0;
             0
         }
-        TimedAnswer::Refused(refusal) => {
+        Err(Declined::Refused(refusal)) => {
             *place = refusal.place as u64;
             refusal.number as u32
         }
-        TimedAnswer::Stopped(why, state) => {
+        Err(Declined::Stopped(why, state)) => {
             store_timed(record, state);
             *place = why.place as u64;
             why.number as u32

@@ -6,7 +6,7 @@ use Rattle.monitor_spec.specs.Fold.{through}
 use Rattle.wash_spec.specs.Timed.{TimedMonitor}
 use Rattle.wash_spec.specs.Taking.{take_timed}
 use Rattle.wash_spec.specs.Feed.{timed_pairs, timed_ending}
-use Rattle.wash_state.specs.declared.answer.TimedAnswer.{TimedAnswer}
+use Rattle.wash_state.specs.Answers.{TimedAnswer}
 use Rattle.wash_state.specs.Answers.{timed_outcome}
 
 -- with a work area of any length, which is cleared later

@@ -5,9 +5,9 @@ ghost use Rattle.wash_state.specs.Answers.{timed_monitor_of, timed_outcome};
 ghost use Rattle.wash_start.specs.Standing.{TimedReady};
 ghost use Rattle.washing.specs.Washing.{TimedEndedBy};
 
-use feeding::{STORE_WORDS, Taken};
-use state::clear_all;
-use table::{Judged, Refusal};
+use feeding::STORE_WORDS;
+use state::{Declined, clear_all};
+use table::Refusal;
 use wash_entering::enter_timed;
 use wash_event::take_timed;
 use wash_state::{TimedAnswer, TimedState};
@@ -33,22 +33,18 @@ fn take_all_timed(
 {
     let mut store = [0u64; STORE_WORDS];
     let mut reached = state;
-    let mut i = 0;
-    while i < events.len() {
+    for i in 0..events.len() {
         let minute = minutes[i];
         match take_timed(
             everyday, wash, windows, reached, events[i], minute, area0, area1, work, &mut store,
         ) {
-            Taken::Went(next) => {
-                reached = TimedState::Started(next, minute);
-                i += 1;
-            }
-            Taken::Stopped(number) => {
-                return TimedAnswer::Stopped(Refusal { number, place: i }, reached);
+            Ok(next) => reached = TimedState::Started(next, minute),
+            Err(number) => {
+                return Err(Declined::Stopped(Refusal { number, place: i }, reached));
             }
         }
     }
-    TimedAnswer::Given(reached)
+    Ok(reached)
 }
 
 // Takes events, each with its absolute minute, on the everyday table or, in the windows of a
@@ -80,13 +76,13 @@ pub fn timed_feed(
         minutes.len(),
         work,
     ) {
-        Judged::Accepted => {
+        Ok(()) => {
             let answer = take_all_timed(
                 everyday, wash, windows, state, area0, area1, events, minutes, work,
             );
             clear_all(work);
             answer
         }
-        Judged::Declined(refusal) => TimedAnswer::Refused(refusal),
+        Err(refusal) => Err(Declined::Refused(refusal)),
     }
 }

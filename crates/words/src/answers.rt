@@ -4,7 +4,8 @@ ghost use Rattle.state.specs.Answers.{answer_of, offered_of};
 ghost use Rattle.words_spec.specs.Calls.{opened_of, MonitorTold, OfferTold};
 
 use crate::record::store;
-use state::{Answer, Offered};
+use state::{Answer, Declined, EventBits};
+use table::Refusal;
 
 // Of Open and Feed. The number to return; the place goes into place, and the record, if there is
 // one, into record.
@@ -14,16 +15,16 @@ pub fn tell(answer: Answer, record: &mut [u64], place: &mut u64) -> u32
         «record».new }
 {
     match answer {
-        Answer::Given(state) => {
+        Ok(state) => {
             store(record, state);
             *place = 0;
             0
         }
-        Answer::Refused(refusal) => {
+        Err(Declined::Refused(refusal)) => {
             *place = refusal.place as u64;
             refusal.number as u32
         }
-        Answer::Stopped(why, state) => {
+        Err(Declined::Stopped(why, state)) => {
             store(record, state);
             *place = why.place as u64;
             why.number as u32
@@ -36,24 +37,24 @@ pub fn has_record(answer: Answer) -> u64
     ensures { result ≡ opened_of (answer_of answer) }
 {
     match answer {
-        Answer::Given(_) => 1,
-        Answer::Refused(_) => 0,
-        Answer::Stopped(_, _) => 1,
+        Ok(_) => 1,
+        Err(Declined::Refused(_)) => 0,
+        Err(Declined::Stopped(_, _)) => 1,
     }
 }
 
 // Of Offer. The number to return; the first word or the place goes into value, the second word or 0
 // into second.
-pub fn tell_offer(answer: Offered, value: &mut u64, second: &mut u64) -> u32
+pub fn tell_offer(answer: Result<EventBits, Refusal>, value: &mut u64, second: &mut u64) -> u32
     ensures { OfferTold (offered_of answer) result value.new second.new }
 {
     match answer {
-        Offered::Offers(bits) => {
+        Ok(bits) => {
             *value = bits.first;
             *second = bits.second;
             0
         }
-        Offered::Refused(r) => {
+        Err(r) => {
             *value = r.place as u64;
             *second = 0;
             r.number as u32

@@ -1,7 +1,7 @@
 // The state record in five lent words: the events taken, the residuals held, 0 for running or 1 for
 // failed, the place of the failure (0 while running), and the peak. The definitions are in
 // `specs/Words.antt` of crate `words_spec`.
-ghost use Rattle.std.specs.Prelude.{◌≡◌, [], ◌∷◌, length};
+ghost use Rattle.std.specs.Prelude.{◌≡◌, length};
 ghost use Rattle.state.specs.Record.{verdict_of, state_of};
 ghost use Rattle.words_spec.specs.Words.{verdict_in, state_in, words_of};
 
@@ -18,30 +18,17 @@ fn verdict_in(failed: u64, place: u64) -> Verdict
     }
 }
 
-// The record that five words hold.
+// The record that five words hold. Read by index: the functions for C lend a slice, no array.
 pub fn load(record: &[u64]) -> State
     requires { length «record».now ≡ 5 }
     ensures { state_of result ≡ state_in «record».now }
 {
-    let verdict = verdict_in(record[2], record[3]);
     State {
         taken: record[0],
         count: record[1],
         peak: record[4],
-        verdict,
+        verdict: verdict_in(record[2], record[3]),
     }
-}
-
-// Five words into the lent ones.
-fn put(record: &mut [u64], taken: u64, count: u64, failed: u64, place: u64, peak: u64)
-    requires { length «record».old ≡ 5 }
-    ensures { «record».new ≡ taken ∷ count ∷ failed ∷ place ∷ peak ∷ [] }
-{
-    record[0] = taken;
-    record[1] = count;
-    record[2] = failed;
-    record[3] = place;
-    record[4] = peak;
 }
 
 // A record's words into the lent ones.
@@ -49,9 +36,10 @@ pub fn store(record: &mut [u64], state: State)
     requires { length «record».old ≡ 5 }
     ensures { «record».new ≡ words_of (state_of state) }
 {
-    let verdict = state.verdict;
-    match verdict {
-        Verdict::Running => put(record, state.taken, state.count, 0, 0, state.peak),
-        Verdict::Failed(place) => put(record, state.taken, state.count, 1, place, state.peak),
+    match state.verdict {
+        Verdict::Running => record.copy_from_slice(&[state.taken, state.count, 0, 0, state.peak]),
+        Verdict::Failed(place) => {
+            record.copy_from_slice(&[state.taken, state.count, 1, place, state.peak])
+        }
     }
 }

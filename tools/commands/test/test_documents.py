@@ -133,6 +133,7 @@ RUN = {
     "tools/cspe explain": "tools/cspe explain table_b",
     "tools/cspe explain packing_line stamp left crack right": "! tools/cspe explain packing_line 0 3 1 4",
     "rt version": None,
+    "tools/places": None,
     "tools/try --list": None,
     "python3 tools/drawing": "python3 tools/drawing --help",
     "python3 tools/drawing --help": None,

@@ -1,13 +1,12 @@
 -- The numbers of some bytes, read one by one into an output: what holds at each turn of `decode`.
 --     Front                     after count numbers, with the place after them
 --     front_none, front_more    with none read; with one more
---     front_short, front_loose  what is known at an end
+--     front_stop                what is known at an end
 -- Assumes nothing.
 use Prim.Native.Nat.{ℕ, suc, ◌+◌, ◌-◌, ◌≤◌, ◌<◌}
 use native.Mathlib.Omega.{arith}
 use native.Mathlib.Numerals.{add-one}
 use mathlib.Core.Path.{◌≡◌, refl, sym, ap, ◌∙◌, subst}
-use mathlib.Core.Bool.{true, false}
 use mathlib.Core.List.{List, [], ◌∷◌, ◌++◌, append_assoc}
 use lib.ListN.{length, take, drop, set, get_or, length-append}
 use lib.Seq.{take-suc-set}
@@ -17,7 +16,9 @@ use Rattle.numbers.specs.Number.Laws.{read_is_written}
 use Rattle.numbers.specs.Number.Unread.{read_truncated, read_malformed}
 use Rattle.numbers.specs.Position.{read_at}
 use Rattle.numbers.specs.Position.Laws.{value_read, truncated_read, malformed_read}
-use Rattle.numbers.specs.declared.Reading.TheVariants.{Value, Truncated, Malformed}
+use Rattle.std.specs.declared.result.Result.TheVariants.{Ok, Err}
+use Rattle.numbers.specs.declared.Reading.{Reading}
+use Rattle.numbers.specs.declared.ReadError.{ReadError}
 use Rattle.table_index.specs.Judging.{Decoding}
 use Rattle.table.proofs.BytesRefused.Listed.{bytes_last}
 
@@ -41,19 +42,21 @@ right_bytes : (s a r : List ℕ) → Bytes s → s ≡ a ++ r → Bytes r
 right_bytes s a r w e = all_right (λ b. b < 256) a r (subst Bytes e w)
 
 module _ (s out : List ℕ) (count next : ℕ) (f : Front s out count next) where
-  pub front_room : (v q : ℕ) → length s ≤ length out → Value v q ≡ read_at s next
-      → (count < length out) × (next < q) × (q ≤ length s)
-  front_room v q h e =
-      let x = value_read s next v q e in
+  pub front_room : (r : Reading) → length s ≤ length out → Ok r ≡ read_at s next
+      → (count < length out) × (next < r.next) × (r.next ≤ length s)
+  front_room r h e =
+      let x = value_read s next r e in
       let a = x.after in
       let b = x.within in
       let c = f.few in
       (omega arith, a, b)
 
-  pub front_more : (v q : ℕ) → Bytes s → length s ≤ length out → Value v q ≡ read_at s next
-      → Front s (set out count v) (count + 1) q
-  front_more v q w h e =
-      let x = value_read s next v q e in
+  pub front_more : (y : Reading) → Bytes s → length s ≤ length out → Ok y ≡ read_at s next
+      → Front s (set out count y.value) (count + 1) y.next
+  front_more y w h e =
+      let v = y.value in
+      let q = y.next in
+      let x = value_read s next y e in
       let w' = right_bytes s (list_bytes (take count out)) (drop next s) w f.bytes in
       let r = read_is_written (drop next s) v (q - next) (drop q s) w' x.scan in
       let a = x.after in
@@ -79,8 +82,8 @@ module _ (s out : List ℕ) (count next : ℕ) (f : Front s out count next) wher
             (all_append (λ m. m ≤ 65535) (take count out) (v ∷ []) f.small (r.small, tt));
       }
 
-  pub front_short : Bytes s → Truncated ≡ read_at s next → Decoding s (take count out) next false
-  front_short w e =
+  pub front_stop : (e : ReadError) → Bytes s → Err e ≡ read_at s next → Decoding s (take count out) next e
+  front_stop e w h =
       record {
         bytes = f.bytes;
         size = f.size;
@@ -88,19 +91,8 @@ module _ (s out : List ℕ) (count next : ℕ) (f : Front s out count next) wher
         small = f.small;
         proper = w;
         short =
-            λ _. read_truncated (drop next s)
-            (right_bytes s (list_bytes (take count out)) (drop next s) w f.bytes) (truncated_read s next e);
-        loose = λ h. let z : ◌≡◌ {A = ℕ} 0 1 = cc in absurd (omega arith);
-      }
-
-  pub front_loose : Bytes s → Malformed ≡ read_at s next → Decoding s (take count out) next true
-  front_loose w e =
-      record {
-        bytes = f.bytes;
-        size = f.size;
-        within = f.within;
-        small = f.small;
-        proper = w;
-        short = λ h. let z : ◌≡◌ {A = ℕ} 0 1 = cc in absurd (omega arith);
-        loose = λ _. read_malformed (drop next s) (malformed_read s next e);
+            λ z. read_truncated (drop next s)
+            (right_bytes s (list_bytes (take count out)) (drop next s) w f.bytes)
+            (truncated_read s next (ap Err (sym z) ∙ h));
+        loose = λ z. read_malformed (drop next s) (malformed_read s next (ap Err (sym z) ∙ h));
       }

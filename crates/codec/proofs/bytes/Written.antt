@@ -12,7 +12,7 @@ use lib.Seq.{take_at, drop-append-add, drop-drop, take_all}
 use Rattle.numbers.specs.Number.{bytes_of, list_bytes}
 use Rattle.numbers.specs.Position.{end_at, stored_at}
 use Rattle.numbers.specs.Position.Laws.{next_stored, full_kept}
-use Rattle.numbers.specs.declared.Written.TheVariants.{Next, Full}
+use Rattle.std.specs.declared.option.Option.TheVariants.{Some, None}
 use Rattle.table.proofs.BytesRefused.Listed.{bytes_more, length_more}
 
 pub record OutputFilled (l out₀ out : List ℕ) (i p : ℕ) : Type 0 where
@@ -36,7 +36,7 @@ front_few (x ∷ l) (suc i) =
     omega arith
 
 module _ (l out₀ out : List ℕ) (i p : ℕ) (f : OutputFilled l out₀ out i p) (h : i < length l) where
-  pub filled_room : length (list_bytes l) ≤ length out → Full ≡ end_at out p (get_or l i 0) → ⊥
+  pub filled_room : length (list_bytes l) ≤ length out → None ≡ end_at out p (get_or l i 0) → ⊥
   filled_room r e =
       let k = full_kept out p (get_or l i 0) e in
       let a = k.beyond in
@@ -45,7 +45,7 @@ module _ (l out₀ out : List ℕ) (i p : ℕ) (f : OutputFilled l out₀ out i 
       let d = front_few l (i + 1) in
       omega arith
 
-  pub filled_more : (q : ℕ) (out' : List ℕ) → Next q ≡ end_at out p (get_or l i 0) → out' ≡ stored_at out p (get_or l i 0)
+  pub filled_more : (q : ℕ) (out' : List ℕ) → Some q ≡ end_at out p (get_or l i 0) → out' ≡ stored_at out p (get_or l i 0)
       → OutputFilled l out₀ out' (i + 1) q
   filled_more q out' e o =
       let k = next_stored out p (get_or l i 0) q e in

@@ -12,10 +12,8 @@ use lib.Dec.{leb}
 use borrow.Author.Tests.{le-leb, lt-leb, eq-eqb, ne_eqb}
 use Rattle.numbers.specs.Number.{list_bytes}
 use Rattle.table.specs.declared.answer.Refusal.{Refusal}
-use Rattle.table.specs.declared.answer.Judged.{Judged}
-use Rattle.table.specs.declared.answer.Judged.TheVariants.{Accepted, Declined}
-use Rattle.table.specs.declared.answer.Answer as code
-use Rattle.table.specs.declared.answer.Answer.TheVariants.{Count, Refused}
+use Rattle.std.specs.declared.result.Result.{Result}
+use Rattle.std.specs.declared.result.Result.TheVariants.{Ok, Err}
 use Rattle.table.specs.Table.{Table}
 use Rattle.table.specs.Judge.{Judgement, accepted, declined, judge_list}
 use Rattle.table.specs.BytesRefused.{byte_place}
@@ -30,54 +28,54 @@ use Rattle.table.proofs.BytesRefused.Listed.{place_all}
 pub room : (l : List ℕ) (n m : ℕ) → n ≡ byte_place l (length l) → n ≤ m → length (list_bytes l) ≤ m
 room l n m e h = let p = place_all l in omega arith
 
-judged_said : (l out out' : List ℕ) (j : Judgement) (r : code.Answer) → judge_list l ≡ j
+judged_said : (l out out' : List ℕ) (j : Judgement) (r : Result ℕ Refusal) → judge_list l ≡ j
     → Said r out' (write_judged (list_bytes l) out j) → Said r out' (write_judged (list_bytes l) out (judge_list l))
 judged_said l out out' j r e h =
     subst (λ (x : Judgement). Said r out' (write_judged (list_bytes l) out x)) (sym e) h
 
 module _ (bs out : List ℕ) (ns : List ℕ) (t : Table) where
   judged_short : length out < length bs
-      → Said (Refused (record { number = 1; place = 0 })) out (write_judged bs out (accepted ns t))
+      → Said (Err (record { number = 1; place = 0 })) out (write_judged bs out (accepted ns t))
   unfolding write_judged
   judged_short h = record { answer = simp (lt-leb _ _ h); output = simp (lt-leb _ _ h) }
 
   judged_written : (n : ℕ) (out' : List ℕ) → n ≡ length bs → length bs ≤ length out → out' ≡ bs ++ drop (length bs) out
-      → Said (Count n) out' (write_judged bs out (accepted ns t))
+      → Said (Ok n) out' (write_judged bs out (accepted ns t))
   unfolding write_judged
   judged_written n out' e h f = record { answer = simp (e, le-leb _ _ h); output = simp (f, le-leb _ _ h) }
 
 judged_declined : (bs out : List ℕ) (q : Refusal)
-    → Said (Refused q) out (write_judged bs out (declined q.number q.place))
+    → Said (Err q) out (write_judged bs out (declined q.number q.place))
 unfolding write_judged
 judged_declined bs out q = record { answer = refl; output = refl }
 
-module _ (l out w' : List ℕ) (r : Judged) (d : CheckDone l w' r) where
-  taken : r ≡ Accepted → judge_list l ≡ accepted l (table_in l)
+module _ (l out w' : List ℕ) (r : Result Unit Refusal) (d : CheckDone l w' r) where
+  taken : r ≡ Ok tt → judge_list l ≡ accepted l (table_in l)
   taken e = (subst (CheckDone l w') e d).taken
 
-  pub said_short : (n : ℕ) → r ≡ Accepted → n ≡ byte_place l (length l) → length out < n
-      → Said (Refused (record { number = 1; place = 0 })) out (write_judged (list_bytes l) out (judge_list l))
+  pub said_short : (n : ℕ) → r ≡ Ok tt → n ≡ byte_place l (length l) → length out < n
+      → Said (Err (record { number = 1; place = 0 })) out (write_judged (list_bytes l) out (judge_list l))
   said_short n e p h =
       let q = place_all l in
       judged_said l out out _ _ (taken e) (judged_short (list_bytes l) out l (table_in l) (omega arith))
 
-  pub said_written : (n : ℕ) (out' : List ℕ) → r ≡ Accepted → n ≡ byte_place l (length l) → n ≤ length out
+  pub said_written : (n : ℕ) (out' : List ℕ) → r ≡ Ok tt → n ≡ byte_place l (length l) → n ≤ length out
       → out' ≡ list_bytes l ++ drop (length (list_bytes l)) out
-      → Said (Count n) out' (write_judged (list_bytes l) out (judge_list l))
+      → Said (Ok n) out' (write_judged (list_bytes l) out (judge_list l))
   said_written n out' e p h f =
       let q = p ∙ place_all l in
       judged_said l out out' _ _ (taken e)
       (judged_written (list_bytes l) out l (table_in l) n out' q (omega arith) f)
 
-  pub said_declined : (q : Refusal) → r ≡ Declined q
-      → Said (Refused q) out (write_judged (list_bytes l) out (judge_list l))
+  pub said_declined : (q : Refusal) → r ≡ Err q
+      → Said (Err q) out (write_judged (list_bytes l) out (judge_list l))
   said_declined q e =
       judged_said l out out _ _ (subst (CheckDone l w') e d).0 (judged_declined (list_bytes l) out q)
 
 -- ---- the whole outcome
 module _ (l out work : List ℕ) where
   pub write_wrong_work : (length work ≡ 8192 → ⊥)
-      → outcome (Refused (record { number = 1; place = 0 })) out work ≡ write_of l out work
+      → outcome (Err (record { number = 1; place = 0 })) out work ≡ write_of l out work
   unfolding write_of measured
   write_wrong_work h = simp (ne_eqb _ _ h)
 
@@ -94,7 +92,7 @@ module _ (l out work : List ℕ) where
   work_zero bs (accepted ns t) = chosen_zero (leb (length bs) (length out)) _ _ refl refl
   work_zero bs (declined n at) = refl
 
-  pub write_said : (r : code.Answer) (out' work₁ work' : List ℕ) → length work ≡ 8192
+  pub write_said : (r : Result ℕ Refusal) (out' work₁ work' : List ℕ) → length work ≡ 8192
       → Said r out' (write_judged (list_bytes l) out (judge_list l))
       → work' ≡ replicate (length work₁) 0 → length work₁ ≡ 8192 → outcome r out' work' ≡ write_of l out work
   write_said r out' work₁ work' f h c g =

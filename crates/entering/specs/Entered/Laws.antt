@@ -12,8 +12,8 @@ use Rattle.table.specs.Operations.{zeros}
 use Rattle.table_index.specs.Index.{table_in, Indexed}
 use Rattle.table_index.specs.Judging.{CheckSaid, Checked}
 use Rattle.table.specs.declared.answer.Refusal.{Refusal}
-use Rattle.table.specs.declared.answer.Judged.{Judged}
-use Rattle.table.specs.declared.answer.Judged.TheVariants.{Accepted, Declined}
+use Rattle.std.specs.declared.result.Result.{Result}
+use Rattle.std.specs.declared.result.Result.TheVariants.{Ok, Err}
 use Rattle.monitor_spec.specs.State.{Monitor, areas_measured, work_measured}
 use Rattle.monitor_spec.proofs.Valid.Laws.{and_split}
 use Rattle.monitor_spec.specs.Consistent.{consistent}
@@ -24,12 +24,12 @@ use Rattle.entering.specs.Entered.{Entered}
 
 -- ---- from the answer
 
-module _ (e : Entrance) (l : List ℕ) (j : Judged) (w : List ℕ) (h : Entered e l j w) where
-  pub entered_shut : (r : Refusal) → j ≡ Declined r → e ≡ shut r.number r.place w
+module _ (e : Entrance) (l : List ℕ) (j : Result Unit Refusal) (w : List ℕ) (h : Entered e l j w) where
+  pub entered_shut : (r : Refusal) → j ≡ Err r → e ≡ shut r.number r.place w
   unfolding Entered
   entered_shut r q = rw q at h
 
-  pub entered_open : j ≡ Accepted → (e ≡ admits (table_in l)) × Indexed l w
+  pub entered_open : j ≡ Ok tt → (e ≡ admits (table_in l)) × Indexed l w
   unfolding Entered
   entered_open q = rw q at h
 
@@ -39,7 +39,7 @@ module _ (l w : List ℕ) (lent : Bool) where
   abbrev fits : Bool
   fits = lent && work_measured w
 
-  pub enter_unlent : lent ≡ false → Entered (entrance fits l w) l (Declined (record { number = 1; place = 0 })) w
+  pub enter_unlent : lent ≡ false → Entered (entrance fits l w) l (Err (record { number = 1; place = 0 })) w
   unfolding Entered
   enter_unlent e = entrance_unmeasured fits l w (rw e)
 
@@ -52,14 +52,14 @@ module _ (l w : List ℕ) (lent : Bool) where
     unfolding work_measured
     wrong e = rw (h, ne_eqb (length w) 8192 e)
 
-    said : length w ≡ 8192 → (j : Judged) → CheckSaid l w' j → Entered (entrance fits l w) l j w'
+    said : length w ≡ 8192 → (j : Result Unit Refusal) → CheckSaid l w' j → Entered (entrance fits l w) l j w'
     unfolding Entered
-    said e Accepted x = (entrance_accepted fits l w l (table_in l) (right e) x.taken, x)
-    said e (Declined r) (x, z) =
+    said e (Ok _) x = (entrance_accepted fits l w l (table_in l) (right e) x.taken, x)
+    said e (Err r) (x, z) =
         entrance_declined fits l w r.number r.place (right e) x
         ∙ ap (shut r.number r.place) (ap zeros e ∙ sym z)
 
-    pub enter_checked : (j : Judged) → Checked l w w' j → Entered (entrance fits l w) l j w'
+    pub enter_checked : (j : Result Unit Refusal) → Checked l w w' j → Entered (entrance fits l w) l j w'
     unfolding Entered
     enter_checked j c = by (ℕ_discrete (length w) 8192)
       where
@@ -89,19 +89,19 @@ module _ (l : List ℕ) (m : Monitor) (w : List ℕ) where
     same x h = ap of (sym e) ∙ h
 
     pub on_declined : (r : Refusal) (v : List ℕ) → of lent ≡ shut r.number r.place v
-        → Entered (entrance_on l m w) l (Declined r) v
+        → Entered (entrance_on l m w) l (Err r) v
     unfolding Entered
     on_declined r v h = on_shut l m w r.number r.place v (same (shut r.number r.place v) h)
 
     pub on_disagreeing : of lent ≡ admits (table_in l) → consistent (table_in l) m ≡ false
         → (u v : List ℕ) → Indexed l u → v ≡ zeros (length u) → length u ≡ length w
-        → Entered (entrance_on l m w) l (Declined (record { number = 10; place = 0 })) v
+        → Entered (entrance_on l m w) l (Err (record { number = 10; place = 0 })) v
     unfolding Entered
     on_disagreeing h c u v x z k =
         on_inconsistent l m w (table_in l) (same (admits (table_in l)) h) c ∙ ap (shut 10 0) (ap zeros (sym k) ∙ sym z)
 
     pub on_agreeing : (of lent ≡ admits (table_in l)) → consistent (table_in l) m ≡ true → (v : List ℕ) → Indexed l v
-        → Entered (entrance_on l m w) l Accepted v
+        → Entered (entrance_on l m w) l (Ok tt) v
     unfolding Entered
     on_agreeing h c v x = (on_consistent l m w (table_in l) (same (admits (table_in l)) h) c, x)
 

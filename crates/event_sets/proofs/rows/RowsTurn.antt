@@ -10,7 +10,8 @@ use mathlib.Core.List.{List, [], ◌∷◌, ◌++◌, map, map-append}
 use lib.ListN.{length, length-append, length-map}
 use Rattle.table.specs.declared.answer.Refusal.{Refusal}
 use Rattle.table.specs.declared.rows.Row.{Row}
-use Rattle.table.specs.declared.rows.Row.TheVariants.{Mask, NoRow}
+use Rattle.std.specs.declared.result.Result.{Result}
+use Rattle.std.specs.declared.result.Result.TheVariants.{Ok, Err}
 use Rattle.table.specs.Tokens.{tokens_at}
 use Rattle.table.specs.Parser.{refused, got, times}
 use Rattle.table.proofs.Parser.Steps.{ReadsPlain, none, reads_snoc, times_done, times_stop}
@@ -58,19 +59,19 @@ module _ {l : List ℕ} {A count at row₀ : ℕ} {w w' : List ℕ} {j p : ℕ} 
         within = f.within;
       }
 
-  pub head_next : (low high next x : ℕ) (w'' : List ℕ) (r : Row) → r ≡ Mask low high next → RowRead l A p r
-      → w'' ≡ row_stored A x low high w' → j < count → x ≡ row₀ + j
+  pub head_next : (m : Row) (x : ℕ) (w'' : List ℕ) (r : Result Row Refusal) → r ≡ Ok m → RowRead l A p r
+      → w'' ≡ row_stored A x m.low m.high w' → j < count → x ≡ row₀ + j
       → length w ≡ 8192 → row₀ + count ≤ rows_most → RowsFit A (row₀ + count)
-      → Head l A count at row₀ w w'' (j + 1) next
-  head_next low high next x w'' r is told stored b e s room fit =
+      → Head l A count at row₀ w w'' (j + 1) m.next
+  head_next m x w'' r is told stored b e s room fit =
       rw stored
-      (next_row low high next x (subst (λ (y : Row). RowRead l A p y) is told) b e s room fit)
+      (next_row m.low m.high m.next x (subst (λ (y : Result Row Refusal). RowRead l A p y) is told) b e s room fit)
 
-  pub head_stop : (z : Refusal) (r : Row) → r ≡ NoRow z → RowRead l A p r → j < count
+  pub head_stop : (z : Refusal) (r : Result Row Refusal) → r ≡ Err z → RowRead l A p r → j < count
       → times count (row A) (tokens_at l at) ≡ refused z.number z.place
   head_stop z r is told b =
       let c = h.counted in
-      times_stop (row A) count h.read (omega arith) (subst (λ (y : Row). RowRead l A p y) is told)
+      times_stop (row A) count h.read (omega arith) (subst (λ (y : Result Row Refusal). RowRead l A p y) is told)
 
   pub head_done : count ≤ j → RowsFound l A count at row₀ w w' p
   head_done b =

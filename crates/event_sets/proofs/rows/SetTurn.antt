@@ -17,8 +17,8 @@ use mathlib.Core.Bool.{Bool, true, false, not, false≢true}
 use Rattle.numbers.specs.Choice.{true_T}
 use borrow.Author.Tests.{le-leb, lt-leb, lt-ltb, le-ltb}
 use Rattle.table.specs.declared.answer.Refusal.{Refusal}
-use Rattle.table.specs.declared.answer.Place.{Place}
-use Rattle.table.specs.declared.answer.Place.TheVariants.{At, Stop}
+use Rattle.std.specs.declared.result.Result.{Result as Answered}
+use Rattle.std.specs.declared.result.Result.TheVariants.{Ok, Err}
 use Rattle.table.specs.Table.{SetDef, one, each}
 use Rattle.table.specs.Tokens.{Tokens, tokens_at}
 use Rattle.table.specs.Parser.{Parser, Result, got, refused, pure, next, and_then, number, times}
@@ -174,11 +174,11 @@ module _ (l : List ℕ) (A row₀ at : ℕ) where
           then_got _ _ _ (number_got (kind_fits A row₀) l at b (kind_is true fits))
           (subst (λ (n : ℕ). set_of_kind A n (tokens_at l (at + 1)) ≡ r) k e)
 
-      pub set_stop : (w w' : List ℕ) (z : Refusal) (r : Place) → r ≡ Stop z
+      pub set_stop : (w w' : List ℕ) (z : Refusal) (r : Answered ℕ Refusal) → r ≡ Err z
           → RowsRead l A count (at + 1) row₀ w w' r
           → (event_set A row₀ (tokens_at l at) ≡ refused z.number z.place) × (length w' ≡ length w)
       set_stop w w' z r is told =
-          let f = subst (λ (y : Place). RowsRead l A count (at + 1) row₀ w w' y) is told in
+          let f = subst (λ (y : Answered ℕ Refusal). RowsRead l A count (at + 1) row₀ w w' y) is told in
           let t = tokens_at l (at + 1) in
           let e = subst (λ (m : ℕ). times m (row A) t ≡ refused z.number z.place) c f.0 in
           (from_kind (kind_stop A kind z.number z.place t e), f.1)
@@ -207,8 +207,8 @@ module _ (l : List ℕ) (A row₀ at : ℕ) where
             within = f.within;
           }
 
-      pub set_found : (j : ℕ) (w w' : List ℕ) (r : Place) → r ≡ At j
+      pub set_found : (j : ℕ) (w w' : List ℕ) (r : Answered ℕ Refusal) → r ≡ Ok j
           → RowsRead l A count (at + 1) row₀ w w' r → 1 ≤ A → row₀ + count ≤ rows_most
           → SetFound l A at row₀ w w' j kind (row₀ + count)
       set_found j w w' r is told some room =
-          found j w w' some room (subst (λ (y : Place). RowsRead l A count (at + 1) row₀ w w' y) is told)
+          found j w w' some room (subst (λ (y : Answered ℕ Refusal). RowsRead l A count (at + 1) row₀ w w' y) is told)

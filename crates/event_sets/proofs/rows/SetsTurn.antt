@@ -11,7 +11,8 @@ use mathlib.Core.List.{List, [], ◌∷◌, ◌++◌, flat_map}
 use lib.ListN.{length, set, length-append, length-set}
 use Rattle.table.specs.declared.answer.Refusal.{Refusal}
 use Rattle.table.specs.declared.rows.SetEnd.{SetEnd}
-use Rattle.table.specs.declared.rows.SetEnd.TheVariants.{NextSet, NoSet}
+use Rattle.std.specs.declared.result.Result.{Result}
+use Rattle.std.specs.declared.result.Result.TheVariants.{Ok, Err}
 use Rattle.table.specs.Table.{SetDef, one, each}
 use Rattle.table.specs.Rows.{large_above, rows_of, RowsFit}
 use Rattle.table.specs.Tokens.{tokens_at}
@@ -121,23 +122,23 @@ module _ {l : List ℕ} {A count at : ℕ} {w w' : List ℕ} {s p row : ℕ} (h 
         within = f.within;
       }
 
-  pub head_next : (w'' : List ℕ) (next kind end x : ℕ) (r : SetEnd) → r ≡ NextSet next kind end
-      → SetRead l A p row w' w'' r → s < count → x ≡ row * 2 + kind
-      → Head l A count at w (set w'' (sets_at + s) x) (s + 1) next end
-  head_next w'' next kind end x r is told b e =
-      next_set w'' next kind end x (subst (λ (y : SetEnd). SetRead l A p row w' w'' y) is told) b e
+  pub head_next : (w'' : List ℕ) (f : SetEnd) (x : ℕ) (r : Result SetEnd Refusal) → r ≡ Ok f
+      → SetRead l A p row w' w'' r → s < count → x ≡ row * 2 + f.kind
+      → Head l A count at w (set w'' (sets_at + s) x) (s + 1) f.next f.row
+  head_next w'' f x r is told b e =
+      next_set w'' f.next f.kind f.row x (subst (λ (y : Result SetEnd Refusal). SetRead l A p row w' w'' y) is told) b e
 
   -- what one set more leaves room for
-  pub head_fits : (w'' : List ℕ) (next kind end : ℕ) (r : SetEnd) → r ≡ NextSet next kind end
-      → SetRead l A p row w' w'' r → (kind ≤ 1) × (row ≤ rows_most)
-  head_fits w'' next kind end r is told =
-      let f : SetFound l A p row w' w'' next kind end = subst (λ (y : SetEnd). SetRead l A p row w' w'' y) is told in
+  pub head_fits : (w'' : List ℕ) (x : SetEnd) (r : Result SetEnd Refusal) → r ≡ Ok x
+      → SetRead l A p row w' w'' r → (x.kind ≤ 1) × (row ≤ rows_most)
+  head_fits w'' x r is told =
+      let f : SetFound l A p row w' w'' x.next x.kind x.row = subst (λ (y : Result SetEnd Refusal). SetRead l A p row w' w'' y) is told in
       (subst (λ (k : ℕ). k ≤ 1) (sym f.kinds) (kind_few f.value), h.room)
 
-  pub head_stop : (w'' : List ℕ) (z : Refusal) (r : SetEnd) → r ≡ NoSet z → SetRead l A p row w' w'' r → s < count
+  pub head_stop : (w'' : List ℕ) (z : Refusal) (r : Result SetEnd Refusal) → r ≡ Err z → SetRead l A p row w' w'' r → s < count
       → (grammar.event_sets A count 0 (tokens_at l at) ≡ refused z.number z.place) × (length w'' ≡ length w)
   head_stop w'' z r is told b =
-      let f = subst (λ (y : SetEnd). SetRead l A p row w' w'' y) is told in
+      let f = subst (λ (y : Result SetEnd Refusal). SetRead l A p row w' w'' y) is told in
       let c = h.counted in (
         all_stop (grammar.event_set A) (behind A) (grammar.event_sets A) (repeats A) count h.read (omega arith) f.0,
         f.1 ∙ h.same,

@@ -1,11 +1,13 @@
 -- Copying a part.
 --     get_d_behind, window_behind          what is the same behind a place
---     Over, over_first, -next, -done       the loop of `copy_part`
+--     Over, over_first, -next, -done       a part copied word by word
+--     part_copied                          as a whole
 --     leaf_copied                          a leaf's results are copied with their part
 -- Assumes nothing.
 use Rattle.std.specs.Prelude.{ℕ, suc, ◌+◌, ◌-◌, ◌<◌, ◌≤◌, ◌≡◌, refl, List, [], ◌∷◌, ◌++◌, length, get_or, set, take, drop}
-use Rattle.std.proofs.Common.{arith, add-one, ap, sym, subst, ◌∙◌, inl, inr, length-drop, drop-set-lt, take-suc, get_or-drop}
+use Rattle.std.proofs.Common.{arith, add-one, ap, sym, subst, ◌∙◌, inl, inr, length-drop, length-append, length-take-le, append_assoc, take_at, drop_at, drop-set-lt, take-suc, get_or-drop}
 use Rattle.std.proofs.lemmas.List.{take-set-le}
+use Rattle.std.specs.List.{copy_within}
 use Rattle.table.specs.Table.{Table}
 use Rattle.resolving.specs.Distinct.{window}
 use Rattle.resolving.specs.Distinct.Laws.{window_none, window_cons, snoc_window, drop_further}
@@ -24,7 +26,7 @@ pub window_behind : (p : ℕ) (a b : List ℕ) (i n : ℕ) → drop p a ≡ drop
 unfolding window
 window_behind p a b i n e h = ap (take n) (drop_further p i a b e h)
 
--- ---- the loop of `copy_part`
+-- ---- a part, word by word
 
 -- j words from p on are copied to q on
 pub record Over (old now : List ℕ) (p q j : ℕ) : Type 0 where
@@ -60,6 +62,32 @@ module _ (old : List ℕ) (p q : ℕ) where
     pub over_done : (n : ℕ) → n ≡ get_or old p 0 → j ≡ n + 1 → Copied old now p q
     over_done n en ej =
         record { before = o.before; part = rw (ej, en) at o.part; behind = rw (ej, en) at o.behind }
+
+-- the part is copied as a whole
+pub part_copied : (old : List ℕ) (p q n : ℕ) → n ≡ get_or old p 0 → p + n < length old → q + n < length old
+    → (r : List ℕ) → r ≡ copy_within old p (p + n + 1) q → Copied old r p q
+unfolding window
+part_copied old p q n en hp hq r e =
+    let m : p + n + 1 - p ≡ n + 1 = omega arith in
+    let s : List ℕ = drop p old in
+    let a : length (take q old) ≡ q = length-take-le q old (omega arith) in
+    let b : length (take (n + 1) s) ≡ n + 1 = length-take-le (n + 1) s (rw length-drop (omega arith)) in
+    let w : r ≡ (take q old ++ take (n + 1) s) ++ drop (q + (n + 1)) old =
+    e ∙ ap (λ (k : ℕ). (take q old ++ take k s) ++ drop (q + k) old) m in
+    let v : r ≡ take q old ++ (take (n + 1) s ++ drop (q + (n + 1)) old) =
+    w ∙ append_assoc (take q old) (take (n + 1) s) (drop (q + (n + 1)) old) in
+    record {
+      before = ap (take q) v ∙ take_at (take q old) _ q a;
+      part =
+          rw en at
+          (ap (λ (l : List ℕ). take (n + 1) (drop q l)) v
+          ∙ ap (take (n + 1)) (drop_at (take q old) _ q a)
+          ∙ take_at (take (n + 1) s) _ (n + 1) b);
+      behind =
+          rw en at
+          (ap (drop (q + (n + 1))) w
+          ∙ drop_at (take q old ++ take (n + 1) s) _ (q + (n + 1)) (length-append (take q old) _ ∙ omega (arith, a, b)));
+    }
 
 -- ---- a leaf's results
 

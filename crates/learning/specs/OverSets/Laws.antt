@@ -1,11 +1,14 @@
 -- One event more over the sets met, on plain values: one law for each way out.
+--     record_set                            a record and a set at a place
 --     out_reached, out_room, out_shape      a set that is laid out is reached; what picking up the next one asks for
---     learn_full, learn_link, learn_kept    it has no room; it is linked, and kept
---     Sizes, first_full, first_kept         the set of the monitor that a run begins with
+--     learn_full, learn_alphabet            it has no room
+--     learn_link, learn_kept                it is linked, and kept
+--     first_full, first_kept                the set of the monitor that a run begins with
 --     begun_full, begun_kept                the same where all sets are forgotten on the way
 -- Assumes nothing.
-use Rattle.std.specs.Prelude.{ℕ, suc, ◌+◌, ◌*◌, ◌<◌, ◌≤◌, ◌≡◌, List, length, get_or, set}
-use Rattle.std.proofs.Common.{arith, sym, subst, ◌∙◌, length-set, get_or-set_same}
+use Rattle.std.specs.Prelude.{ℕ, ◌+◌, ◌*◌, ◌<◌, ◌≤◌, ◌≡◌, List, length, get_or, set, Option, Some, None}
+use Rattle.std.proofs.Common.{arith, sym, subst, ◌∙◌, length-set}
+use Rattle.std.proofs.Math.Path.{ap}
 use Rattle.table.specs.Table.{Table}
 use Rattle.monitor_spec.specs.Regular.{Regular}
 use Rattle.monitor_spec.specs.State.{Monitor}
@@ -13,19 +16,23 @@ use Rattle.monitor_spec.specs.Fold.{went}
 use Rattle.monitor_spec.specs.Feed.{take_event}
 use Rattle.state.specs.declared.record.State.{State}
 use Rattle.state.specs.Record.{monitor_of}
-use Rattle.met_sets.specs.declared.pick.Pick.{Pick}
-use Rattle.met_sets.specs.declared.pick.Pick.TheVariants.{Set, Full}
-use Rattle.met_sets.specs.Sets.{Shape, Met}
-use Rattle.met_sets.specs.Sets.Laws.{met_none, link_inside, met_linked}
+use Rattle.met_sets.specs.declared.run.Followed.{Followed}
+use Rattle.met_sets.specs.declared.sets.MetSets.{MetSets}
+use Rattle.met_sets.specs.Sets.{Shape}
+use Rattle.met_sets.specs.Value.{MetIn, forgotten, LinkedBy}
+use Rattle.met_sets.specs.Sets.Laws.{met_none, first_start, met_linked}
 use Rattle.met_sets.specs.Runs.{Reached, Picked, PickedAs, PickedBy}
 use Rattle.met_sets.specs.Runs.Laws.{reached_first, reached_next, went_known, picked_follows}
 use Rattle.met_sets.specs.Runs.Laws.{laid_reached, step_leads}
 use Rattle.met_sets.specs.Runs.Areas.{laid_room}
-use Rattle.taking.specs.declared.event.Taken.{Taken}
-use Rattle.taking.specs.declared.event.Taken.TheVariants.{Went}
+use Rattle.taking.specs.Taking.{Taken}
+use Rattle.std.specs.declared.result.Result.TheVariants.{Ok, Err}
 use Rattle.taking.specs.Taking.{Standing, TakenBy}
 use Rattle.taking.specs.Runs.{ReachedAt}
 use Rattle.learning.specs.OverSets.{Going, LaidOut}
+
+abbrev pub record_set : State → ℕ → ℕ → Followed
+record_set s n j = record { state = s; set = n; place = j }
 
 as_reached : {t : Table} {cap : ℕ} {m m' : Monitor} {es : List ℕ} {i j : ℕ} → Reached t cap m es i m' j
     → ReachedAt t m es i m' j
@@ -33,142 +40,134 @@ as_reached {cap = cap} h = record { standing = record { slots = cap; laid = h.la
 
 -- ---- one event more
 
-module _ {t : Table} (regular : Regular t) {m : Monitor} {es : List ℕ} {i k : ℕ} {sets starts next : List ℕ} {s : State}
-    {n j : ℕ} {a b : List ℕ} (h : LaidOut t m es i k sets starts next s n j a b) where
-  here : Reached t h.cap m es i (monitor_of s a b) j
-  here = laid_reached regular h.met h.follows h.same
+module _ {t : Table} (regular : Regular t) {m : Monitor} {es : List ℕ} {i : ℕ} {v : MetSets} {f : Followed}
+    {a b : List ℕ} (h : LaidOut t m es i v f a b) where
+  here : Reached t h.cap m es i (monitor_of f.state a b) f.place
+  here = laid_reached regular h.met.met h.follows h.same
 
-  pub out_reached : ReachedAt t m es i (monitor_of s a b) j
+  pub out_reached : ReachedAt t m es i (monitor_of f.state a b) f.place
   out_reached = as_reached here
 
-  pub out_shape : {A : ℕ} → A ≡ t.alphabet → Shape A k sets starts next
-  out_shape ea = subst (λ (x : ℕ). Shape x k sets starts next) (sym ea) h.met.shape
+  pub out_shape : {A : ℕ} → A ≡ t.alphabet → Shape A v.count v.sets v.starts v.next
+  out_shape e = subst (λ (x : ℕ). Shape x v.count v.sets v.starts v.next) (sym e) h.met.met.shape
 
-  module _ (l : j < length es) (r : Taken) (a' b' : List ℕ) (g : TakenBy t (monitor_of s a b) (get_or es j 0) r a' b')
-      (s' : State) (q : r ≡ Went s') where
-    took : take_event t (monitor_of s a b) (get_or es j 0) ≡ went (monitor_of s' a' b')
+  abbrev event : ℕ
+  event = get_or es f.place 0
+
+  module _ (l : f.place < length es) (r : Taken) (a' b' : List ℕ) (g : TakenBy t (monitor_of f.state a b) event r a' b')
+      (s' : State) (q : r ≡ Ok s') where
+    took : take_event t (monitor_of f.state a b) event ≡ went (monitor_of s' a' b')
     took = rw q at g
 
-    next_reached : Reached t h.cap m es i (monitor_of s' a' b') (j + 1)
+    next_reached : Reached t h.cap m es i (monitor_of s' a' b') (f.place + 1)
     next_reached = reached_next here regular l took
 
     pub out_room : (s'.count * 16 ≤ length a') × (s'.count * 16 ≤ length b')
     out_room = laid_room regular s' a' b' next_reached.laid
 
-    module _ {A : ℕ} (ea : A ≡ t.alphabet) where
-      module _ (p : Pick) (sets' starts' next' a'' b'' : List ℕ)
-          (f : PickedBy A k sets starts next (monitor_of s' a' b') p sets' starts' next' a'' b'') where
-        pick_is : PickedAs t h.cap k sets starts next (monitor_of s' a' b') p sets' starts' next' a'' b''
-        unfolding PickedBy
-        pick_is = f t regular (sym ea) h.cap h.met next_reached.laid
+    module _ (p : Option ℕ) (v' : MetSets) (a'' b'' : List ℕ)
+        (w : PickedBy v (monitor_of s' a' b') p v' a'' b'') where
+      pick_is : PickedAs t h.cap v (monitor_of s' a' b') p v' a'' b''
+      unfolding PickedBy
+      pick_is = w t regular h.cap h.met next_reached.laid
 
-        pub learn_full : p ≡ Full → ReachedAt t m es i (monitor_of s' a'' b'') (j + 1)
-        learn_full z =
-            let u : PickedAs t h.cap k sets starts next (monitor_of s' a' b') Full sets' starts' next' a'' b''
-            = rw z at pick_is in
-            rw (u.1, u.2) (as_reached next_reached)
+      module _ (z : p ≡ None) where
+        none_is : PickedAs t h.cap v (monitor_of s' a' b') None v' a'' b''
+        none_is = rw z at pick_is
 
-        module _ (l' k' : ℕ) (z : p ≡ Set l' k') where
-          picked : Picked t h.cap k sets starts (monitor_of s' a' b') l' k' sets' starts' next' a'' b''
-          picked = rw z at pick_is
+        pub learn_full : ReachedAt t m es i (monitor_of s' a'' b'') (f.place + 1)
+        learn_full = rw (none_is.1, none_is.2) (as_reached next_reached)
 
-          known : get_or es j 0 < t.alphabet
-          known = went_known t (monitor_of s a b) (monitor_of s' a' b') (get_or es j 0) took
+        pub learn_alphabet : t.alphabet ≡ v'.alphabet
+        learn_alphabet = h.met.alphabet_is ∙ sym (ap (λ (x : MetSets). x.alphabet) none_is.0)
 
-          before : n < k'
-          before = let x = h.follows.inside in let y = picked.more in omega arith
+      module _ (l' : ℕ) (z : p ≡ Some l') where
+        some_is : PickedAs t h.cap v (monitor_of s' a' b') (Some l') v' a'' b''
+        some_is = rw z at pick_is
 
-          pub learn_link : (n * A + get_or es j 0 < length next') × (l' < 63)
-          learn_link =
-              let x = link_inside picked.met n (get_or es j 0) 0 before known in
-              let y = picked.met.shape.few in
-              let z = picked.inside in
-              (rw ea x, omega arith)
+        abbrev picked : Picked t h.cap v.count v.sets v.starts (monitor_of s' a' b') l' v'.count v'.sets v'.starts
+            v'.next a'' b''
+        picked = some_is.1
 
-          pub learn_kept : (next'' : List ℕ) → next'' ≡ set next' (n * A + get_or es j 0) (suc l')
-              → Going t m es i k' sets' starts' next'' s' l' (j + 1) a'' b''
-          learn_kept next'' w =
-              record {
-                cap = h.cap;
-                met = rw (w, ea) (met_linked picked.met n (get_or es j 0) l' before known picked.inside
-                    (step_leads regular h.met h.follows (monitor_of s a b) (monitor_of s' a' b') (get_or es j 0)
+        known : event < t.alphabet
+        known = went_known t (monitor_of f.state a b) (monitor_of s' a' b') event took
+
+        before : f.set < v'.count
+        before = let x = h.follows.inside in let y = picked.more in omega arith
+
+        alphabet_still : t.alphabet ≡ v'.alphabet
+        alphabet_still = h.met.alphabet_is ∙ sym some_is.0
+
+        pub learn_link : (f.set < v'.count) × (event < v'.alphabet) × (l' < v'.count)
+        learn_link = (before, omega (arith, known, alphabet_still), picked.inside)
+
+        pub learn_kept : (v'' : MetSets) → LinkedBy v' f.set event l' v''
+            → Going t m es i v'' (record_set s' l' (f.place + 1)) a'' b''
+        learn_kept v'' u =
+            record {
+              cap = h.cap;
+              met = record {
+                alphabet_is = alphabet_still ∙ sym u.alphabet_is;
+                met = rw (u.next_are, u.sets_are, u.starts_are, u.count_is, sym alphabet_still)
+                    (met_linked picked.met f.set event l' before known picked.inside
+                    (step_leads regular h.met.met h.follows (monitor_of f.state a b) (monitor_of s' a' b') event
                     h.same took picked));
-                follows = picked_follows next_reached picked;
-                zeroed = picked.zeroed;
-              }
+              };
+              follows = rw (u.sets_are, u.starts_are, u.count_is) (picked_follows next_reached picked);
+              zeroed = picked.zeroed;
+            }
 
 -- ---- the first set
 
--- the sizes of what sets are kept in
-abbrev pub Sizes : List ℕ → List ℕ → List ℕ → Type 0
-Sizes sets starts next = (length sets ≡ 1664) × (length starts ≡ 64) × (length next ≡ 2560)
-
-module _ {t : Table} (regular : Regular t) (s : State) (a b : List ℕ)
-    (h : Standing t (monitor_of s a b)) (sets starts next : List ℕ) (sizes : Sizes sets starts next)
-    (o : get_or starts 0 0 ≡ 0) (small : t.alphabet ≤ 128) {A : ℕ} (ea : A ≡ t.alphabet) where
-  none : Met t h.slots 0 sets starts next
-  none = met_none t h.slots sets starts next small sizes.0 sizes.1 sizes.2 (omega arith)
-
-  module _ (p : Pick) (sets' starts' next' a' b' : List ℕ)
-      (f : PickedBy A 0 sets starts next (monitor_of s a b) p sets' starts' next' a' b') where
-    as_first : PickedAs t h.slots 0 sets starts next (monitor_of s a b) p sets' starts' next' a' b'
-    unfolding PickedBy
-    as_first = f t regular (sym ea) h.slots none h.laid
-
-    pub first_full : p ≡ Full → (es : List ℕ) (i : ℕ) → ReachedAt t (monitor_of s a b) es i (monitor_of s a' b') i
-    first_full q es i =
-        let u : PickedAs t h.slots 0 sets starts next (monitor_of s a b) Full sets' starts' next' a' b'
-        = rw q at as_first in
-        rw (u.1, u.2) (as_reached (reached_first h.laid))
-
-    pub first_kept : (n k : ℕ) → p ≡ Set n k → (es : List ℕ) (i : ℕ)
-        → Going t (monitor_of s a b) es i k sets' starts' next' s n i a' b'
-    first_kept n k q es i =
-        let u : Picked t h.slots 0 sets starts (monitor_of s a b) n k sets' starts' next' a' b' = rw q at as_first in
-        record {
-          cap = h.slots;
-          met = u.met;
-          follows = picked_follows (reached_first h.laid) u;
-          zeroed = u.zeroed;
-        }
-
--- ---- all sets are forgotten
-
-going_then : {t : Table} {m m' : Monitor} {es : List ℕ} {i l k : ℕ} {sets starts next : List ℕ} {s : State} {n j : ℕ}
-    {a b : List ℕ} → ReachedAt t m es i m' l → Going t m' es l k sets starts next s n j a b
-    → Going t m es i k sets starts next s n j a b
-going_then h g =
+none_in : (t : Table) (cap : ℕ) (v : MetSets) → t.alphabet ≡ v.alphabet → MetIn t cap (forgotten v)
+none_in t cap v e =
+    let s = v.shape in
     record {
-      cap = g.cap;
-      met = g.met;
-      follows =
-          record {
-            inside = g.follows.inside;
-            counted = g.follows.counted;
-            reached =
-                record { laid = g.follows.reached.laid; rest = h.rest ∙ g.follows.reached.rest };
-          };
-      zeroed = g.zeroed;
+      alphabet_is = e;
+      met = met_none t cap v.sets (set v.starts 0 0) v.next (omega (arith, s.small)) s.set_words
+          (length-set v.starts 0 0 ∙ s.start_places) s.next_bytes (first_start v.starts s.start_places);
     }
 
-module _ {t : Table} (regular : Regular t) {A : ℕ} (ea : A ≡ t.alphabet) (few : t.alphabet ≤ 128) (s : State)
-    (a b : List ℕ) {m : Monitor} {es : List ℕ} {i l : ℕ} (h : ReachedAt t m es i (monitor_of s a b) l)
-    (sets starts next : List ℕ) (sizes : Sizes sets starts next) (p : Pick) (sets' starts' next' a' b' : List ℕ)
-    (f : PickedBy A 0 sets (set starts 0 0) next (monitor_of s a b) p sets' starts' next' a' b') where
-  start : get_or (set starts 0 0) 0 0 ≡ 0
-  start = get_or-set_same starts 0 0 0 (omega (arith, sizes.1))
+module _ {t : Table} (regular : Regular t) (s : State) (a b : List ℕ) (v : MetSets) (e : t.alphabet ≡ v.alphabet)
+    (p : Option ℕ) (v' : MetSets) (a' b' : List ℕ)
+    (f : PickedBy (forgotten v) (monitor_of s a b) p v' a' b') where
+  module _ (h : Standing t (monitor_of s a b)) where
+    as_first : PickedAs t h.slots (forgotten v) (monitor_of s a b) p v' a' b'
+    unfolding PickedBy
+    as_first = f t regular h.slots (none_in t h.slots v e) h.laid
 
-  still : Sizes sets (set starts 0 0) next
-  still = (sizes.0, length-set starts 0 0 ∙ sizes.1, sizes.2)
+    pub first_full : p ≡ None → (es : List ℕ) (i : ℕ) → ReachedAt t (monitor_of s a b) es i (monitor_of s a' b') i
+    first_full q es i =
+        let u : PickedAs t h.slots (forgotten v) (monitor_of s a b) None v' a' b' = rw q at as_first in
+        rw (u.1, u.2) (as_reached (reached_first h.laid))
 
-  pub begun_full : p ≡ Full → ReachedAt t m es i (monitor_of s a' b') l
-  begun_full q =
-      let g = first_full regular s a b h.standing sets (set starts 0 0) next still start few ea p
-      sets' starts' next' a' b' f q es l in
-      record { standing = g.standing; rest = h.rest ∙ g.rest }
+    pub first_kept : (n : ℕ) → p ≡ Some n → (es : List ℕ) (i : ℕ)
+        → Going t (monitor_of s a b) es i v' (record_set s n i) a' b'
+    first_kept n q es i =
+        let u : PickedAs t h.slots (forgotten v) (monitor_of s a b) (Some n) v' a' b' = rw q at as_first in
+        record {
+          cap = h.slots;
+          met = record { alphabet_is = e ∙ sym u.0; met = u.1.met };
+          follows = picked_follows (reached_first h.laid) u.1;
+          zeroed = u.1.zeroed;
+        }
 
-  pub begun_kept : (n k : ℕ) → p ≡ Set n k → Going t m es i k sets' starts' next' s n l a' b'
-  begun_kept n k q =
-      going_then h
-      (first_kept regular s a b h.standing sets (set starts 0 0) next still start few ea p sets' starts'
-      next' a' b' f n k q es l)
+  -- ---- all sets are forgotten
+
+  module _ {m : Monitor} {es : List ℕ} {i l : ℕ} (h : ReachedAt t m es i (monitor_of s a b) l) where
+    pub begun_full : p ≡ None → ReachedAt t m es i (monitor_of s a' b') l
+    begun_full q = let g = first_full h.standing q es l in record { standing = g.standing; rest = h.rest ∙ g.rest }
+
+    pub begun_kept : (n : ℕ) → p ≡ Some n → Going t m es i v' (record_set s n l) a' b'
+    begun_kept n q =
+        let g = first_kept h.standing n q es l in
+        record {
+          cap = g.cap;
+          met = g.met;
+          follows = record {
+            inside = g.follows.inside;
+            counted = g.follows.counted;
+            reached = record { laid = g.follows.reached.laid; rest = h.rest ∙ g.follows.reached.rest };
+          };
+          zeroed = g.zeroed;
+        }

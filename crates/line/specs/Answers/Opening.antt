@@ -3,27 +3,25 @@
 --     opens_numbers, opens_refused               by the table that was read
 --     started_within                             what `open` gives lies within the list and the input
 -- Assumes nothing.
-use Rattle.std.specs.Prelude.{ℕ, ◌-◌, ◌≤◌, ◌≡◌, length, take, drop}
+use Rattle.std.specs.Prelude.{ℕ, ◌-◌, ◌≤◌, ◌≡◌, length, take, drop, Ok, Err}
 use Rattle.std.proofs.Common.{arith, ap, subst, ◌∙◌, length-drop}
 use Rattle.std.proofs.Math.Path.{sym}
 use mathlib.Core.List.{List}
 use Rattle.table.specs.declared.answer.Refusal.{Refusal}
 use Rattle.monitor_spec.specs.State.{Outcome}
-use Rattle.state.specs.declared.answer.Answer as code
-use Rattle.state.specs.declared.answer.Answer.TheVariants as gave
+use Rattle.state.specs.Answers as code
+use Rattle.state.specs.declared.answer.Declined.TheVariants as gave
 use Rattle.state.specs.declared.record.State.{State}
 use Rattle.state.specs.Record.{state_of}
 use Rattle.state.specs.Answers.{outcome}
-use Rattle.line.specs.declared.answer.Opened.{Opened}
-use Rattle.line.specs.declared.answer.Opened.TheVariants.{Started, Refused}
+use Rattle.line.specs.declared.answer.Started.{Started}
 use Rattle.line_spec.specs.Line.{fresh_on}
-use Rattle.line.specs.Answers.{opened_said, open_said}
+use Rattle.line.specs.Answers.{Opened, opened_said, open_said}
 use Rattle.line_spec.specs.Opening.{refuses, OpenOutcome, open_refused, start_answer, started_on, open_input_of}
 use Rattle.line_spec.proofs.Opening.Front.{open_accepted_lem, open_declined}
 use Rattle.line_spec.proofs.Opening.Front.{open_unfit, open_wrong, open_began}
+use Rattle.std.specs.declared.result.Result.{Result}
 use Rattle.table_reading.specs.declared.answer.TableRead.{TableRead}
-use Rattle.table_reading.specs.declared.answer.TableRead.TheVariants.{Numbers}
-use Rattle.table_reading.specs.declared.answer.TableRead.TheVariants as table
 use Rattle.table_reading.specs.TableRead.{TableSaid, TableRefused, refused_lengths, refused_head, refused_table}
 use Rattle.table_reading.specs.TableRead.Laws.{said_numbers, said_refused, numbers_front, numbers_few}
 
@@ -38,20 +36,21 @@ module _ (next : ℕ) (l a b w : List ℕ) (r : code.Answer) (a' b' w' : List �
         sym (ap (λ (y : code.Answer). started_on (length l) next l (outcome y a' b' w')) k)
         ∙ ap (started_on (length l) next l) said
 
-    pub list_given : (st : State) → r ≡ gave.Given st → open_said (Started st (length l) next) l a' b' w'
+    pub list_given : (st : State) → r ≡ Ok st
+        → open_said (Ok (record { state = st; count = length l; next = next })) l a' b' w'
         ≡ started_on (length l) next l (fresh_on l a b w)
     unfolding started_on start_answer
-    list_given st k = answered (gave.Given st) k
+    list_given st k = answered (Ok st) k
 
-    pub list_refused : (q : Refusal) → r ≡ gave.Refused q → open_said (Refused q) l a' b' w'
+    pub list_refused : (q : Refusal) → r ≡ Err (gave.Refused q) → open_said (Err q) l a' b' w'
         ≡ started_on (length l) next l (fresh_on l a b w)
     unfolding started_on start_answer
-    list_refused q k = answered (gave.Refused q) k
+    list_refused q k = answered (Err (gave.Refused q)) k
 
-    pub list_stopped : (q : Refusal) (st : State) → r ≡ gave.Stopped q st → open_said (Refused q) l a' b' w'
+    pub list_stopped : (q : Refusal) (st : State) → r ≡ Err (gave.Stopped q st) → open_said (Err q) l a' b' w'
         ≡ started_on (length l) next l (fresh_on l a b w)
     unfolding started_on start_answer
-    list_stopped q st k = answered (gave.Stopped q st) k
+    list_stopped q st k = answered (Err (gave.Stopped q st)) k
 
 -- ---- open
 
@@ -71,23 +70,23 @@ relisted count next l x a b w o e h =
     }) h
     ∙ ap (λ (n : ℕ). started_on n next l o) e
 
-module _ (s l a b w : List ℕ) (r : TableRead) (l' v : List ℕ) (said : TableSaid s l a b w r l' v) where
-  pub opens_numbers : (count next : ℕ) → r ≡ Numbers count next → (x : Opened) (a' b' w' : List ℕ)
-      → open_said x (take count l') a' b' w'
-      ≡ started_on (length (take count l')) next (take count l') (fresh_on (take count l') a b v)
+module _ (s l a b w : List ℕ) (r : Result TableRead Refusal) (l' v : List ℕ) (said : TableSaid s l a b w r l' v) where
+  pub opens_numbers : (read : TableRead) → r ≡ Ok read → (x : Opened) (a' b' w' : List ℕ)
+      → open_said x (take read.count l') a' b' w'
+      ≡ started_on (length (take read.count l')) read.next (take read.count l') (fresh_on (take read.count l') a b v)
       → open_said x l' a' b' w' ≡ open_input_of s l a b w
-  opens_numbers count next k x a' b' w' h =
-      let d = said_numbers s l a b w r l' v said count next k in
-      let m = length-drop next s in
+  opens_numbers read k x a' b' w' h =
+      let d = said_numbers s l a b w r l' v said read k in
+      let m = length-drop read.next s in
       let i = d.within in
-      let n : next ≡ length s - length (drop next s) = omega arith in
-      relisted count next l' x a' b' w' (fresh_on (take count l') a b v)
-      (numbers_few s l a b w count next l' v d).1 h
+      let n : read.next ≡ length s - length (drop read.next s) = omega arith in
+      relisted read.count read.next l' x a' b' w' (fresh_on (take read.count l') a b v)
+      (numbers_few s l a b w read.count read.next l' v d).1 h
       ∙ (λ i. started_on (d.size i) (n i) (d.list i)
-      (fresh_on (numbers_front s l a b w count next l' v d i) a b (d.work i)))
-      ∙ sym (open_accepted_lem s l a b w d.fit d.bytes (drop next s) d.head d.numbers d.table d.judged)
+      (fresh_on (numbers_front s l a b w read.count read.next l' v d i) a b (d.work i)))
+      ∙ sym (open_accepted_lem s l a b w d.fit d.bytes (drop read.next s) d.head d.numbers d.table d.judged)
 
-  pub opens_refused : (q : Refusal) → r ≡ table.Refused q → open_said (Refused q) l' a b v ≡ open_input_of s l a b w
+  pub opens_refused : (q : Refusal) → r ≡ Err q → open_said (Err q) l' a b v ≡ open_input_of s l a b w
   unfolding open_refused
   opens_refused q k = by q.number q.place l' v (said_refused s l a b w r l' v said q k)
     where
@@ -103,8 +102,8 @@ module _ (s l a b w : List ℕ) (r : TableRead) (l' v : List ℕ) (said : TableS
 
 pub started_within : (s l a b w : List ℕ) (r : Opened) (l' a' b' w' : List ℕ)
     → open_said r l' a' b' w' ≡ open_input_of s l a b w
-    → (st : State) (count next : ℕ) → r ≡ Started st count next → (count ≤ length l') × (next ≤ length s)
-started_within s l a b w r l' a' b' w' said st count next k =
+    → (y : Started) → r ≡ Ok y → (y.count ≤ length l') × (y.next ≤ length s)
+started_within s l a b w r l' a' b' w' said y k =
     let e = sym (ap (λ (o : OpenOutcome). o.answer) said) ∙ ap opened_said k in
-    let d = open_began s l a b w (state_of st) count next e in
-    (subst (λ (x : List ℕ). count ≤ length x) (sym (ap (λ (o : OpenOutcome). o.list) said)) d.few, d.within)
+    let d = open_began s l a b w (state_of y.state) y.count y.next e in
+    (subst (λ (x : List ℕ). y.count ≤ length x) (sym (ap (λ (o : OpenOutcome). o.list) said)) d.few, d.within)

@@ -8,4 +8,4 @@ use Rattle.line_monitor.proofs.main.Goals as goal
 pub run-requires : goal.run-requires
 run-requires c =
     let fill = c.fill in
-    (fill.auto.buffer ∙ length-replicate {A = ℕ} 16387 0, fills_part _ _ fill.ensures _ c.in-Bytes.is)
+    (fill.auto.buffer ∙ length-replicate {A = ℕ} 16387 0, fills_part _ _ fill.ensures _ c.in-Ok.is)

@@ -2,15 +2,13 @@
 --     book_none, book_more, book_unsound, book_unread    book_from by cases
 --     First, book_first, book_not_unread, book_end       a good book by its first record
 --     total_within, total_over, within_total, over_total total_of by cases, and back
---     added_within, added_over, added_again              `add`
+--     added_within, added_over, added_sum, added_again   `add`
 -- Not here: whether a record is a good one, `Book/Sound.antt`. Assumes nothing.
-use Rattle.std.specs.Prelude.{ℕ, zero, suc, ◌+◌, ◌-◌, ◌≤◌, ◌<◌, ◌≡◌, Bool, true, false, cond, List, [], ◌∷◌, length}
+use Rattle.std.specs.Prelude.{ℕ, zero, suc, ◌+◌, ◌≤◌, ◌<◌, ◌≡◌, Bool, true, false, cond, List, [], ◌∷◌, length, Option, Some, None, SomeIff}
 use Rattle.std.proofs.Common.{arith, ap, sym, ◌∙◌, length-drop, le-ltb, lt-ltb}
 use Rattle.std.proofs.Math.Decide.{dec_lt}
 use Rattle.std.proofs.Math.Path.{refl}
 use Rattle.lot_book.specs.declared.entry.Lot.{Lot}
-use Rattle.lot_book.specs.declared.judging.Total.{Total}
-use Rattle.lot_book.specs.declared.judging.Total.TheVariants.{Within, Over}
 use Rattle.lot_book.specs.Lot.{LotScan, lot, unread, read_lot}
 use Rattle.lot_book.proofs.Lots.Scans.{lot_extent}
 use Rattle.lot_book.specs.Book.{sound, Book, lots, bad, add, step, unless_none, read_book, book_from}
@@ -84,11 +82,11 @@ module _ (floor i : ℕ) (s : List ℕ) where
   book_unread h e = stepped h ∙ rw e refl
 
 -- ---- total_of, and `add`
-pub total_within : (n : ℕ) → n < 18446744073709551616 → total_of n ≡ Within n
+pub total_within : (n : ℕ) → n < 18446744073709551616 → total_of n ≡ Some n
 unfolding total_of
 total_within n h = simp (lt-ltb _ _ h)
 
-pub total_over : (n : ℕ) → 18446744073709551616 ≤ n → total_of n ≡ Over
+pub total_over : (n : ℕ) → 18446744073709551616 ≤ n → total_of n ≡ None
 unfolding total_of
 total_over n h = simp (le-ltb _ _ h)
 
@@ -96,7 +94,7 @@ pub record IsWithin (a n : ℕ) : Type 0 where
   pub same : a ≡ n
   pub small : n < 18446744073709551616
 
-pub within_total : (a n : ℕ) → Within a ≡ total_of n → IsWithin a n
+pub within_total : (a n : ℕ) → Some a ≡ total_of n → IsWithin a n
 within_total a n e = by (dec_lt n 18446744073709551616)
   where
     by : Dec (n < 18446744073709551616) → IsWithin a n
@@ -106,7 +104,7 @@ within_total a n e = by (dec_lt n 18446744073709551616)
         let z : ◌≡◌ {A = ℕ} 0 1 = cc in
         absurd (omega arith)
 
-pub over_total : (n : ℕ) → Over ≡ total_of n → 18446744073709551616 ≤ n
+pub over_total : (n : ℕ) → None ≡ total_of n → 18446744073709551616 ≤ n
 over_total n e = by (dec_lt n 18446744073709551616)
   where
     by : Dec (n < 18446744073709551616) → 18446744073709551616 ≤ n
@@ -116,21 +114,27 @@ over_total n e = by (dec_lt n 18446744073709551616)
         absurd (omega arith)
     by (no h) = omega arith
 
-pub added_within : (t : Total) (a n : ℕ) → t ≡ Within a → a + n < 18446744073709551616 → Added t n (Within (a + n))
+pub added_within : (t : Option ℕ) (a n : ℕ) → t ≡ Some a → a + n < 18446744073709551616 → Added t n (Some (a + n))
 unfolding Added
 added_within t a n e h sum f =
     let w = within_total a sum (sym e ∙ f) in
     let k = w.same in
-    sym (total_within _ (omega arith) ∙ ap Within (omega arith))
+    sym (total_within _ (omega arith) ∙ ap Some (omega arith))
 
-pub added_over : (t : Total) (a n : ℕ) → t ≡ Within a → 18446744073709551616 ≤ a + n → Added t n Over
+pub added_over : (t : Option ℕ) (a n : ℕ) → t ≡ Some a → 18446744073709551616 ≤ a + n → Added t n None
 unfolding Added
 added_over t a n e h sum f =
     let w = within_total a sum (sym e ∙ f) in
     let k = w.same in
     sym (total_over _ (omega arith))
 
-pub added_again : (t : Total) (n : ℕ) → t ≡ Over → Added t n Over
+-- the answer of `checked_add`
+pub added_sum : (t : Option ℕ) (a n : ℕ) (r : Option ℕ) → t ≡ Some a
+    → SomeIff r (a + n < 18446744073709551616) (a + n) → Added t n r
+added_sum t a n (Some b) e h = rw h.1 (added_within t a n e h.0)
+added_sum t a n None e h = added_over t a n e (omega (arith, h))
+
+pub added_again : (t : Option ℕ) (n : ℕ) → t ≡ None → Added t n None
 unfolding Added
 added_again t n e sum f = let o = over_total sum (sym e ∙ f) in sym (total_over _ (omega arith))
 

@@ -1,53 +1,14 @@
--- The tests of `sound`, in the order of the code, and as facts.
---     sound_low to sound_running      one law for each way out of the function `sound`
+-- The tests of `sound`, as facts.
 --     GoodRecord, sound_out, sound_in      what it tests, as facts
 -- Assumes nothing.
-use Rattle.std.specs.Prelude.{ℕ, ◌≤◌, ◌<◌, ◌≡◌, Bool, true, false, ◌&&◌, ◌||◌, ◌⊎◌, T, ltb, leb, eqb}
-use Rattle.std.proofs.Common.{arith, sym, ◌∙◌, inl, inr, ltb→lt, leb→le, eqb→eq}
+use Rattle.std.specs.Prelude.{ℕ, ◌≤◌, ◌<◌, ◌≡◌, Bool, true, ◌&&◌, ◌||◌, ◌⊎◌, T, ltb, leb, eqb}
+use Rattle.std.proofs.Common.{arith, inl, inr, ltb→lt, leb→le, eqb→eq}
 use Rattle.std.proofs.Math.Decide.{dec_lt}
-use borrow.Author.Tests.{le-ltb, lt-ltb, le-leb, lt-leb, eq-eqb}
+use borrow.Author.Tests.{le-ltb, lt-ltb, le-leb, eq-eqb}
 use Rattle.numbers.specs.Choice.{true_T, both, either}
 use Rattle.lot_book.specs.declared.entry.Lot.{Lot}
 use Rattle.lot_book.specs.Book.{sound}
 
--- ---- the ways out of the function
-module _ (floor : ℕ) (r : Lot) where
-  pub sound_low : r.number < floor → false ≡ sound floor r
-  unfolding sound
-  sound_low h = simp (lt-leb _ _ h)
-
-  module _ (a : floor ≤ r.number) where
-    pub sound_lot : 10000000000 ≤ r.number → false ≡ sound floor r
-    unfolding sound
-    sound_lot h = simp (le-leb _ _ a, le-ltb _ _ h)
-
-    module _ (b : r.number < 10000000000) where
-      pub sound_mark : 1 < r.mark → false ≡ sound floor r
-      unfolding sound
-      sound_mark h = simp (le-leb _ _ a, lt-ltb _ _ b, lt-leb _ _ h)
-
-      module _ (d : r.mark ≤ 1) where
-        pub sound_above : r.taken < r.place → false ≡ sound floor r
-        unfolding sound
-        sound_above h = simp (le-leb _ _ a, lt-ltb _ _ b, le-leb _ _ d, lt-leb _ _ h)
-
-        module _ (e : r.place ≤ r.taken) where
-          pub sound_place : 100000000 ≤ r.place → false ≡ sound floor r
-          unfolding sound
-          sound_place h = simp (le-leb _ _ a, lt-ltb _ _ b, le-leb _ _ d, le-leb _ _ e, le-ltb _ _ h)
-
-          module _ (f : r.place < 100000000) where
-            pub sound_failed : 0 < r.mark → true ≡ sound floor r
-            unfolding sound
-            sound_failed h =
-                simp (le-leb _ _ a, lt-ltb _ _ b, le-leb _ _ d, le-leb _ _ e, lt-ltb _ _ f, lt-ltb _ _ h)
-
-            pub sound_running : r.mark ≤ 0 → eqb r.place 0 ≡ sound floor r
-            unfolding sound
-            sound_running h =
-                simp (le-leb _ _ a, lt-ltb _ _ b, le-leb _ _ d, le-leb _ _ e, lt-ltb _ _ f, le-ltb _ _ h)
-
--- ---- what it tests
 pub record GoodRecord (floor : ℕ) (r : Lot) : Type 0 where
   pub above : floor ≤ r.number
   pub lot_fits : r.number < 10000000000
@@ -84,11 +45,28 @@ sound_out floor r e =
     unmarked (inr h) z = eqb→eq r.place 0 h
 
 pub sound_in : (floor : ℕ) (r : Lot) → GoodRecord floor r → sound floor r ≡ true
+unfolding sound
 sound_in floor r h = by (dec_lt 0 r.mark)
   where
     by : Dec (0 < r.mark) → sound floor r ≡ true
-    by (yes m) = sym (sound_failed floor r h.above h.lot_fits h.marked h.reached h.place_fits m)
+    by (yes m) =
+        simp (
+          le-leb _ _ h.above,
+          lt-ltb _ _ h.lot_fits,
+          le-leb _ _ h.marked,
+          le-leb _ _ h.reached,
+          lt-ltb _ _ h.place_fits,
+          lt-ltb _ _ m,
+        )
     by (no m) =
         let z : r.mark ≡ 0 = omega arith in
-        sym (sound_running floor r h.above h.lot_fits h.marked h.reached h.place_fits (omega arith))
-        ∙ eq-eqb _ _ (h.running z)
+        let n : r.mark ≤ 0 = omega arith in
+        simp (
+          le-leb _ _ h.above,
+          lt-ltb _ _ h.lot_fits,
+          le-leb _ _ h.marked,
+          le-leb _ _ h.reached,
+          lt-ltb _ _ h.place_fits,
+          le-ltb _ _ n,
+          eq-eqb _ _ (h.running z),
+        )

@@ -2,33 +2,31 @@
 --     no_number, no_taken, no_mark, no_place, whole    the ways out of `lot_at`
 --     lot_stands, lot_unread                           each answer of entry_at, as a scan of the bytes
 -- Assumes nothing.
-use Rattle.std.specs.Prelude.{ℕ, ◌+◌, ◌-◌, ◌≤◌, ◌<◌, ◌≡◌, List, length, drop}
+use Rattle.std.specs.Prelude.{ℕ, ◌+◌, ◌-◌, ◌≤◌, ◌<◌, ◌≡◌, List, length, drop, Option, Some, None}
 use Rattle.std.proofs.Common.{arith, ap, sym, ◌∙◌, subst, length-drop, drop-drop}
 use Rattle.std.proofs.Math.Path.{refl}
-use Rattle.lot_book.specs.declared.number.Number.TheVariants as number
 use Rattle.lot_book.specs.declared.entry.Lot.{Lot}
-use Rattle.lot_book.specs.declared.entry.Entry.TheVariants.{Record, Unread}
 use Rattle.lot_book.specs.Number.{number_at}
 use Rattle.lot_book.proofs.NumberLaws.{number_stands, number_unread}
 use Rattle.lot_book.specs.Lot.{LotScan, lot, unread, and_then, read_lot, found_lot, entry_at}
 use Rattle.lot_book.proofs.Lots.Scans.{lot_extent, none_then}
 
 -- ---- the ways out of `lot_at`
-record_path : (r : Lot) (p q : ℕ) → p ≡ q → Record r p ≡ Record r q
+record_path : (r : Lot) (p q : ℕ) → p ≡ q → ◌≡◌ {A = Option (Lot × ℕ)} (Some (r, p)) (Some (r, q))
 record_path r p q e = cc
 
 module _ (s : List ℕ) (at : ℕ) where
-  pub no_number : number.Unread ≡ number_at s at → Unread ≡ entry_at s at
+  pub no_number : None ≡ number_at s at → None ≡ entry_at s at
   unfolding entry_at read_lot found_lot
   no_number e = rw (none_then _ _ (number_unread s at e)) refl
 
-  module _ (v p : ℕ) (e : number.Value v p ≡ number_at s at) where
-    pub no_taken : number.Unread ≡ number_at s p → Unread ≡ entry_at s at
+  module _ (v p : ℕ) (e : Some (v, p) ≡ number_at s at) where
+    pub no_taken : None ≡ number_at s p → None ≡ entry_at s at
     unfolding entry_at read_lot and_then found_lot
     no_taken f = rw ((number_stands s at v p e).scan, none_then _ _ (number_unread s p f)) refl
 
-    module _ (w q : ℕ) (f : number.Value w q ≡ number_at s p) where
-      pub no_mark : number.Unread ≡ number_at s q → Unread ≡ entry_at s at
+    module _ (w q : ℕ) (f : Some (w, q) ≡ number_at s p) where
+      pub no_mark : None ≡ number_at s q → None ≡ entry_at s at
       unfolding entry_at read_lot and_then found_lot
       no_mark g =
           rw (
@@ -38,8 +36,8 @@ module _ (s : List ℕ) (at : ℕ) where
           )
           refl
 
-      module _ (m r : ℕ) (g : number.Value m r ≡ number_at s q) where
-        pub no_place : number.Unread ≡ number_at s r → Unread ≡ entry_at s at
+      module _ (m r : ℕ) (g : Some (m, r) ≡ number_at s q) where
+        pub no_place : None ≡ number_at s r → None ≡ entry_at s at
         unfolding entry_at read_lot and_then found_lot
         no_place h =
             rw (
@@ -50,8 +48,8 @@ module _ (s : List ℕ) (at : ℕ) where
             )
             refl
 
-        pub whole : (c t : ℕ) → number.Value c t ≡ number_at s r
-            → Record (record { number = v; taken = w; mark = m; place = c }) t ≡ entry_at s at
+        pub whole : (c t : ℕ) → Some (c, t) ≡ number_at s r
+            → Some (record { number = v; taken = w; mark = m; place = c }, t) ≡ entry_at s at
         unfolding entry_at read_lot and_then found_lot
         whole c t h =
             let a = number_stands s at v p e in
@@ -71,11 +69,12 @@ pub record LotStands (s : List ℕ) (at : ℕ) (r : Lot) (q : ℕ) : Type 0 wher
   pub within : q ≤ length s
 
 lot_stands_of : (s : List ℕ) (at : ℕ) (r : Lot) (q : ℕ) (x : LotScan) → x ≡ read_lot (drop at s)
-    → Record r q ≡ found_lot at x → LotStands s at r q
+    → Some (r, q) ≡ found_lot at x → LotStands s at r q
 unfolding found_lot
 lot_stands_of s at r q (lot w n rest) h e =
-    let k : q ≡ at + n = cc in
-    let same : w ≡ r = cc in
+    let both : ◌≡◌ {A = Lot × ℕ} (r, q) (w, at + n) = cc in
+    let k : q ≡ at + n = ap (λ (x : Lot × ℕ). x.1) both in
+    let same : w ≡ r = sym (ap (λ (x : Lot × ℕ). x.0) both) in
     let x = lot_extent (drop at s) w n rest (sym h) in
     let some : 1 ≤ n = x.some in
     let within : n ≤ length s - at = subst (λ (m : ℕ). n ≤ m) (length-drop at s) x.within in
@@ -88,15 +87,15 @@ lot_stands_of s at r q (lot w n rest) h e =
     }
 lot_stands_of s at r q unread h e = let z : ◌≡◌ {A = ℕ} 0 1 = cc in absurd (omega arith)
 
-pub lot_stands : (s : List ℕ) (at : ℕ) (r : Lot) (q : ℕ) → Record r q ≡ entry_at s at → LotStands s at r q
+pub lot_stands : (s : List ℕ) (at : ℕ) (r : Lot) (q : ℕ) → Some (r, q) ≡ entry_at s at → LotStands s at r q
 unfolding entry_at
 lot_stands s at r q e = lot_stands_of s at r q (read_lot (drop at s)) refl e
 
-lot_unread_of : (at : ℕ) (x : LotScan) → Unread ≡ found_lot at x → x ≡ unread
+lot_unread_of : (at : ℕ) (x : LotScan) → None ≡ found_lot at x → x ≡ unread
 unfolding found_lot
 lot_unread_of at (lot w n rest) e = let z : ◌≡◌ {A = ℕ} 0 1 = cc in absurd (omega arith)
 lot_unread_of at unread e = refl
 
-pub lot_unread : (s : List ℕ) (at : ℕ) → Unread ≡ entry_at s at → read_lot (drop at s) ≡ unread
+pub lot_unread : (s : List ℕ) (at : ℕ) → None ≡ entry_at s at → read_lot (drop at s) ≡ unread
 unfolding entry_at
 lot_unread s at e = lot_unread_of at (read_lot (drop at s)) e

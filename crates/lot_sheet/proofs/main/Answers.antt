@@ -8,4 +8,4 @@ use Rattle.lot_sheet.proofs.main.Goals as goal
 pub answer-requires : goal.answer-requires
 answer-requires c =
     let fill = c.fill in
-    (fill.auto.buffer ∙ length-replicate {A = ℕ} 65537 0, fills_part _ _ fill.ensures _ c.in-Bytes.is)
+    (fill.auto.buffer ∙ length-replicate {A = ℕ} 65537 0, fills_part _ _ fill.ensures _ c.in-Ok.is)

@@ -1,46 +1,35 @@
 -- What is told, by the ways out of the code.
---     refused_bad, refused_over     of a refusal
 --     told_given, told_refused      of a whole book
 --     tell_whole, tell_long         by whether the book was read whole
 --     tell_fits, fits_sheet         a sheet's bytes stand in the text
 -- Assumes nothing.
-use Rattle.std.specs.Prelude.{ℕ, ◌≤◌, ◌≡◌, refl, Bool, true, false, cond, List, ◌++◌, length, drop, eqb, ltb}
-use Rattle.std.proofs.Common.{arith, subst, ◌∙◌, eq-eqb, ne_eqb, ltb-false}
+use Rattle.std.specs.Prelude.{ℕ, ◌≤◌, ◌≡◌, refl, Bool, true, false, cond, List, ◌++◌, length, drop, ltb, Result, Ok, Err}
+use Rattle.std.proofs.Common.{arith, subst, ◌∙◌, ltb-false}
 use Rattle.std.proofs.Math.Path.{ap, sym}
 use Rattle.table.specs.declared.answer.Refusal.{Refusal}
 use Rattle.lot_book.specs.declared.entry.Lot.{Lot}
 use Rattle.lot_book.specs.Book.{Book, lots, bad, book_of, taken_sum}
-use Rattle.sheet_spec.specs.declared.answer.Sheet as answer
-use Rattle.sheet_spec.specs.declared.answer.Sheet.TheVariants as gave
 use Rattle.sheet_spec.specs.Sheet.{Outcome, given, refused, sheet_of, outcome_of, printed, sheet_text, sheet_size}
 use Rattle.sheet_spec.specs.Sheet as operation
-use Rattle.lot_sheet.specs.declared.office.Reply.{Reply}
-use Rattle.lot_sheet.specs.declared.office.Reply.TheVariants.{Sheet, BadRecord, TotalOver, TooLong}
+use Rattle.lot_sheet.specs.declared.office.NoSheet.{NoSheet}
+use Rattle.lot_sheet.specs.declared.office.NoSheet.TheVariants.{TooLong}
 use Rattle.lot_sheet.specs.Reply.{TellOutcome, tell_said, refused_as, tell_book, tell_of, Fits}
-
-pub refused_bad : (q : Refusal) → q.number ≡ 14 → BadRecord q.place ≡ refused_as q.number q.place
-unfolding refused_as
-refused_bad q e = rw (eq-eqb q.number 14 e)
-
-pub refused_over : (q : Refusal) → (q.number ≡ 14 → ⊥) → TotalOver ≡ refused_as q.number q.place
-unfolding refused_as
-refused_over q e = rw (ne_eqb q.number 14 e)
 
 -- ---- a whole book
 
-module _ (book text text' : List ℕ) (x : answer.Sheet) (says : operation.sheet_outcome x text' ≡ sheet_of book text) where
-  answered : (y : answer.Sheet) → x ≡ y → tell_book (operation.sheet_outcome y text') ≡ tell_of true book text
+module _ (book text text' : List ℕ) (x : Result ℕ Refusal) (says : operation.sheet_outcome x text' ≡ sheet_of book text) where
+  answered : (y : Result ℕ Refusal) → x ≡ y → tell_book (operation.sheet_outcome y text') ≡ tell_of true book text
   unfolding tell_of
-  answered y e = sym (ap (λ (z : answer.Sheet). tell_book (operation.sheet_outcome z text')) e) ∙ ap tell_book says
+  answered y e = sym (ap (λ (z : Result ℕ Refusal). tell_book (operation.sheet_outcome z text')) e) ∙ ap tell_book says
 
-  pub told_given : (n : ℕ) → x ≡ gave.Given n → tell_said (Sheet n) text' ≡ tell_of true book text
+  pub told_given : (n : ℕ) → x ≡ Ok n → tell_said (Ok n) text' ≡ tell_of true book text
   unfolding tell_book
-  told_given n e = answered (gave.Given n) e
+  told_given n e = answered (Ok n) e
 
-  pub told_refused : (q : Refusal) → x ≡ gave.Refused q → (r : Reply) → r ≡ refused_as q.number q.place
-      → tell_said r text' ≡ tell_of true book text
+  pub told_refused : (q : Refusal) → x ≡ Err q → (e : NoSheet) → e ≡ refused_as q.number q.place
+      → tell_said (Err e) text' ≡ tell_of true book text
   unfolding tell_book
-  told_refused q e r h = ap (λ (y : Reply). tell_said y text') h ∙ answered (gave.Refused q) e
+  told_refused q e r h = ap (λ (y : NoSheet). tell_said (Err y) text') h ∙ answered (Err q) e
 
 -- ---- by whether the book was read whole
 
@@ -48,7 +37,7 @@ pub tell_whole : (last : Bool) → last ≡ true → (s text : List ℕ) (o : Te
     → o ≡ tell_of last s text
 tell_whole last e s text o h = h ∙ ap (λ (x : Bool). tell_of x s text) (sym e)
 
-pub tell_long : (last : Bool) → last ≡ false → (s text : List ℕ) → tell_said TooLong text ≡ tell_of last s text
+pub tell_long : (last : Bool) → last ≡ false → (s text : List ℕ) → tell_said (Err TooLong) text ≡ tell_of last s text
 unfolding tell_of
 tell_long last e s text = ap (λ (x : Bool). tell_of x s text) (sym e)
 
@@ -59,12 +48,8 @@ Fitting : Outcome → List ℕ → Type 0
 Fitting o text = Fits (tell_book o).told text
 
 refused_fits : (n at : ℕ) (out text : List ℕ) → Fitting (refused n at out) text
-unfolding Fitting tell_book refused_as
-refused_fits n at out text = go (eqb n 14)
-  where
-    go : (x : Bool) → Fits (cond x (BadRecord at) TotalOver) text
-    go true = tt
-    go false = tt
+unfolding Fitting tell_book
+refused_fits n at out text = tt
 
 printed_fits : (rs : List Lot) (text : List ℕ) → Fitting (printed rs text) text
 unfolding printed Fitting tell_book
@@ -93,18 +78,16 @@ unfolding tell_of sheet_of Fitting
 fits false s text = tt
 fits true s text = book_fits (book_of s) text
 
-as_long : (r : Reply) (text text' : List ℕ) → length text' ≡ length text → Fits r text → Fits r text'
-as_long (Sheet n) text text' e h = omega arith
-as_long (BadRecord i) text text' e h = tt
-as_long TotalOver text text' e h = tt
-as_long TooLong text text' e h = tt
+as_long : (r : Result ℕ NoSheet) (text text' : List ℕ) → length text' ≡ length text → Fits r text → Fits r text'
+as_long (Ok n) text text' e h = omega arith
+as_long (Err x) text text' e h = tt
 
-pub tell_fits : (r : Reply) (text' : List ℕ) (last : Bool) (s text : List ℕ) → tell_said r text' ≡ tell_of last s text
+pub tell_fits : (r : Result ℕ NoSheet) (text' : List ℕ) (last : Bool) (s text : List ℕ) → tell_said r text' ≡ tell_of last s text
     → length text' ≡ length text → Fits r text'
 tell_fits r text' last s text h e =
     let told = ap (λ (o : TellOutcome). o.told) h in
-    as_long r text text' e (subst (λ (x : Reply). Fits x text) (sym told) (fits last s text))
+    as_long r text text' e (subst (λ (x : Result ℕ NoSheet). Fits x text) (sym told) (fits last s text))
 
 -- of what fits, the part that is printed
-pub fits_sheet : (told : Reply) (text : List ℕ) → Fits told text → (n : ℕ) → told ≡ Sheet n → n ≤ length text
-fits_sheet told text h n e = subst (λ (x : Reply). Fits x text) e h
+pub fits_sheet : (told : Result ℕ NoSheet) (text : List ℕ) → Fits told text → (n : ℕ) → told ≡ Ok n → n ≤ length text
+fits_sheet told text h n e = subst (λ (x : Result ℕ NoSheet). Fits x text) e h

@@ -1,11 +1,12 @@
 -- Between the areas and the sets kept.
 --     zeroed_room, laid_room       both areas have room for a set, and for what they hold
 --     found_old, found_new         the set of an area is one that is kept; it is kept as one more
+--     found_same, found_more       the same, of the sets as one value
 --     picked_even, picked_odd      the same of the present area, by the parity of the events taken
 --     laid_in                      a set is laid into an area
 --     laid_even, laid_odd          the same, into the present area
 -- Assumes nothing.
-use Rattle.std.specs.Prelude.{ℕ, suc, ◌+◌, ◌*◌, ◌%◌, ◌≤◌, ◌<◌, ◌≡◌, List, [], ◌++◌, length, get_or, drop, replicate}
+use Rattle.std.specs.Prelude.{ℕ, suc, ◌+◌, ◌*◌, ◌%◌, ◌≤◌, ◌<◌, ◌≡◌, List, [], ◌++◌, length, get_or, drop, replicate, Option, Some, None}
 use Rattle.std.proofs.Common.{arith, ap₂, subst, ◌∙◌, length-drop}
 use Rattle.std.proofs.Math.Path.{refl, ap, sym}
 use Rattle.numbers.specs.Every.{All}
@@ -25,11 +26,11 @@ use Rattle.monitor_spec.proofs.Consistent.Reading.{length_chunks}
 use Rattle.state.specs.declared.record.State.{State}
 use Rattle.state.specs.Record.{state_of, monitor_of}
 use Rattle.monitor_spec.specs.Holds.{AreaHolds}
-use Rattle.met_sets.specs.declared.pick.Pick.{Pick}
-use Rattle.met_sets.specs.declared.pick.Pick.TheVariants.{Set, Full}
+use Rattle.met_sets.specs.declared.sets.MetSets.{MetSets}
 use Rattle.met_sets.specs.Sets.{count_at, slots_at, Shape, SetStands, Met, KeptBy}
 use Rattle.met_sets.specs.Sets.Words.{laid_words}
 use Rattle.met_sets.specs.Sets.Laws.{words_inside}
+use Rattle.met_sets.specs.Value.{MetIn, Keeps}
 use Rattle.met_sets.specs.Sets.Added.{slots_old, slots_new, met_kept}
 use Rattle.met_sets.specs.Runs.{monitor_at, SetFound, FoundAs, FoundBy, Zeroed, PickedAs}
 use Rattle.met_sets.specs.Runs.{LaidIn, LaidBy}
@@ -96,6 +97,17 @@ module _ {t : Table} (regular : Regular t) {area : List ℕ} {c : ℕ} (h : Area
           zeroed = z ∙ area_cleared;
         }
 
+  module _ {v : MetSets} (met : MetIn t h.slots v) {area' : List ℕ}
+      (z : area' ≡ replicate (c * 16) 0 ++ drop (c * 16) area) where
+    pub found_same : (n : ℕ) → (n < v.count) × (slots_at v.sets v.starts n ≡ chunks c area)
+        → FoundAs t h.slots v area c (Some n) v area'
+    found_same n p = (refl, found_old met.met z n p.0 p.1)
+
+    pub found_more : v.count < 63 → get_or v.starts v.count 0 + c ≤ 104 → suc v.count * v.alphabet ≤ 2560
+        → {v' : MetSets} → Keeps v area c v' → FoundAs t h.slots v area c (Some v.count) v' area'
+    found_more few room rows p =
+        (p.alphabet_is, rw p.count_is (found_new met.met z met.alphabet_is few room rows p.kept))
+
 -- ---- the present area
 
 module _ {t : Table} (regular : Regular t) {cap : ℕ} (s : State) (a b : List ℕ) (l : Laid t cap (monitor_of s a b)) where
@@ -130,52 +142,54 @@ module _ {t : Table} (regular : Regular t) {cap : ℕ} (s : State) (a b : List �
         number = l.sensible.counted;
       }
 
-  module _ (k : ℕ) (sets starts next p : List ℕ) (w : p ≡ fill cap (slots_of residuals)) where
+  module _ (v : MetSets) (p : List ℕ) (w : p ≡ fill cap (slots_of residuals)) where
     picked_counted : {n k' : ℕ} {sets' starts' next' p' : List ℕ}
-        → SetFound t cap k sets starts (chunks s.count p) n k' sets' starts' next' p' → s.count ≡ count_at starts' n
+        → SetFound t cap v.count v.sets v.starts (chunks s.count p) n k' sets' starts' next' p'
+        → s.count ≡ count_at starts' n
     picked_counted {n} {k'} {sets'} {starts'} g =
         sym (length_chunks s.count p) ∙ ap length g.same ∙ length_slots_at sets' starts' n
 
     picked_same : {n k' : ℕ} {sets' starts' next' p' : List ℕ}
-        → SetFound t cap k sets starts (chunks s.count p) n k' sets' starts' next' p'
+        → SetFound t cap v.count v.sets v.starts (chunks s.count p) n k' sets' starts' next' p'
         → monitor_of s a b ≡ laid cap (state_of s) (slots_at sets' starts' n)
     unfolding holds laid
     picked_same g =
         l.same ∙ ap (laid cap (state_of s)) (sym (area_slots regular (holds p w)) ∙ g.same)
 
     -- the areas afterwards are a' and b', of which one was p
-    picked_as : (r : Pick) (sets' starts' next' p' a' b' : List ℕ)
-        → FoundAs t cap k sets starts next p s.count r sets' starts' next' p'
+    picked_as : (r : Option ℕ) (v' : MetSets) (p' a' b' : List ℕ) → FoundAs t cap v p s.count r v' p'
         → (p' ≡ fill cap [] → Zeroed cap a' b') → (p' ≡ p → (a' ≡ a) × (b' ≡ b))
-        → PickedAs t cap k sets starts next (monitor_of s a b) r sets' starts' next' a' b'
-    picked_as (Set n k') sets' starts' next' p' a' b' g z y =
-        record {
-          met = g.met;
-          inside = g.inside;
-          more = g.more;
-          counted = picked_counted g;
-          same = picked_same g;
-          kept = g.kept;
-          zeroed = z g.zeroed;
-        }
-    picked_as Full sets' starts' next' p' a' b' g z y = let (u, v) = y g.1 in (g.0, u, v)
+        → PickedAs t cap v (monitor_of s a b) r v' a' b'
+    picked_as (Some n) v' p' a' b' f z y =
+        let g = f.1 in (
+          f.0,
+          record {
+            met = g.met;
+            inside = g.inside;
+            more = g.more;
+            counted = picked_counted g;
+            same = picked_same g;
+            kept = g.kept;
+            zeroed = z g.zeroed;
+          },
+        )
+    picked_as None v' p' a' b' g z y = let (x₀, x₁) = y g.1 in (g.0, x₀, x₁)
 
-  module _ (A k : ℕ) (sets starts next : List ℕ) (met : Met t cap k sets starts next) (e : t.alphabet ≡ A)
-      (r : Pick) (sets' starts' next' p' : List ℕ) where
-    pub picked_even : s.taken % 2 ≡ 0 → FoundBy A k sets starts next a s.count r sets' starts' next' p'
-        → PickedAs t cap k sets starts next (monitor_of s a b) r sets' starts' next' p' b
+  module _ (v : MetSets) (met : MetIn t cap v) (r : Option ℕ) (v' : MetSets) (p' : List ℕ) where
+    pub picked_even : s.taken % 2 ≡ 0 → FoundBy v a s.count r v' p'
+        → PickedAs t cap v (monitor_of s a b) r v' p' b
     unfolding FoundBy holds
     picked_even h g =
         let w = area0_is ∙ present_even s.taken _ _ h in
-        picked_as k sets starts next a w r sets' starts' next' p' p' b (g t regular e (holds a w) met)
+        picked_as v a w r v' p' p' b (g t regular (holds a w) met)
         (λ z. record { first = z; second = area1_is ∙ present_even s.taken _ _ h }) (λ z. (z, refl))
 
-    pub picked_odd : (s.taken % 2 ≡ 0 → ⊥) → FoundBy A k sets starts next b s.count r sets' starts' next' p'
-        → PickedAs t cap k sets starts next (monitor_of s a b) r sets' starts' next' a p'
+    pub picked_odd : (s.taken % 2 ≡ 0 → ⊥) → FoundBy v b s.count r v' p'
+        → PickedAs t cap v (monitor_of s a b) r v' a p'
     unfolding FoundBy holds
     picked_odd h g =
         let w = area1_is ∙ present_odd s.taken _ _ h in
-        picked_as k sets starts next b w r sets' starts' next' p' a p' (g t regular e (holds b w) met)
+        picked_as v b w r v' p' a p' (g t regular (holds b w) met)
         (λ z. record { first = area0_is ∙ present_odd s.taken _ _ h; second = z }) (λ z. (refl, z))
 
 -- ---- a set laid out

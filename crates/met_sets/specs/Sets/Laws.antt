@@ -1,8 +1,9 @@
 -- Sets kept: within the room; none, and one transition more.
+--     Shape-prop                      the sizes and bounds have one proof at most
 --     row_inside, row_fits            the row of a set is within the bytes
 --     shape_stands, words_inside      the slots of a set are within the words
 --     found_slots                     a set that has the words of an area
---     shape_none, first_start, met_none    no set
+--     shape_none, first_start, shape_forgotten, met_none    no set
 --     link_inside, met_linked         a transition more
 -- One set more is in `Added.antt`. Assumes nothing.
 use Rattle.std.specs.Prelude.{ℕ, suc, ◌+◌, ◌*◌, ◌≤◌, ◌<◌, ◌≡◌, List, length, get_or, set, take, drop}
@@ -10,10 +11,16 @@ use Rattle.std.proofs.Common.{arith, mul-le-mul_right, sym, subst, ◌∙◌, le
 use Rattle.std.proofs.Math.Decide.{dec_lt, ℕ_discrete}
 use Rattle.std.proofs.Math.Path.{ap}
 use Rattle.std.proofs.Math.ListN.{length-drop}
+use Rattle.std.proofs.Props.{props}
 use Rattle.table.specs.Table.{Table}
 use Rattle.monitor_spec.specs.State.{chunks}
 use Rattle.met_sets.specs.Sets.{count_at, slots_at, Shape, SetStands, Leads, Met}
 use Rattle.met_sets.specs.Sets.Words.{chunks_same}
+
+-- ---- a proposition
+
+pub Shape-prop : (A k : ℕ) (sets starts next : List ℕ) → IsProp (Shape A k sets starts next)
+Shape-prop A k sets starts next = Prim.hlevel props
 
 -- ---- within the room
 
@@ -68,6 +75,12 @@ shape_none A sets starts next a x y z r =
 
 pub first_start : (starts : List ℕ) → length starts ≡ 64 → get_or (set starts 0 0) 0 0 ≤ 104
 first_start starts h = let e = get_or-set_same starts 0 0 0 (omega arith) in omega arith
+
+pub shape_forgotten : {A k : ℕ} {sets starts next : List ℕ} → Shape A k sets starts next
+    → Shape A 0 sets (set starts 0 0) next
+shape_forgotten {A} {k} {sets} {starts} {next} s =
+    shape_none A sets (set starts 0 0) next s.small s.set_words (length-set starts 0 0 ∙ s.start_places) s.next_bytes
+    (first_start starts s.start_places)
 
 pub met_none : (t : Table) (cap : ℕ) (sets starts next : List ℕ) → t.alphabet ≤ 128 → length sets ≡ 1664
     → length starts ≡ 64 → length next ≡ 2560 → get_or starts 0 0 ≤ 104 → Met t cap 0 sets starts next

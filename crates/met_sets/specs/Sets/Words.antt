@@ -1,19 +1,22 @@
--- Words copied one by one, and what is read from them.
+-- Words copied, one by one or at once, and what is read from them.
 --     copy_step                    words copied, word by word
 --     same_step                    words compared, word by word
 --     forget_step                  words zeroed, word by word
+--     stored_part, stored_zeros    a part written at once: by the first words of another list; by zeros
 --     stored_before, stored_inside  a word before those copied, and one of them
 --     chunks_same                  slots by their words
 --     chunks_agree                 the same, word by word
 --     laid_words                   slots copied into an area of zeros
 -- Assumes nothing.
 use Rattle.std.specs.Prelude.{ℕ, zero, suc, ◌+◌, ◌-◌, ◌*◌, ◌≤◌, ◌<◌, ◌≡◌, refl, set, drop, replicate}
-use Rattle.std.proofs.Common.{arith, ap₂, sym, ◌∙◌, length-append, length-drop, take-suc, get_or-drop, take-take, take-add, take_at, drop_at, ext_get_or}
+use Rattle.std.proofs.Common.{arith, ap₂, sym, ◌∙◌, length-append, length-drop, take-suc, get_or-drop, take-take, take_all, take-add, take_at, drop_at, ext_get_or}
 use Rattle.std.proofs.Math.Path.{ap}
 use mathlib.Core.List.{List, [], ◌∷◌, ◌++◌, flatten}
 use Rattle.std.proofs.Math.ListN.{length, get_or, take, get_or-append}
 use Rattle.std.proofs.lemmas.List.{length-replicate, get_or-replicate, replicate-append-replicate}
 use Rattle.std.proofs.Math.Seq.{get_or-take, get_or-append-add, length-take-le, length_paste_head}
+use Rattle.std.proofs.lemmas.Slice.{put_mid-paste}
+use borrow.Rule.Slice.PartMut.{mid_of, put_mid}
 use Rattle.monitor_spec.specs.State.{chunks, fill}
 use Rattle.slots.specs.Insertion.{stored}
 use Rattle.slots.proofs.Insertion.Gap.{stored_step}
@@ -41,6 +44,23 @@ pub forget_step : (d : List ℕ) (r A e k : ℕ) → k ≡ suc e → r + e < len
 forget_step d r A e k q h l =
     ap (set (stored d r (replicate A 0) e) (r + e)) (sym (get_or-replicate A e 0 0 l))
     ∙ stored_step d r (replicate A 0) e k q h (omega (arith, length-replicate {A = ℕ} A 0))
+
+-- ---- at once
+
+pub stored_part : (d s ys : List ℕ) (q k n : ℕ) → k ≡ n → n ≤ length s → ys ≡ take n s
+    → put_mid q k d ys ≡ stored d q s n
+unfolding stored
+stored_part d s ys q k n e l w =
+    put_mid-paste q k d ys (take n s) n w (sym e) (sym (length-take-le n s l))
+    ∙ ap (λ (x : List ℕ). (take q d ++ x) ++ drop (q + n) d) (take-take n n s (omega arith))
+
+pub stored_zeros : (d ys : List ℕ) (q k n : ℕ) → k ≡ n → q + n ≤ length d → ys ≡ replicate (length (mid_of q k d)) 0
+    → put_mid q k d ys ≡ stored d q (replicate n 0) n
+stored_zeros d ys q k n e h w =
+    let l = length-take-le k (drop q d) (omega (arith, length-drop q d)) in
+    let z = length-replicate {A = ℕ} n 0 in
+    stored_part d (replicate n 0) ys q k n e (omega (arith, z))
+    (w ∙ ap (λ (j : ℕ). replicate j 0) (l ∙ e) ∙ sym (take_all n (replicate n 0) (omega (arith, z))))
 
 -- ---- what is read
 

@@ -5,8 +5,13 @@
 -- Not here: the same by the cases of the code, `Position/Reads.antt` and `Position/Writes.antt`. Assumes nothing.
 use Rattle.std.specs.Prelude.{ℕ, zero, suc, ◌+◌, ◌≤◌, ◌<◌, ◌≡◌, refl, Bool, true, false, cond, ◌↔◌, List, [], ◌∷◌, ◌++◌, length, take, drop, leb}
 use Rattle.std.proofs.Common.{arith, leb-true, leb-false}
-use Rattle.numbers.specs.declared.Reading.TheVariants.{Value, Truncated, Malformed}
-use Rattle.numbers.specs.declared.Written.TheVariants.{Next, Full}
+use Rattle.std.specs.declared.option.Option.{Option}
+use Rattle.std.specs.declared.option.Option.TheVariants.{Some, None}
+use Rattle.std.specs.declared.result.Result.{Result}
+use Rattle.std.specs.declared.result.Result.TheVariants.{Ok, Err}
+use Rattle.numbers.specs.declared.Reading.{Reading}
+use Rattle.numbers.specs.declared.ReadError.{ReadError}
+use Rattle.numbers.specs.declared.ReadError.TheVariants.{Truncated, Malformed}
 use Rattle.numbers.specs.Number.{Bytes, bytes_of, Scan, value, truncated, malformed, read_number}
 use Rattle.numbers.specs.Number.{Incomplete, IllWritten}
 use Rattle.numbers.specs.Number.Extent.{Found, ReadsAt, scan_at}
@@ -15,33 +20,35 @@ use Rattle.numbers.specs.Position.{found, refusal_number, read_at, end_at, store
 
 -- ---- read_at
 -- each answer, over every scan x of the bytes at the position
-value_found : (at v q : ℕ) (x : Scan) → Value v q ≡ found at x → Found at v q x
+value_found : (at : ℕ) (r : Reading) (x : Scan) → Ok r ≡ found at x → Found at r.value r.next x
 unfolding found
-value_found at v q (value w n rest) e = record { n = n; rest = rest; scan = cc; next = cc }
-value_found at v q truncated e = let z : ◌≡◌ {A = ℕ} 0 1 = cc in absurd (omega arith)
-value_found at v q malformed e = let z : ◌≡◌ {A = ℕ} 0 1 = cc in absurd (omega arith)
+value_found at r (value w n rest) e =
+    let k : r ≡ record { value = w; next = at + n } = cc in
+    rw k (record { n = n; rest = rest; scan = refl; next = refl })
+value_found at r truncated e = let z : ◌≡◌ {A = ℕ} 0 1 = cc in absurd (omega arith)
+value_found at r malformed e = let z : ◌≡◌ {A = ℕ} 0 1 = cc in absurd (omega arith)
 
-truncated_found : (at : ℕ) (x : Scan) → Truncated ≡ found at x → x ≡ truncated
+truncated_found : (at : ℕ) (x : Scan) → Err Truncated ≡ found at x → x ≡ truncated
 unfolding found
 truncated_found at (value w n rest) e = let z : ◌≡◌ {A = ℕ} 0 1 = cc in absurd (omega arith)
 truncated_found at truncated e = refl
 truncated_found at malformed e = let z : ◌≡◌ {A = ℕ} 0 1 = cc in absurd (omega arith)
 
-malformed_found : (at : ℕ) (x : Scan) → Malformed ≡ found at x → x ≡ malformed
+malformed_found : (at : ℕ) (x : Scan) → Err Malformed ≡ found at x → x ≡ malformed
 unfolding found
 malformed_found at (value w n rest) e = let z : ◌≡◌ {A = ℕ} 0 1 = cc in absurd (omega arith)
 malformed_found at truncated e = let z : ◌≡◌ {A = ℕ} 0 1 = cc in absurd (omega arith)
 malformed_found at malformed e = refl
 
-pub value_read : (l : List ℕ) (at v q : ℕ) → Value v q ≡ read_at l at → ReadsAt read_number l at v q
+pub value_read : (l : List ℕ) (at : ℕ) (r : Reading) → Ok r ≡ read_at l at → ReadsAt read_number l at r.value r.next
 unfolding read_at read_number
-value_read l at v q e = scan_at 2 3 l at v q (value_found at v q (read_number (drop at l)) e)
+value_read l at r e = scan_at 2 3 l at r.value r.next (value_found at r (read_number (drop at l)) e)
 
-pub truncated_read : (l : List ℕ) (at : ℕ) → Truncated ≡ read_at l at → read_number (drop at l) ≡ truncated
+pub truncated_read : (l : List ℕ) (at : ℕ) → Err Truncated ≡ read_at l at → read_number (drop at l) ≡ truncated
 unfolding read_at
 truncated_read l at e = truncated_found at (read_number (drop at l)) e
 
-pub malformed_read : (l : List ℕ) (at : ℕ) → Malformed ≡ read_at l at → read_number (drop at l) ≡ malformed
+pub malformed_read : (l : List ℕ) (at : ℕ) → Err Malformed ≡ read_at l at → read_number (drop at l) ≡ malformed
 unfolding read_at
 malformed_read l at e = malformed_found at (read_number (drop at l)) e
 
@@ -83,12 +90,12 @@ pub record Put (l : List ℕ) (at v q : ℕ) : Type 0 where
   pub within : q ≤ length l
   pub output : stored_at l at v ≡ take at l ++ (bytes_of v ++ drop q l)
 
-pub next_stored : (l : List ℕ) (at v q : ℕ) → Next q ≡ end_at l at v → Put l at v q
+pub next_stored : (l : List ℕ) (at v q : ℕ) → Some q ≡ end_at l at v → Put l at v q
 unfolding end_at stored_at
 next_stored l at v q = by_room (leb (at + length (bytes_of v)) (length l)) refl
   where
     by_room : (b : Bool) → leb (at + length (bytes_of v)) (length l) ≡ b
-        → Next q ≡ cond b (Next (at + length (bytes_of v))) Full → Put l at v q
+        → Some q ≡ cond b (Some (at + length (bytes_of v))) None → Put l at v q
     by_room true t e =
         let k : q ≡ at + length (bytes_of v) = cc in
         let h : at + length (bytes_of v) ≤ length l = leb-true _ _ t in
@@ -100,11 +107,11 @@ pub record NoRoom (l : List ℕ) (at v : ℕ) : Type 0 where
   pub beyond : length l < at + length (bytes_of v)
   pub output : stored_at l at v ≡ l
 
-pub full_kept : (l : List ℕ) (at v : ℕ) → Full ≡ end_at l at v → NoRoom l at v
+pub full_kept : (l : List ℕ) (at v : ℕ) → None ≡ end_at l at v → NoRoom l at v
 unfolding end_at stored_at
 full_kept l at v = by_room (leb (at + length (bytes_of v)) (length l)) refl
   where
     by_room : (b : Bool) → leb (at + length (bytes_of v)) (length l) ≡ b
-        → Full ≡ cond b (Next (at + length (bytes_of v))) Full → NoRoom l at v
+        → None ≡ cond b (Some (at + length (bytes_of v))) None → NoRoom l at v
     by_room true t e = let z : ◌≡◌ {A = ℕ} 0 1 = cc in absurd (omega arith)
     by_room false t e = record { beyond = leb-false _ _ t; output = simp t }

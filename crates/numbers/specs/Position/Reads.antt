@@ -10,18 +10,26 @@ use Rattle.std.proofs.Common.{add-one, ap, sym, ◌∙◌, drop-cons}
 use Rattle.std.proofs.Math.Path.{refl}
 use Rattle.std.proofs.Math.ListN.{drop_of_length-le}
 use borrow.Author.Tests.{le-ltb, lt-ltb, le-leb, lt-leb, eq-eqb, ne_eqb}
-use Rattle.numbers.specs.declared.Reading.TheVariants.{Value, Truncated, Malformed}
+use Rattle.std.specs.declared.result.Result.{Result}
+use Rattle.std.specs.declared.result.Result.TheVariants.{Ok, Err}
+use Rattle.numbers.specs.declared.Reading.{Reading}
+use Rattle.numbers.specs.declared.ReadError.{ReadError}
+use Rattle.numbers.specs.declared.ReadError.TheVariants.{Truncated, Malformed}
 use Rattle.numbers.specs.Number.{carry, later, scan_with, read_number}
 use Rattle.numbers.specs.Position.{found, read_at}
 
 pub drop_head : (s : List ℕ) (at : ℕ) → at < length s → drop at s ≡ get_or s at 0 ∷ drop (at + 1) s
 drop_head s at h = rw (add-one, drop-cons s at 0) refl
 
+-- what `read` answers of a number v and the position q after it
+abbrev Value : ℕ → ℕ → Result Reading ReadError
+Value v q = Ok (record { value = v; next = q })
+
 value_path : (v w p q : ℕ) → v ≡ w → p ≡ q → Value v p ≡ Value w q
-value_path v w p q e f = cc
+value_path v w p q e f = rw (e, f) refl
 
 module _ (s : List ℕ) (at : ℕ) where
-  pub cut1 : length s ≤ at → Truncated ≡ read_at s at
+  pub cut1 : length s ≤ at → Err Truncated ≡ read_at s at
   unfolding read_at read_number scan_with found
   cut1 h = rw (drop_of_length-le s h) refl
 
@@ -35,7 +43,7 @@ module _ (s : List ℕ) (at : ℕ) where
   unfolding read_at read_number scan_with
   more1 h l = rw (drop_head s at h) (simp (le-ltb _ _ l))
 
-  pub cut2 : at < length s → 128 ≤ get_or s at 0 → length s ≤ at + 1 → Truncated ≡ read_at s at
+  pub cut2 : at < length s → 128 ≤ get_or s at 0 → length s ≤ at + 1 → Err Truncated ≡ read_at s at
   unfolding later carry found
   cut2 h l k = rw (← more1 h l, drop_of_length-le s k) refl
 
@@ -46,7 +54,7 @@ module _ (s : List ℕ) (at : ℕ) where
         ap (λ (t : List ℕ). found at (carry (get_or s at 0 - 128) (later 1 3 t))) (sym (drop_head s (at + 1) h))
         ∙ more1 h' l
 
-    pub loose2 : get_or s (at + 1) 0 ≡ 0 → Malformed ≡ read_at s at
+    pub loose2 : get_or s (at + 1) 0 ≡ 0 → Err Malformed ≡ read_at s at
     unfolding later carry found
     loose2 z = rw (← at_second) (simp (eq-eqb _ _ z))
 
@@ -65,16 +73,16 @@ module _ (s : List ℕ) (at : ℕ) where
           let z : (get_or s (at + 1) 0 ≡ 0 → ⊥) = λ q. omega arith in
           rw (← at_second) (simp (ne_eqb _ _ z, le-ltb _ _ m))
 
-      pub cut3 : length s ≤ at + 1 + 1 → Truncated ≡ read_at s at
+      pub cut3 : length s ≤ at + 1 + 1 → Err Truncated ≡ read_at s at
       unfolding later carry found
       cut3 k = rw (← at_third, drop_of_length-le s k) refl
 
       module _ (k : at + 1 + 1 < length s) where
-        pub loose3 : get_or s (at + 1 + 1) 0 ≡ 0 → Malformed ≡ read_at s at
+        pub loose3 : get_or s (at + 1 + 1) 0 ≡ 0 → Err Malformed ≡ read_at s at
         unfolding later carry found
         loose3 z = rw (← at_third, drop_head s (at + 1 + 1) k) (simp (eq-eqb _ _ z))
 
-        pub large3 : 3 < get_or s (at + 1 + 1) 0 → Malformed ≡ read_at s at
+        pub large3 : 3 < get_or s (at + 1 + 1) 0 → Err Malformed ≡ read_at s at
         unfolding later carry found
         large3 g =
             let z : (get_or s (at + 1 + 1) 0 ≡ 0 → ⊥) = λ q. omega arith in

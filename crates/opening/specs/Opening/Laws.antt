@@ -6,7 +6,7 @@
 --     opened_run, opened_exceeded                        an accepted table
 --     open_enters, open_declined, open_accepted_lem      any list and any lengths
 -- Assumes nothing.
-use Rattle.std.specs.Prelude.{ℕ, ◌-◌, ◌*◌, ◌<◌, ◌≤◌, ◌≡◌, Bool, true, ◌&&◌, List, []}
+use Rattle.std.specs.Prelude.{ℕ, ◌-◌, ◌*◌, ◌<◌, ◌≤◌, ◌≡◌, Bool, true, ◌&&◌, List, [], Err, Ok}
 use native.Mathlib.Omega.{arith}
 use Rattle.std.proofs.Math.Path.{ap, sym, subst}
 use Rattle.std.proofs.Common.{◌∙◌}
@@ -14,15 +14,13 @@ use Rattle.std.proofs.Math.ListN.{length}
 use Rattle.table.specs.Table.{Table}
 use Rattle.table.specs.Operations.{zeros}
 use Rattle.table_index.specs.Index.{table_in, Indexed}
-use Rattle.table.specs.declared.answer.Judged.{Judged}
-use Rattle.table.specs.declared.answer.Judged.TheVariants.{Accepted, Declined}
+use Rattle.std.specs.declared.result.Result.{Result}
+use Rattle.std.specs.declared.result.Result.TheVariants.{Ok, Err}
 use Rattle.table.specs.declared.answer.Refusal.{Refusal}
 use Rattle.index.specs.Facts.{indexed_rules}
 use Rattle.meaning.specs.Figure1.{body_count, last}
-use Rattle.slots.specs.declared.slots.Held.{Held}
-use Rattle.slots.specs.declared.slots.Held.TheVariants.{Count, Exceeded}
 use Rattle.slots.proofs.Canon.Areas.{fill_none}
-use Rattle.slots.specs.Holding.{put_all, Gave}
+use Rattle.slots.specs.Holding.{put_all, Gave, Held, no_room}
 use Rattle.set_step.specs.Started.{ResolvesAll, initial}
 use Rattle.residuals.specs.Residual.{from_definition, residuals_of}
 use Rattle.residuals.specs.Slots.{slots_of}
@@ -38,8 +36,8 @@ use Rattle.monitor_spec.specs.Sensible.{Laid}
 use Rattle.monitor_spec.specs.Open.{fresh_monitor, open_of}
 use Rattle.monitor_spec.proofs.Open.Laws.{exceeded_of, accepted_exceeds, accepted_runs, open_shut, open_admits}
 use Rattle.monitor_spec.proofs.History.Begun.{fresh_laid}
-use Rattle.state.specs.declared.answer.Answer.{Answer}
-use Rattle.state.specs.declared.answer.Answer.TheVariants.{Refused}
+use Rattle.state.specs.Answers.{Answer}
+use Rattle.state.specs.declared.answer.Declined.TheVariants.{Refused}
 use Rattle.state.specs.declared.record.State as code
 use Rattle.state.specs.Record.{state_of, monitor_of}
 use Rattle.state.specs.Record.Laws.{lengths_measured}
@@ -90,14 +88,14 @@ module _ {l w : List ℕ} (x : Indexed l w) (d n : ℕ) (en : n ≡ length (tabl
         (settled_filled (table_in l) (indexed_rules x) d known (slot_count a) a0 (e0 ∙ (areas_cleared a b m).0) r a1 g)
 
     module _ (b' : List ℕ) (eb : b' ≡ zeros (length b)) where
-      pub resolved_count : (k : ℕ) → r ≡ Count k → Resolved (table_in l) a (Count k) a1 b'
+      pub resolved_count : (k : ℕ) → r ≡ Ok k → Resolved (table_in l) a (Ok k) a1 b'
       unfolding residual_count
       resolved_count k er =
-          let (number, room, words) : Filled (slot_count a) ss (Count k) a1 = rw er at last_filled in
+          let (number, room, words) : Filled (slot_count a) ss (Ok k) a1 = rw er at last_filled in
           (number, room, words, eb ∙ (areas_cleared a b m).1)
 
-      pub resolved_exceeded : r ≡ Exceeded → (a' : List ℕ) → a' ≡ zeros (length a1) → length a1 ≡ length a
-          → Resolved (table_in l) a Exceeded a' b'
+      pub resolved_exceeded : r ≡ Err no_room → (a' : List ℕ) → a' ≡ zeros (length a1) → length a1 ≡ length a
+          → Resolved (table_in l) a (Err no_room) a' b'
       unfolding residual_count
       resolved_exceeded er a' ea el =
           let over : slot_count a < length ss = rw er at last_filled in
@@ -109,7 +107,7 @@ module _ {l work : List ℕ} (x : Indexed l work) (a a' b' : List ℕ) where
   abbrev t : Table
   t = table_in l
 
-  module _ (k : ℕ) (h : Resolved t a (Count k) a' b') (s : code.State) (e : state_of s ≡ fresh_state k) where
+  module _ (k : ℕ) (h : Resolved t a (Ok k) a' b') (s : code.State) (e : state_of s ≡ fresh_state k) where
     pub fresh_same : monitor_of s a' b' ≡ fresh_monitor t (slot_count a)
     unfolding fresh_monitor residual_count
     fresh_same =
@@ -138,8 +136,8 @@ module _ {l work : List ℕ} (x : Indexed l work) (a a' b' : List ℕ) where
               ∙ sym (accepted_runs t a es w room);
         }
 
-  pub opened_exceeded : Resolved t a Exceeded a' b' → (es : List ℕ)
-      → OpenedBy t a es (Refused (record { number = 13; place = 0 })) a' b'
+  pub opened_exceeded : Resolved t a (Err no_room) a' b' → (es : List ℕ)
+      → OpenedBy t a es (Err (Refused (record { number = 13; place = 0 }))) a' b'
   unfolding exceeded_of
   opened_exceeded (over, first, second) es =
       record {
@@ -157,23 +155,23 @@ module _ (l a b es w : List ℕ) where
   abbrev at : Bool → Entrance
   at lent = entrance (lent && work_measured w) l w
 
-  module _ (lent : Bool) (fit : lent ≡ lengths_fit (length a) (length b)) (j : Judged) (w1 : List ℕ)
+  module _ (lent : Bool) (fit : lent ≡ lengths_fit (length a) (length b)) (j : Result Unit Refusal) (w1 : List ℕ)
       (h : Entered (at lent) l j w1) where
     measured : lent ≡ areas_measured a b
     measured = fit ∙ lengths_measured a b
 
-    pub open_enters : j ≡ Accepted → Indexed l w1 × (areas_measured a b ≡ true)
+    pub open_enters : j ≡ Ok tt → Indexed l w1 × (areas_measured a b ≡ true)
     open_enters q =
         let (e, x) = entered_open (at lent) l j w1 h q in
         (x, sym measured ∙ open_lent l w lent e)
 
-    pub open_declined : (r : Refusal) → j ≡ Declined r → outcome (Refused r) a b w1 ≡ open_of l a b es w
+    pub open_declined : (r : Refusal) → j ≡ Err r → outcome (Err (Refused r)) a b w1 ≡ open_of l a b es w
     unfolding refusing
     open_declined r q =
         sym (open_shut l a b es w r.number r.place w1
         (ap at (sym measured) ∙ entered_shut (at lent) l j w1 h r q))
 
-    pub open_accepted_lem : j ≡ Accepted → (r : Answer) (a' b' w' : List ℕ) → OpenedBy (table_in l) a es r a' b'
+    pub open_accepted_lem : j ≡ Ok tt → (r : Answer) (a' b' w' : List ℕ) → OpenedBy (table_in l) a es r a' b'
         → w' ≡ zeros (length w1) → length w1 ≡ length w → outcome r a' b' w' ≡ open_of l a b es w
     open_accepted_lem q r a' b' w' s ew el =
         ap (outcome r a' b') (ew ∙ ap zeros el) ∙ s.same w

@@ -1,11 +1,15 @@
 -- Slots by their words: one law per way out of the functions of `leaves.rt` that look at one slot.
---     same_none, -on, -off                      comparing a slot with the words from a place on
+--     same_slice                                a slot and the words from a place on, as slices compare
+--     same_none, -on, -off                      the same, word by word
 --     key_none, -on, differ_by                  a slot's key; slots of different keys differ
 --     window_all, hold_here, hold_kept          a slot as a list; the slots held, one more and those before it
 --     hold_first, hold_none                     holding it, or not
 -- Not here: the loops over the slots kept, in `Keeping.antt`. Assumes nothing.
-use Rattle.std.specs.Prelude.{ℕ, suc, ◌+◌, ◌*◌, ◌%◌, ◌<◌, ◌≤◌, ◌≡◌, Bool, true, false, cond, List, ◌∷◌, ◌++◌, length, get_or, take, drop}
-use Rattle.std.proofs.Common.{arith, ap, sym, ◌∙◌, append_assoc, length-append, drop-cons, get_or-take, take_all, ext_get_or, take_at, drop_at, length-take-le, lt-ltb, le-ltb}
+use Rattle.std.specs.Prelude.{ℕ, suc, ◌+◌, ◌*◌, ◌%◌, ◌<◌, ◌≤◌, ◌≡◌, Bool, true, false, cond, List, [], ◌∷◌, ◌++◌, length, get_or, take, drop, ◌-◌, nat_eq, refl}
+use Rattle.std.specs.Cmp.Lexicographic.{pointwise}
+use Rattle.std.specs.List.{between}
+use Rattle.std.proofs.Math.Decide.{dec_lt}
+use Rattle.std.proofs.Common.{eq-eqb, ne_eqb, arith, ap, sym, ◌∙◌, append_assoc, length-append, drop-cons, get_or-take, take_all, ext_get_or, take_at, drop_at, length-take-le, lt-ltb, le-ltb}
 use Rattle.std.proofs.Math.Numerals.{add-one}
 use Rattle.std.proofs.Math.ListN.{get_or-append, drop_of_length-le}
 use Rattle.slots.specs.Insertion.{stored}
@@ -39,6 +43,26 @@ module _ (a l : List ℕ) (p j : ℕ) (x : Bool) (v : same_words (drop j a) (dro
 
     pub same_off : (get_or a j 0 ≡ get_or l (p + j) 0 → ⊥) → false ≡ x
     same_off e = sym (differ_cons _ _ (drop (suc j) a) (drop (suc j) (window p 16 l)) e) ∙ (rw (left, right) at v)
+
+-- slices are equal where their words are
+same_pointwise : (a b : List ℕ) → pointwise nat_eq a b ≡ same_words a b
+unfolding same_words
+same_pointwise [] [] = refl
+same_pointwise [] (y ∷ b) = refl
+same_pointwise (x ∷ a) [] = refl
+same_pointwise (x ∷ a) (y ∷ b) = by (dec_lt x y) (dec_lt y x) (same_pointwise a b)
+  where
+    by : Dec (x < y) → Dec (y < x) → pointwise nat_eq a b ≡ same_words a b
+        → pointwise nat_eq (x ∷ a) (y ∷ b) ≡ same_words (x ∷ a) (y ∷ b)
+    by (yes h) k ih = let n : x ≡ y → ⊥ = λ e. omega arith in rw (ne_eqb x y n) (sym (differ_cons x y a b n))
+    by (no h) (yes k) ih = let n : x ≡ y → ⊥ = λ e. omega arith in rw (ne_eqb x y n) (sym (differ_cons x y a b n))
+    by (no h) (no k) ih = let e : x ≡ y = omega arith in rw (eq-eqb x y e, same_words) ih
+
+pub same_slice : (a l : List ℕ) (p : ℕ) → pointwise nat_eq a (between p (p + 16) l) ≡ same_words a (window p 16 l)
+unfolding window
+same_slice a l p =
+    let e : p + 16 - p ≡ 16 = omega arith in
+    same_pointwise a (between p (p + 16) l) ∙ ap (λ (k : ℕ). same_words a (take k (drop p l))) e
 
 -- ---- key_of: from word j on
 

@@ -2,7 +2,7 @@
 --     body_in_lem, all_branches                  the body's number; as many residuals as branches
 --     start_next, start_exceeded, start_end      the loop of `resolve_set`
 -- Assumes nothing.
-use Rattle.std.specs.Prelude.{ℕ, zero, suc, ◌+◌, ◌*◌, ◌<◌, ◌≤◌, ◌≡◌, refl, List, [], ◌∷◌, map, length, get_or, drop}
+use Rattle.std.specs.Prelude.{ℕ, zero, suc, ◌+◌, ◌*◌, ◌<◌, ◌≤◌, ◌≡◌, refl, List, [], ◌∷◌, map, length, get_or, drop, Ok, Err}
 use Rattle.std.proofs.Common.{arith, add-one, ap, sym, ◌∙◌, drop_of_length-le, drop-cons}
 use Rattle.std.proofs.lemmas.List.{length-map}
 use Rattle.table.specs.Table.{Table, term_count, body_number}
@@ -15,9 +15,7 @@ use Rattle.table.proofs.Node.Laws.{body_node}
 use Rattle.meaning.specs.Figure1.{body_count}
 use Rattle.residuals.specs.Residual.{Residual, resolve_def}
 use Rattle.residuals.specs.Slots.{nodes, slot_of}
-use Rattle.slots.specs.declared.slots.Held.{Held}
-use Rattle.slots.specs.declared.slots.Held.TheVariants.{Count, Exceeded}
-use Rattle.slots.specs.Holding.{held_as, put_one, put_all, Gave}
+use Rattle.slots.specs.Holding.{held_as, put_one, put_all, Gave, Held, no_room}
 use Rattle.slots.proofs.Holding.Laws.{put_none, put_single, put_then, put_stop}
 use Rattle.resolving.specs.Lawful.{Lawful}
 use Rattle.resolving.specs.ResidualWords.{nth, definition_into}
@@ -70,7 +68,7 @@ module _ (t : Table) (d : ℕ) (a : ResolvesAll t d) where
     one : held_as r l ≡ put_all area c (definition_into t d i empty ∷ [])
     one = g.same ∙ put_single area c s ∙ rw es
 
-    pub start_next : (k : ℕ) → r ≡ Count k
+    pub start_next : (k : ℕ) → r ≡ Ok k
         → (put_all l k (drop (i + 1) (initial t d)) ≡ put_all area c (drop i (initial t d))) × (k * 16 ≤ length l)
     start_next k e = (
       put_then area c (definition_into t d i empty ∷ []) (drop (i + 1) (initial t d)) e one
@@ -78,12 +76,12 @@ module _ (t : Table) (d : ℕ) (a : ResolvesAll t d) where
       rw e at g.fits,
     )
 
-    pub start_exceeded : r ≡ Exceeded → held_as Exceeded l ≡ put_all area c (drop i (initial t d))
+    pub start_exceeded : r ≡ Err no_room → held_as (Err no_room) l ≡ put_all area c (drop i (initial t d))
     start_exceeded e =
         put_stop area c (definition_into t d i empty ∷ []) (drop (i + 1) (initial t d)) e one ∙ rw (rest_at i h)
 
   pub start_end : (area : List ℕ) (c i : ℕ) → length (resolve_def t (body_count t) d) ≤ i
-      → held_as (Count c) area ≡ put_all area c (drop i (initial t d))
+      → held_as (Ok c) area ≡ put_all area c (drop i (initial t d))
   start_end area c i h =
       let z : length (initial t d) ≤ i = omega (arith, length-map (resolve_def t (body_count t) d) slot_of) in
       put_none area c ∙ rw (drop_of_length-le (initial t d) z)

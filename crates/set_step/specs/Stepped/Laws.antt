@@ -1,15 +1,15 @@
 -- The step: one law per way out.
---     load_next                                          the loop of `load`
+--     load_next, loaded                                  words copied, one by one and as a whole
 --     step_asks, Gathering, gather_first, -next, -exceeded, -end      the loop of `step_set`
 -- Assumes nothing.
 use Prim.Native.Nat.{ℕ, suc, ◌+◌, ◌-◌, ◌*◌, ◌<◌, ◌≤◌}
 use native.Mathlib.Omega.{arith}
-use Rattle.std.proofs.Common.{add-one, sym, ◌∙◌, append_assoc, append-nil, length-drop, take-suc, take-suc-set, get_or-drop}
-use Rattle.std.specs.Prelude.{◌≡◌, refl, List, [], ◌++◌, length, get_or, set, take, drop}
+use Rattle.std.proofs.Common.{add-one, ap, take_at, drop_at, sym, ◌∙◌, append_assoc, append-nil, length-drop, take-suc, take-suc-set, get_or-drop}
+use Rattle.std.specs.Prelude.{◌≡◌, refl, List, [], ◌++◌, length, get_or, set, take, drop, Ok, Err}
+use Rattle.std.specs.List.{between}
+use Rattle.std.proofs.lemmas.List.Edits.{length-between}
 use Rattle.table.specs.Table.{Table}
-use Rattle.slots.specs.declared.slots.Held.{Held}
-use Rattle.slots.specs.declared.slots.Held.TheVariants.{Count, Exceeded}
-use Rattle.slots.specs.Holding.{held_as, put_all}
+use Rattle.slots.specs.Holding.{held_as, put_all, Held, no_room}
 use Rattle.slots.proofs.Holding.Laws.{put_none, put_then, put_stop}
 use Rattle.slots.specs.Canon.{SameMembers}
 use Rattle.slots.proofs.Canon.Members.{same_refl, same_trans, same_append}
@@ -27,6 +27,16 @@ unfolding window
 load_next store src p j h k e =
     rw add-one (take-suc-set store j (get_or src (p + j) 0) h
     ∙ rw e (sym (take-suc (drop p src) j 0 (rw length-drop (omega arith)) ∙ rw (get_or-drop p src j 0))))
+
+pub loaded : (store src : List ℕ) (p : ℕ) → p + 16 ≤ length src → (r : List ℕ) → r ≡ between p (p + 16) src
+    → (take 16 (r ++ drop 16 store) ≡ window p 16 src) × (drop 16 (r ++ drop 16 store) ≡ drop 16 store)
+unfolding window
+loaded store src p h r e =
+    let l : length r ≡ 16 = ap length e ∙ length-between src p (p + 16) h ∙ omega arith in
+    let n : p + 16 - p ≡ 16 = omega arith in (
+      take_at r (drop 16 store) 16 l ∙ e ∙ ap (λ (k : ℕ). take k (drop p src)) n,
+      drop_at r (drop 16 store) 16 l,
+    )
 
 -- ---- step_set
 
@@ -47,7 +57,7 @@ module _ (t : Table) (law : Lawful t) (bound e : ℕ) (src : List ℕ) (n i : �
 -- the results of the first i residuals are held
 pub record Gathering (t : Table) (e : ℕ) (src : List ℕ) (n : ℕ) (start dst : List ℕ) (c i : ℕ) : Type 0 where
   pub slots : List (List ℕ)
-  pub held : held_as (Count c) dst ≡ put_all start 0 slots
+  pub held : held_as (Ok c) dst ≡ put_all start 0 slots
   pub members : SameMembers (slots ++ gathered t e src (n - i) i) (gathered t e src n 0)
 
 pub gather_first : (t : Table) (e : ℕ) (src : List ℕ) (n : ℕ) (dst : List ℕ) → Gathering t e src n dst dst 0 0
@@ -59,7 +69,7 @@ module _ {t : Table} {e : ℕ} {src : List ℕ} {n : ℕ} {start dst : List ℕ}
     (g : Gathering t e src n start dst c i) where
   module _ (h : i < n) (r : Held) (l : List ℕ) (s : SteppedOne t e src i dst c r l) where
     both_held : held_as r l ≡ put_all start 0 (g.slots ++ s.slots)
-    both_held = s.gave.same ∙ put_then {h = Count c} start 0 g.slots s.slots refl g.held
+    both_held = s.gave.same ∙ put_then {h = Ok c} start 0 g.slots s.slots refl g.held
 
     one_more : gathered t e src (n - i) i
         ≡ onto empty (results t e (slot_nodes src i) 1) ++ gathered t e src (n - (i + 1)) (i + 1)
@@ -76,20 +86,20 @@ module _ {t : Table} {e : ℕ} {src : List ℕ} {n : ℕ} {start dst : List ℕ}
         (same_append s.slots here rest rest s.members (same_refl rest)))
         (rw one_more at g.members))
 
-    pub gather_next : (d : ℕ) → r ≡ Count d → Gathering t e src n start l d (i + 1) × (d * 16 ≤ length l)
+    pub gather_next : (d : ℕ) → r ≡ Ok d → Gathering t e src n start l d (i + 1) × (d * 16 ≤ length l)
     gather_next d ed = (
       record { slots = g.slots ++ s.slots; held = rw ed at both_held; members = all_members },
       rw ed at s.gave.fits,
     )
 
-    pub gather_exceeded : r ≡ Exceeded → SteppedSet t e src n start Exceeded l
+    pub gather_exceeded : r ≡ Err no_room → SteppedSet t e src n start (Err no_room) l
     gather_exceeded ed = record {
       slots = (g.slots ++ s.slots) ++ gathered t e src (n - (i + 1)) (i + 1);
       members = all_members;
       gave = record { same = put_stop start 0 (g.slots ++ s.slots) _ ed both_held; fits = omega arith };
     }
 
-  pub gather_end : n ≤ i → c * 16 ≤ length dst → SteppedSet t e src n start (Count c) dst
+  pub gather_end : n ≤ i → c * 16 ≤ length dst → SteppedSet t e src n start (Ok c) dst
   unfolding gathered
   gather_end h f =
       let z : n - i ≡ 0 = omega arith in

@@ -6,7 +6,7 @@
 --     several_looks                  these can be looked at
 --     loaded_sound, start_place, many_done, many_one     it may have others
 -- Assumes nothing.
-use Rattle.std.specs.Prelude.{ℕ, ◌+◌, ◌-◌, ◌*◌, ◌<◌, ◌≤◌, ◌^◌, ◌≡◌, true, take}
+use Rattle.std.specs.Prelude.{ℕ, ◌+◌, ◌-◌, ◌*◌, ◌<◌, ◌≤◌, ◌^◌, ◌≡◌, true, take, Ok}
 use Rattle.std.proofs.Common.{arith, ◌∙◌, take-append-drop, get_or-take, pow_mono}
 use Rattle.std.proofs.Math.Path.{ap, sym}
 use mathlib.Core.List.{List, [], ◌∷◌, ◌++◌, map, append-nil}
@@ -14,9 +14,7 @@ use Rattle.std.proofs.Math.ListN.{length, get_or, drop}
 use Rattle.table.specs.Table.{Table}
 use Rattle.residuals.specs.Residual.{after}
 use Rattle.residuals.specs.Slots.{nodes, nodes_all}
-use Rattle.slots.specs.declared.slots.Held.{Held}
-use Rattle.slots.specs.declared.slots.Held.TheVariants.{Count}
-use Rattle.slots.specs.Holding.{put_one, put_all, Gave}
+use Rattle.slots.specs.Holding.{put_one, put_all, Gave, Held}
 use Rattle.slots.proofs.Holding.Laws.{put_none, put_single}
 use Rattle.slots.specs.Canon.{SameMembers}
 use Rattle.slots.proofs.Canon.Members.{same_refl, same_sym, same_map}
@@ -97,12 +95,12 @@ module _ {t : Table} {bound e : ℕ} {src : List ℕ} {i : ℕ} {store dst : Lis
     unfolding slot_nodes
     nodes_here = ap (λ (x : ℕ). window (i * 16 + 1) x src) en ∙ s.slot.spelt
 
-    pub still_one : v ≡ Still → SteppedOne t e src i dst c (Count c) dst
+    pub still_one : v ≡ Still → SteppedOne t e src i dst c (Ok c) dst
     unfolding onto
     still_one z =
         let g : after t e s.slot.tree ≡ [] = rw (sym way_is ∙ z) at
         (became t s.law e s.slot.tree s.slot.valid) in
-        after_held (Count c) dst (record { same = put_none dst c ∙ rw g; fits = s.held })
+        after_held (Ok c) dst (record { same = put_none dst c ∙ rw g; fits = s.held })
 
     module _ (m : Moves) (z : v ≡ Moving m) where
       moved_by : MovedBy t e s.slot.tree m

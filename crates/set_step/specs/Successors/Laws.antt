@@ -3,7 +3,7 @@
 --     stepped                      the slots of the residuals after the event
 --     exceeded                     no room, where these are more than fit
 -- Assumes nothing.
-use Rattle.std.specs.Prelude.{ℕ, ◌+◌, ◌*◌, ◌<◌, ◌≤◌, ◌≡◌, refl, length, replicate}
+use Rattle.std.specs.Prelude.{ℕ, ◌+◌, ◌*◌, ◌<◌, ◌≤◌, ◌≡◌, refl, length, replicate, Ok, Err}
 use Rattle.std.proofs.Common.{arith, sym, ◌∙◌}
 use Rattle.std.proofs.Math.Path.{ap}
 use mathlib.Core.List.{List, [], ◌∷◌, map, flat_map, append-nil, map-append}
@@ -11,8 +11,7 @@ use Rattle.numbers.specs.Every.{All, all_imp, all_append}
 use Rattle.table.specs.Table.{Table}
 use Rattle.residuals.specs.Residual.{Residual, after, after_all}
 use Rattle.residuals.specs.Slots.{nodes, slots_of}
-use Rattle.slots.specs.declared.slots.Held.TheVariants.{Count, Exceeded}
-use Rattle.slots.specs.Holding.{held_as, put_all}
+use Rattle.slots.specs.Holding.{held_as, put_all, no_room}
 use Rattle.slots.specs.Canon.{canon, fill, AllSixteen, SameMembers}
 use Rattle.slots.proofs.Canon.Areas.{fill_none}
 use Rattle.slots.proofs.Canon.Laws.{put_canon, put_exceeded_canon}
@@ -122,11 +121,11 @@ module _ (t : Table) (e : ℕ) (src : List ℕ) (rs : List Residual) (h : SlotsH
 
     pub stepped : length (slots_of (after_all t e rs)) ≤ most
         → put_all (replicate (most * 16) 0) 0 xs
-        ≡ held_as (Count (length (slots_of (after_all t e rs)))) (fill most (slots_of (after_all t e rs)))
+        ≡ held_as (Ok (length (slots_of (after_all t e rs)))) (fill most (slots_of (after_all t e rs)))
     stepped k =
         rw (← (fill_none most), ← canon_is)
         (put_canon most xs slots (rw canon_is k))
 
-    pub exceeded : most < length (slots_of (after_all t e rs)) → (put_all (replicate (most * 16) 0) 0 xs).held ≡ Exceeded
+    pub exceeded : most < length (slots_of (after_all t e rs)) → (put_all (replicate (most * 16) 0) 0 xs).held ≡ Err no_room
     exceeded k =
         rw (← (fill_none most)) (put_exceeded_canon most xs slots (rw canon_is k))

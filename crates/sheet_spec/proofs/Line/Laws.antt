@@ -94,10 +94,10 @@ pub row_end : (s l : List ℕ) (a : ℕ) → Row s a 1 l → set l a 10 ≡ s ++
 row_end s l a row = rw row.whole (set_at s 32 [] 10 a row.size)
 
 -- ---- the verdict word
-pub word_running : (mark : ℕ) (part r : List ℕ) → mark ≡ 0 → part ≡ spaces 7
-    → r ≡ (114 ∷ 117 ∷ 110 ∷ 110 ∷ 105 ∷ 110 ∷ 103 ∷ []) ++ drop 7 part → r ≡ left 7 (verdict mark)
+pub word_running : (mark : ℕ) (r : List ℕ) → mark ≡ 0 → r ≡ 114 ∷ 117 ∷ 110 ∷ 110 ∷ 105 ∷ 110 ∷ 103 ∷ []
+    → r ≡ left 7 (verdict mark)
 unfolding left verdict
-word_running mark part r z e h = h ∙ rw (e, eq-eqb _ _ z) refl
+word_running mark r z h = h ∙ rw (eq-eqb _ _ z) refl
 
 pub word_failed : (mark : ℕ) (part r : List ℕ) → (mark ≡ 0 → ⊥) → part ≡ spaces 7
     → r ≡ (102 ∷ 97 ∷ 105 ∷ 108 ∷ 101 ∷ 100 ∷ []) ++ drop 6 part → r ≡ left 7 (verdict mark)
@@ -110,7 +110,7 @@ left_length mark =
     cond_cases (λ (w : List ℕ). length (w ++ spaces (7 - length w)) ≡ 7) (eqb mark 0) _ _ (λ _. refl) (λ _. refl)
 
 -- ---- the line of a record
--- `line` is what is lent, l what `blank` leaves of it, and a, b, w and d what stands in the columns
+-- `line` is what is lent, l what `fill` leaves of it, and a, b, w and d what stands in the columns
 module _ (r : Lot) (small : r.number < 10 ^ 10) (fits : r.taken < 10 ^ 20) (low : r.place < 10 ^ 8)
     (line l a b w d : List ℕ) (size : length line ≡ 49) (blanked : l ≡ spaces (length line)) where
   row0 : Row [] 0 49 l
@@ -168,12 +168,9 @@ module _ (r : Lot) (small : r.number < 10 ^ 10) (fits : r.taken < 10 ^ 20) (low 
 
 -- ---- the last line
 module _ (sum : ℕ) (fits : sum < 10 ^ 20) (line l t b : List ℕ) (size : length line ≡ 49)
-    (blanked : l ≡ spaces (length line)) (ft : t ≡ (84 ∷ 79 ∷ 84 ∷ 65 ∷ 76 ∷ []) ++ drop 5 (take 5 l)) where
+    (blanked : l ≡ spaces (length line)) (et : t ≡ 84 ∷ 79 ∷ 84 ∷ 65 ∷ 76 ∷ []) where
   total0 : Row [] 0 49 l
   total0 = row_none 49 l (blanked ∙ ap spaces size)
-
-  et : t ≡ 84 ∷ 79 ∷ 84 ∷ 65 ∷ 76 ∷ []
-  et = ft ∙ rw (row_part _ _ 0 49 total0 5 (omega arith)) refl
 
   abbrev pub total_line1 : List ℕ
   total_line1 = put 0 5 l t

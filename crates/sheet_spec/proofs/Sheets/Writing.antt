@@ -11,7 +11,7 @@ use Rattle.std.proofs.Common.{◌∙◌, drop_of_length-le, take_at, drop_at, dr
 use mathlib.Core.List.{List, [], ◌++◌, append_assoc, append-nil}
 use Rattle.std.proofs.Math.ListN.{length, length-append, length-drop}
 use Rattle.lot_book.specs.declared.entry.Lot.{Lot}
-use Rattle.lot_book.specs.declared.entry.Entry.TheVariants.{Record, Unread}
+use Rattle.std.specs.Prelude.{Some, None}
 use Rattle.lot_book.specs.Lot.{entry_at}
 use Rattle.lot_book.proofs.Lots.Laws.{lot_stands, lot_unread}
 use Rattle.lot_book.specs.Book.{lots, book_from, book_of}
@@ -83,12 +83,12 @@ module _ (book before : List ℕ) (sum : ℕ) (out : List ℕ) (at p : ℕ) (w :
       let l = length-drop p out in
       rw columns (length-take-le 49 (drop p out) (omega arith))
 
-  pub write_read : at < length book → Unread ≡ entry_at book at → ⊥
+  pub write_read : at < length book → None ≡ entry_at book at → ⊥
   write_read h e =
       let l = length-drop at book in
       book_not_unread w.floor w.index (drop at book) w.rest w.left (omega arith) (lot_unread book at e)
 
-  module _ (r : Lot) (q : ℕ) (e : Record r q ≡ entry_at book at) where
+  module _ (r : Lot) (q : ℕ) (e : Some (r, q) ≡ entry_at book at) where
     first : First w.floor w.index r (drop q book) w.rest
     first = book_first w.floor w.index (drop at book) w.rest r _ _ w.left (lot_stands book at r q e).scan
 

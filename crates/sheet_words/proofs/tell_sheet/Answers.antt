@@ -2,8 +2,8 @@
 use Rattle.sheet_words.proofs.Call.Laws.{tell_given, tell_refused}
 use Rattle.sheet_words.proofs.tell_sheet.Goals as goal
 
-pub returns-in-Given : goal.returns-in-Given
-returns-in-Given c = tell_given _ _ c.in-Given.is
+pub returns-in-Ok : goal.returns-in-Ok
+returns-in-Ok c = tell_given _ _ c.in-Ok.is
 
-pub returns-in-Refused : goal.returns-in-Refused
-returns-in-Refused c = tell_refused _ _ c.in-Refused.is
+pub returns-in-Err : goal.returns-in-Err
+returns-in-Err c = rw c.from.ensures (tell_refused _ _ c.in-Err.is)

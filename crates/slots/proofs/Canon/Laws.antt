@@ -2,7 +2,7 @@
 --     put_slot                          holding one: what is held, or that there is no room
 --     put_canon, put_exceeded_canon     holding several: what is held, and when there is no room
 -- Assumes nothing.
-use Rattle.std.specs.Prelude.{ℕ, ◌+◌, ◌-◌, ◌*◌, ◌<◌, ◌≤◌, ◌≡◌, refl}
+use Rattle.std.specs.Prelude.{ℕ, ◌+◌, ◌-◌, ◌*◌, ◌<◌, ◌≤◌, ◌≡◌, refl, Some, None, Ok, Err}
 use native.Mathlib.Omega.{arith}
 use Rattle.std.proofs.Math.Decide.{dec_lt}
 use Rattle.std.proofs.Math.Path.{ap, sym}
@@ -15,11 +15,7 @@ use Rattle.std.proofs.Math.Seq.{take-take, take_at, drop_at, take-append-le, tak
 use Rattle.std.proofs.Math.Dec.{ltb}
 use borrow.Author.Tests.{lt-ltb, le-ltb}
 use Rattle.numbers.specs.Every.{all_append}
-use Rattle.slots.specs.Insertion.{place_in, gapped, stored, insert_answer, insert_words}
-use Rattle.slots.specs.declared.slots.Place.{Place}
-use Rattle.slots.specs.declared.slots.Place.TheVariants as place
-use Rattle.slots.specs.declared.slots.Held.{Held}
-use Rattle.slots.specs.declared.slots.Held.TheVariants.{Count, Exceeded}
+use Rattle.slots.specs.Insertion.{Place, no_room, place_in, gapped, stored, insert_answer, insert_words}
 use Rattle.slots.specs.Holding.{Outcome, held_as, put_one, chain, put_all}
 use Rattle.slots.specs.Canon.{insert_sorted, canon, fill, Sixteen, AllSixteen}
 use Rattle.slots.proofs.Canon.Canonical.{Ascending, in_canon, canon_ascending, canon_snoc, canon_grows}
@@ -93,7 +89,7 @@ module _ (most : ℕ) (xs : List (List ℕ)) (s : List ℕ) (v : AllSixteen xs) 
   unfolding fill
   there = place_in_lem s es xs (replicate ((most - length xs) * 16) 0) v u
 
-  module _ (i : ℕ) (e : place_among xs s 0 ≡ place.At i) where
+  module _ (i : ℕ) (e : place_among xs s 0 ≡ Some i) where
     d : Split xs s 0 i
     d = split_place xs s 0 i e
 
@@ -138,7 +134,7 @@ module _ (most : ℕ) (xs : List (List ℕ)) (s : List ℕ) (v : AllSixteen xs) 
           ∙ sym area_after
 
       put_new_slot : put_one (fill most xs) (length xs) s
-          ≡ held_as (Count (length (insert_sorted s xs))) (fill most (insert_sorted s xs))
+          ≡ held_as (Ok (length (insert_sorted s xs))) (fill most (insert_sorted s xs))
       unfolding put_one insert_answer insert_words
       put_new_slot =
           let f : ltb (length (fill most xs) - length xs * 16) 16
@@ -146,28 +142,28 @@ module _ (most : ℕ) (xs : List (List ℕ)) (s : List ℕ) (v : AllSixteen xs) 
           in
           rw (there, e, f, inserted, longer)
 
-    put_full : length xs ≡ most → (put_one (fill most xs) (length xs) s).held ≡ Exceeded
+    put_full : length xs ≡ most → (put_one (fill most xs) (length xs) s).held ≡ Err no_room
     unfolding put_one insert_answer
     put_full w =
         let f : ltb (length (fill most xs) - length xs * 16) 16
         ≡ true = lt-ltb (length (fill most xs) - length xs * 16) 16 (omega (arith, length_fill most xs v h)) in
         rw (there, e, f)
 
-  put_held_slot : place_among xs s 0 ≡ place.Held → put_one (fill most xs) (length xs) s
-      ≡ held_as (Count (length (insert_sorted s xs))) (fill most (insert_sorted s xs))
+  put_held_slot : place_among xs s 0 ≡ None → put_one (fill most xs) (length xs) s
+      ≡ held_as (Ok (length (insert_sorted s xs))) (fill most (insert_sorted s xs))
   unfolding put_one insert_answer insert_words
   put_held_slot e = rw (there, e, held_same xs s 0 e)
 
   -- a slot is held, or refused exactly where the slots would be more than fit
   pub record PutSlot : Type 0 where
     pub held : length (insert_sorted s xs) ≤ most → put_one (fill most xs) (length xs) s
-        ≡ held_as (Count (length (insert_sorted s xs))) (fill most (insert_sorted s xs))
-    pub refused : most < length (insert_sorted s xs) → (put_one (fill most xs) (length xs) s).held ≡ Exceeded
+        ≡ held_as (Ok (length (insert_sorted s xs))) (fill most (insert_sorted s xs))
+    pub refused : most < length (insert_sorted s xs) → (put_one (fill most xs) (length xs) s).held ≡ Err no_room
 
   by_place : (q : Place) → place_among xs s 0 ≡ q → PutSlot
-  by_place place.Held e =
+  by_place None e =
       record { held = λ w. put_held_slot e; refused = λ w. absurd (omega (arith, ap length (held_same xs s 0 e))) }
-  by_place (place.At i) e = record {
+  by_place (Some i) e = record {
     held = λ w. put_new_slot i e (omega (arith, longer i e));
     refused = λ w. put_full i e (omega (arith, longer i e));
   }
@@ -177,7 +173,7 @@ module _ (most : ℕ) (xs : List (List ℕ)) (s : List ℕ) (v : AllSixteen xs) 
 
 -- ---- all slots
 
-stays : (o : Outcome) (f : List ℕ → ℕ → Outcome) → o.held ≡ Exceeded → (chain o.held o.area f).held ≡ Exceeded
+stays : (o : Outcome) (f : List ℕ → ℕ → Outcome) → o.held ≡ Err no_room → (chain o.held o.area f).held ≡ Err no_room
 stays o f e = rw e
 
 -- where those of l are held, s comes
@@ -188,21 +184,21 @@ module _ (most : ℕ) (l : List (List ℕ)) (s : List ℕ) (v : AllSixteen l) (e
     held_slots = slots_in (canon l) l v (λ a i. (in_canon a l).0 i)
 
     next_held : length (canon (l ++ s ∷ [])) ≤ most → put_one (fill most (canon l)) (length (canon l)) s
-        ≡ held_as (Count (length (canon (l ++ s ∷ [])))) (fill most (canon (l ++ s ∷ [])))
+        ≡ held_as (Ok (length (canon (l ++ s ∷ [])))) (fill most (canon (l ++ s ∷ [])))
     next_held k =
         rw (canon_snoc l s)
         ((put_slot most (canon l) s held_slots (canon_ascending l) es h).held (rw (canon_snoc l s) at k))
 
     next_refused : most < length (canon (l ++ s ∷ []))
-        → (put_one (fill most (canon l)) (length (canon l)) s).held ≡ Exceeded
+        → (put_one (fill most (canon l)) (length (canon l)) s).held ≡ Err no_room
     next_refused k =
         (put_slot most (canon l) s held_slots (canon_ascending l) es h).refused (rw (canon_snoc l s) at k)
 
     exceeded_by : (ss : List (List ℕ)) → (length (canon (l ++ s ∷ [])) ≤ most
-        → (put_all (fill most (canon (l ++ s ∷ []))) (length (canon (l ++ s ∷ []))) ss).held ≡ Exceeded)
+        → (put_all (fill most (canon (l ++ s ∷ []))) (length (canon (l ++ s ∷ []))) ss).held ≡ Err no_room)
         → Dec (most < length (canon (l ++ s ∷ [])))
         → (chain (put_one (fill most (canon l)) (length (canon l)) s).held
-        (put_one (fill most (canon l)) (length (canon l)) s).area (λ l c. put_all l c ss)).held ≡ Exceeded
+        (put_one (fill most (canon l)) (length (canon l)) s).area (λ l c. put_all l c ss)).held ≡ Err no_room
     exceeded_by ss ih (yes z) = stays _ _ (next_refused z)
     exceeded_by ss ih (no z) = rw (next_held (omega arith)) (ih (omega arith))
 
@@ -211,7 +207,7 @@ module _ (most : ℕ) (l : List (List ℕ)) (s : List ℕ) (v : AllSixteen l) (e
 
 put_from : (most : ℕ) (l ss : List (List ℕ)) → AllSixteen l → AllSixteen ss → length (canon l) ≤ most
     → length (canon (l ++ ss)) ≤ most → put_all (fill most (canon l)) (length (canon l)) ss
-    ≡ held_as (Count (length (canon (l ++ ss)))) (fill most (canon (l ++ ss)))
+    ≡ held_as (Ok (length (canon (l ++ ss)))) (fill most (canon (l ++ ss)))
 unfolding put_all
 put_from most l [] v w h k = rw (append-nil l)
 put_from most l (s ∷ ss) v w h k =
@@ -222,7 +218,7 @@ put_from most l (s ∷ ss) v w h k =
     (put_from most (l ++ s ∷ []) ss (more most l s v w.0 h) w.1 g k')
 
 exceeded_from : (most : ℕ) (l ss : List (List ℕ)) → AllSixteen l → AllSixteen ss → length (canon l) ≤ most
-    → most < length (canon (l ++ ss)) → (put_all (fill most (canon l)) (length (canon l)) ss).held ≡ Exceeded
+    → most < length (canon (l ++ ss)) → (put_all (fill most (canon l)) (length (canon l)) ss).held ≡ Err no_room
 unfolding put_all
 exceeded_from most l [] v w h k = absurd (omega (arith, ap (λ (a : List (List ℕ)). length (canon a)) (append-nil l)))
 exceeded_from most l (s ∷ ss) v w h k =
@@ -234,11 +230,11 @@ exceeded_from most l (s ∷ ss) v w h k =
 -- holding slots in an area of none gives the ascending slots without repeats; it is exceeded exactly where these are
 -- more than fit
 pub put_canon : (most : ℕ) (ss : List (List ℕ)) → AllSixteen ss → length (canon ss) ≤ most
-    → put_all (fill most []) 0 ss ≡ held_as (Count (length (canon ss))) (fill most (canon ss))
+    → put_all (fill most []) 0 ss ≡ held_as (Ok (length (canon ss))) (fill most (canon ss))
 unfolding canon
 put_canon most ss w k = put_from most [] ss tt w (omega arith) k
 
 pub put_exceeded_canon : (most : ℕ) (ss : List (List ℕ)) → AllSixteen ss → most < length (canon ss)
-    → (put_all (fill most []) 0 ss).held ≡ Exceeded
+    → (put_all (fill most []) 0 ss).held ≡ Err no_room
 unfolding canon
 put_exceeded_canon most ss w k = exceeded_from most [] ss tt w (omega arith) k

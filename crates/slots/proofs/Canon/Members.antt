@@ -4,7 +4,7 @@
 --     same_refl, same_trans, same_append, same_map     the same members
 --     slots_in                                         members of slots are slots
 -- Assumes nothing.
-use Rattle.std.specs.Prelude.{ℕ, ◌≡◌, refl, ◌⊎◌, List, [], ◌∷◌, ◌++◌, map}
+use Rattle.std.specs.Prelude.{ℕ, ◌≡◌, refl, List, [], ◌∷◌, ◌++◌, map}
 use Rattle.std.proofs.Common.{ap, inl, inr, ⊎_elim}
 use Rattle.numbers.specs.Some.{any_append_left, any_append_right, any_append_cases}
 use Rattle.slots.specs.Canon.{Sixteen, AllSixteen, In, SameMembers}

@@ -1,10 +1,11 @@
 -- The place of a slot among those that an area holds is its place in the list of them.
+--     order_is                   the order of words is that of the slots
 --     place_among                the place by the list
 --     Split, split_place         what a place says of the list
 --     held_same                  a slot that is held
 --     place_in_lem               among ascending slots the last may be looked at first and the search be narrowed
 -- Assumes nothing.
-use Rattle.std.specs.Prelude.{ℕ, zero, suc, ◌+◌, ◌*◌, ◌≤◌, ◌<◌, ◌≡◌, refl, true, false, length, get_or, ltb}
+use Rattle.std.specs.Prelude.{ℕ, zero, suc, ◌+◌, ◌*◌, ◌≤◌, ◌<◌, ◌≡◌, refl, true, false, length, get_or, ltb, Some, None}
 use Rattle.std.proofs.Common.{arith, ap, sym, ◌∙◌, length-append, get_or-append-add}
 use mathlib.Core.List.{List, [], ◌∷◌, ◌++◌, append_assoc, flatten}
 use Rattle.std.proofs.Math.ListN.{get_or-append}
@@ -12,10 +13,8 @@ use Rattle.numbers.specs.Every.{All}
 use Rattle.slots.specs.Canon.{Order, below, same, above, compare_words, insert_sorted, AllSixteen}
 use Rattle.slots.proofs.Canon.Comparison.{Less, above_less, less_trans, less_above}
 use Rattle.slots.proofs.Canon.Canonical.{Ascending, insert_below, insert_same, insert_above}
-use Rattle.slots.specs.Insertion.{order, seek, place_by, is_above, place_in}
+use Rattle.slots.specs.Insertion.{Place, order, seek, place_by, is_above, place_in}
 use Rattle.slots.proofs.Insertion.Narrow.{Ascends, above_of, place_seek}
-use Rattle.slots.specs.declared.slots.Place.{Place}
-use Rattle.slots.specs.declared.slots.Place.TheVariants as place
 
 -- ---- the search in an area
 
@@ -23,7 +22,7 @@ abbrev step_order : ℕ → ℕ → Order → Order
 step_order y x o = elim (ltb y x) [ true ↦ below | false ↦ elim (ltb x y) [ true ↦ above | false ↦ o ] ]
 
 -- the order of the words s, which the new slot has from q on, and y, which the area has from p on
-order_is : (n : ℕ) (a : List ℕ) (p : ℕ) (b : List ℕ) (q : ℕ) (y s : List ℕ) → length y ≡ n → length s ≡ n
+pub order_is : (n : ℕ) (a : List ℕ) (p : ℕ) (b : List ℕ) (q : ℕ) (y s : List ℕ) → length y ≡ n → length s ≡ n
     → ((k : ℕ) → k < n → get_or a (p + k) 0 ≡ get_or y k 0) → ((k : ℕ) → k < n → get_or b (q + k) 0 ≡ get_or s k 0)
     → order n a p b q ≡ compare_words s y
 unfolding order compare_words
@@ -45,8 +44,8 @@ order_is (suc n) a p b q (x ∷ y) (z ∷ s) hy hs f g =
 
 -- the place among slots, the first of which is the i-th
 pub place_among : List (List ℕ) → List ℕ → ℕ → Place
-place_among [] s i = place.At i
-place_among (y ∷ ys) s i = place_by (compare_words s y) (place.At i) (place_among ys s (i + 1))
+place_among [] s i = Some i
+place_among (y ∷ ys) s i = place_by (compare_words s y) (Some i) (place_among ys s (i + 1))
 
 -- slots in an area, past the first words `pre`
 past : (y : List ℕ) (ys : List (List ℕ)) (pre zs : List ℕ) → pre ++ (flatten (y ∷ ys) ++ zs)
@@ -87,18 +86,18 @@ pub record Split (xs : List (List ℕ)) (s : List ℕ) (i j : ℕ) : Type 0 wher
   pub count : i + length a ≡ j
   pub put : insert_sorted s xs ≡ a ++ (s ∷ b)
 
-at_inj : {i j : ℕ} → place.At i ≡ place.At j → i ≡ j
+at_inj : {i j : ℕ} → ◌≡◌ {A = Place} (Some i) (Some j) → i ≡ j
 at_inj e = cc
 
-held_not_at : {A : Type 0} {j : ℕ} → place.Held ≡ place.At j → A
+held_not_at : {A : Type 0} {j : ℕ} → ◌≡◌ {A = Place} None (Some j) → A
 held_not_at e = absurd (let z : ◌≡◌ {A = ℕ} 0 1 = cc in omega arith)
 
-at_not_held : {A : Type 0} {j : ℕ} → place.At j ≡ place.Held → A
+at_not_held : {A : Type 0} {j : ℕ} → ◌≡◌ {A = Place} (Some j) None → A
 at_not_held e = absurd (let z : ◌≡◌ {A = ℕ} 0 1 = cc in omega arith)
 
 split_by : (o : Order) (y : List ℕ) (ys : List (List ℕ)) (s : List ℕ) (i j : ℕ) → compare_words s y ≡ o
-    → place_by o (place.At i) (place_among ys s (i + 1)) ≡ place.At j
-    → (place_among ys s (i + 1) ≡ place.At j → Split ys s (i + 1) j) → Split (y ∷ ys) s i j
+    → place_by o (Some i) (place_among ys s (i + 1)) ≡ Some j
+    → (place_among ys s (i + 1) ≡ Some j → Split ys s (i + 1) j) → Split (y ∷ ys) s i j
 split_by below y ys s i j eo e ih =
     record { a = []; b = y ∷ ys; whole = refl; count = omega (arith, at_inj e); put = insert_below s y ys eo }
 split_by same y ys s i j eo e ih = held_not_at e
@@ -112,19 +111,19 @@ split_by above y ys s i j eo e ih =
       put = insert_above s y ys eo ∙ ap (λ (l : List (List ℕ)). y ∷ l) r.put;
     }
 
-pub split_place : (xs : List (List ℕ)) (s : List ℕ) (i j : ℕ) → place_among xs s i ≡ place.At j → Split xs s i j
+pub split_place : (xs : List (List ℕ)) (s : List ℕ) (i j : ℕ) → place_among xs s i ≡ Some j → Split xs s i j
 unfolding place_among insert_sorted
 split_place [] s i j e = record { a = []; b = []; whole = refl; count = omega (arith, at_inj e); put = refl }
 split_place (y ∷ ys) s i j e = split_by (compare_words s y) y ys s i j refl e (split_place ys s (i + 1) j)
 
 held_by : (o : Order) (y : List ℕ) (ys : List (List ℕ)) (s : List ℕ) (i : ℕ) → compare_words s y ≡ o
-    → place_by o (place.At i) (place_among ys s (i + 1)) ≡ place.Held
-    → (place_among ys s (i + 1) ≡ place.Held → insert_sorted s ys ≡ ys) → insert_sorted s (y ∷ ys) ≡ y ∷ ys
+    → place_by o (Some i) (place_among ys s (i + 1)) ≡ None
+    → (place_among ys s (i + 1) ≡ None → insert_sorted s ys ≡ ys) → insert_sorted s (y ∷ ys) ≡ y ∷ ys
 held_by below y ys s i eo e ih = at_not_held e
 held_by same y ys s i eo e ih = insert_same s y ys eo
 held_by above y ys s i eo e ih = insert_above s y ys eo ∙ ap (λ (l : List (List ℕ)). y ∷ l) (ih e)
 
-pub held_same : (xs : List (List ℕ)) (s : List ℕ) (i : ℕ) → place_among xs s i ≡ place.Held → insert_sorted s xs ≡ xs
+pub held_same : (xs : List (List ℕ)) (s : List ℕ) (i : ℕ) → place_among xs s i ≡ None → insert_sorted s xs ≡ xs
 unfolding place_among
 held_same [] s i e = at_not_held e
 held_same (y ∷ ys) s i e = held_by (compare_words s y) y ys s i refl e (held_same ys s (i + 1))

@@ -9,10 +9,9 @@
 use Prim.Native.Nat.{ℕ, zero, suc, ◌+◌, ◌-◌, ◌*◌, ◌/◌, ◌≤◌, ◌<◌}
 use Rattle.std.proofs.Common.{arith, sym, ◌∙◌, le-ltb, lt-ltb}
 use Rattle.std.proofs.Math.Decide.{dec_lt}
-use Rattle.std.specs.Prelude.{◌≡◌, Bool, List}
+use Rattle.std.specs.Prelude.{◌≡◌, Bool, List, Some}
 use Rattle.std.proofs.Math.Path.{refl}
 use Rattle.std.proofs.Math.Bool.{true, false}
-use Rattle.slots.specs.declared.slots.Place.TheVariants.{At}
 use Rattle.slots.specs.Canon.{Order, below, same, above}
 use Rattle.slots.specs.Insertion.{order, seek, is_above, middle_of, halved, narrowed, seek_from, place_in}
 use Rattle.slots.proofs.Insertion.Laws.{seek_on, seek_bound}
@@ -132,10 +131,10 @@ module _ (a b : List ℕ) where
   found_in P zero p next = p
   found_in P (suc n) p next = found P (suc n) (suc n) 0 (suc n) n (omega arith) p next
 
-  narrow_bound : (n : ℕ) → narrowed n a b ≤ n
+  pub narrow_bound : (n : ℕ) → narrowed n a b ≤ n
   narrow_bound n = found_in (λ i. i ≤ n) n (omega arith) (λ i h e. omega arith)
 
-  pub place_bound : (n j : ℕ) → At j ≡ place_in n a b → j ≤ n
+  pub place_bound : (n j : ℕ) → Some j ≡ place_in n a b → j ≤ n
   unfolding place_in
   place_bound n j e = omega (arith, seek_bound a b (n - narrowed n a b) (narrowed n a b) j e, narrow_bound n)
 

@@ -97,3 +97,26 @@ module _ (a : List ℕ) (n i : ℕ) where
 
   pub ascends_done : n ≤ i + 1 → true ≡ ascends (slots_from a n i)
   ascends_done h = few_ascend (n - i) (drop (i * 16) a) (omega arith)
+
+-- of a slot and the one before it
+module _ (a : List ℕ) (n i : ℕ) (h : 1 ≤ i) where
+  abbrev pub is_after : Bool
+  is_after = is_below (compare_words (part (i * 16 - 16) (i * 16) a) (part (i * 16) (i * 16 + 16) a))
+
+  after_next : is_next a (i - 1) ≡ is_after
+  after_next =
+      let e : (i - 1) * 16 ≡ i * 16 - 16 = omega arith in
+      let f : (i - 1) * 16 + 16 ≡ i * 16 = omega arith in
+      ap₂ (λ (p q : ℕ). is_below (compare_words (part p q a) (part q (q + 16) a))) e f
+
+  pub after_goes : i < n → is_after ≡ true → ascends (slots_from a n (i + 1 - 1)) ≡ ascends (slots_from a n (i - 1))
+  after_goes k e =
+      let q : i + 1 - 1 ≡ i - 1 + 1 = omega arith in
+      ap (λ (j : ℕ). ascends (slots_from a n j)) q
+      ∙ ascends_next a n (i - 1) (omega arith) (after_next ∙ e)
+
+  pub after_not : i < n → is_after ≡ false → false ≡ ascends (slots_from a n (i - 1))
+  after_not k e = ascends_not a n (i - 1) (omega arith) (after_next ∙ e)
+
+  pub after_done : n ≤ i → true ≡ ascends (slots_from a n (i - 1))
+  after_done k = ascends_done a n (i - 1) (omega arith)

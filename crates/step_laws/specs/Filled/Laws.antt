@@ -2,16 +2,14 @@
 --     holds_source, stepped_filled     what a step asks for, and what it leaves
 --     settled_filled                   what settling a definition leaves
 -- Assumes nothing.
-use Rattle.std.specs.Prelude.{ℕ, ◌≤◌, ◌<◌, ◌≡◌, List, [], length}
+use Rattle.std.specs.Prelude.{ℕ, ◌≤◌, ◌<◌, ◌≡◌, List, [], length, Ok, Err}
 use Rattle.std.proofs.Common.{arith, ap, ◌∙◌}
 use Rattle.std.proofs.Math.Decide.{dec_lt}
 use Rattle.table.specs.Table.{Table}
 use Rattle.table.specs.Rules.{Rules}
 use Rattle.meaning.specs.Figure1.{body_count}
-use Rattle.slots.specs.declared.slots.Held.{Held}
-use Rattle.slots.specs.declared.slots.Held.TheVariants.{Count, Exceeded}
 use Rattle.slots.specs.Canon.{SameMembers}
-use Rattle.slots.specs.Holding.{Outcome, held_as, put_all, Gave}
+use Rattle.slots.specs.Holding.{Outcome, held_as, put_all, Gave, Held, no_room}
 use Rattle.set_step.specs.Started.{initial}
 use Rattle.set_step.specs.Stepped.{gathered, Source, SteppedSet}
 use Rattle.residuals.specs.Residual.{Residual, after_all, from_definition}
@@ -25,27 +23,27 @@ use Rattle.step_laws.specs.Filled.{Filled}
 
 -- an outcome o that holds the slots ss where they have room
 module _ (cap : ℕ) (ss : List (List ℕ)) (o : Outcome)
-    (holds : length ss ≤ cap → o ≡ held_as (Count (length ss)) (fill cap ss))
-    (exceeds : cap < length ss → o.held ≡ Exceeded)
+    (holds : length ss ≤ cap → o ≡ held_as (Ok (length ss)) (fill cap ss))
+    (exceeds : cap < length ss → o.held ≡ Err no_room)
   where
-    same_count : (i j : ℕ) → Count i ≡ Count j → i ≡ j
+    same_count : (i j : ℕ) → ◌≡◌ {A = Held} (Ok i) (Ok j) → i ≡ j
     same_count i j e = cc
 
     pub filled : (r : Held) (a : List ℕ) → held_as r a ≡ o → Filled cap ss r a
     filled r a e = by (dec_lt cap (length ss)) r e
       where
         by : Dec (cap < length ss) → (r : Held) → held_as r a ≡ o → Filled cap ss r a
-        by (yes l) (Count n) q =
-            let x : Count n ≡ Exceeded = ap (λ (z : Outcome). z.held) q ∙ exceeds l in
+        by (yes l) (Ok n) q =
+            let x : ◌≡◌ {A = Held} (Ok n) (Err no_room) = ap (λ (z : Outcome). z.held) q ∙ exceeds l in
             absurd (let y : ◌≡◌ {A = ℕ} 0 1 = cc in omega arith)
-        by (yes l) Exceeded q = l
-        by (no l) (Count n) q =
+        by (yes l) (Err _) q = l
+        by (no l) (Ok n) q =
             let m : length ss ≤ cap = omega arith in
             let s = q ∙ holds m in
             (same_count n (length ss) (ap (λ (z : Outcome). z.held) s), m, ap (λ (z : Outcome). z.area) s)
-        by (no l) Exceeded q =
+        by (no l) (Err _) q =
             let m : length ss ≤ cap = omega arith in
-            let x : Exceeded ≡ Count (length ss) = ap (λ (z : Outcome). z.held) (q ∙ holds m) in
+            let x : ◌≡◌ {A = Held} (Err no_room) (Ok (length ss)) = ap (λ (z : Outcome). z.held) (q ∙ holds m) in
             absurd (let y : ◌≡◌ {A = ℕ} 0 1 = cc in omega arith)
 
 module _ (t : Table) (rules : Rules t) where

@@ -14,7 +14,7 @@ use Rattle.std.proofs.Math.ListN.{length, get_or-map, get_or-eq_default}
 use Rattle.std.proofs.lemmas.List.{length-map}
 use Rattle.std.proofs.Math.Dec.{ltb}
 use borrow.Author.Tests.{eq-eqb, ne_eqb, le-leb, lt-leb, lt-ltb, le-ltb, not-true, not-false}
-use Rattle.table.specs.declared.answer.First.TheVariants.{Nowhere, Broken}
+use Rattle.std.specs.declared.option.Option.TheVariants.{Some, None}
 use Rattle.table.specs.declared.terms.Spot.{Spot}
 use Rattle.table.specs.First.{or_else, unless, first_false}
 use Rattle.table.proofs.FirstLaws.{or_else_assoc, first_false_append, first_in, pass_in}
@@ -170,7 +170,7 @@ module _ (l w v : List ℕ) (f : Fields (table_in l)) (r : Reaching (table_in l)
       record { fields = f; structure = d.structure; branching = d.branching; inside = omega arith }
 
   pub excess_broken : (n : ℕ) → ((k : ℕ) → k < n → exceeds (table_in l) k ≡ false) → exceeds (table_in l) n ≡ true
-      → ExcessDone l v (Broken n)
+      → ExcessDone l v (Some n)
   excess_broken n b e =
       record {
         answer = rw (excess_first (table_in l) n b e) refl;
@@ -180,7 +180,7 @@ module _ (l w v : List ℕ) (f : Fields (table_in l)) (r : Reaching (table_in l)
       }
 
   pub excess_nowhere : (n : ℕ) → ((k : ℕ) → k < n → exceeds (table_in l) k ≡ false) → get_or v term_count_at 0 ≤ n
-      → ExcessDone l v Nowhere
+      → ExcessDone l v None
   excess_nowhere n b h =
       let e = d.structure.terms in
       record {

@@ -13,7 +13,7 @@ use Rattle.std.proofs.Math.Bool.{cond}
 use Rattle.std.proofs.Math.Option.{none, some}
 use Rattle.std.proofs.Math.ListN.{length, get_or, get_or-eq_default}
 use borrow.Author.Tests.{eq-eqb, ne_eqb, le-leb, lt-leb}
-use Rattle.table.specs.declared.answer.First.TheVariants.{Nowhere, Broken}
+use Rattle.std.specs.declared.option.Option.TheVariants.{Some, None}
 use Rattle.table.specs.Grow.{grow}
 use Rattle.table.proofs.Grow.Laws.{length_grow, get_d_grow, grow_stable}
 use Rattle.table.specs.First.{or_else, unless}
@@ -234,7 +234,7 @@ module _ (t : Table) (v : List ℕ) (level : ℕ) (f : Fields t) (linked : first
 -- ---- the answers
 
 pub wide_broken : (l w' : List ℕ) (level : ℕ) → too_wide (table_in l) ≡ some level → Structured (table_in l) w'
-    → WideDone l w' (Broken level)
+    → WideDone l w' (Some level)
 wide_broken l w' level e s =
     record {
       answer = rw e refl;
@@ -243,5 +243,5 @@ wide_broken l w' level e s =
     }
 
 pub wide_nowhere : (l w' : List ℕ) → too_wide (table_in l) ≡ none → Structured (table_in l) w' → Reaching (table_in l) w'
-    → WideDone l w' Nowhere
+    → WideDone l w' None
 wide_nowhere l w' e s r = record { answer = rw e refl; structure = s; reaches = λ q. r }

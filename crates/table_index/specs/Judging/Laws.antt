@@ -11,11 +11,11 @@ use Rattle.std.proofs.Math.Path.{refl, ap}
 use mathlib.Core.List.{List, [], ◌∷◌}
 use Rattle.std.proofs.Math.Option.{Option, none, some}
 use Rattle.numbers.specs.Number.{list_bytes}
-use Rattle.table.specs.declared.answer.First.{First}
-use Rattle.table.specs.declared.answer.First.TheVariants.{Nowhere, Broken}
+use Rattle.std.specs.declared.option.Option as code
+use Rattle.std.specs.declared.option.Option.TheVariants.{Some, None}
 use Rattle.table.specs.declared.answer.Refusal.{Refusal}
-use Rattle.table.specs.declared.answer.Judged.{Judged}
-use Rattle.table.specs.declared.answer.Judged.TheVariants.{Accepted, Declined}
+use Rattle.std.specs.declared.result.Result.{Result}
+use Rattle.std.specs.declared.result.Result.TheVariants.{Ok, Err}
 use Rattle.table.proofs.FirstLaws.{first_out, first_short}
 use Rattle.table.specs.Tokens.{list_tokens, trailing, place_of}
 use Rattle.table.proofs.Tokens.Laws.{Follows, list_whole, nothing_left}
@@ -38,11 +38,11 @@ use Rattle.table_index.specs.Judging.{Judging, first_of, Filled, CheckDone, Chec
 
 -- ---- the code's answers
 
-pub Broken-out : (o : Option ℕ) (r : First) (p : ℕ) → r ≡ first_of o → r ≡ Broken p → o ≡ some p
+pub Broken-out : (o : Option ℕ) (r : code.Option ℕ) (p : ℕ) → r ≡ first_of o → r ≡ Some p → o ≡ some p
 Broken-out none r p e h = let z : ◌≡◌ {A = ℕ} 0 1 = cc in absurd (omega arith)
 Broken-out (some q) r p e h = cc
 
-pub Nowhere-out : (o : Option ℕ) (r : First) → r ≡ first_of o → r ≡ Nowhere → o ≡ none
+pub Nowhere-out : (o : Option ℕ) (r : code.Option ℕ) → r ≡ first_of o → r ≡ None → o ≡ none
 Nowhere-out none r e h = refl
 Nowhere-out (some q) r e h = let z : ◌≡◌ {A = ℕ} 0 1 = cc in absurd (omega arith)
 
@@ -129,15 +129,15 @@ listed_short l w f h =
 
 -- ---- with the work area's length
 
-pub checked_wrong : (l w : List ℕ) → (length w ≡ 8192 → ⊥) → Checked l w w (Declined (record { number = 1; place = 0 }))
+pub checked_wrong : (l w : List ℕ) → (length w ≡ 8192 → ⊥) → Checked l w w (Err (record { number = 1; place = 0 }))
 checked_wrong l w h = record { right = λ e. absurd (h e); wrong = λ _. (refl, refl) }
 
-module _ (l w w₁ : List ℕ) (r : Judged) where
-  pub checked_taken : length w ≡ 8192 → CheckDone l w₁ r → r ≡ Accepted → Checked l w w₁ Accepted
+module _ (l w w₁ : List ℕ) (r : Result Unit Refusal) where
+  pub checked_taken : length w ≡ 8192 → CheckDone l w₁ r → r ≡ Ok tt → Checked l w w₁ (Ok tt)
   checked_taken e d h = record { right = λ _. subst (CheckDone l w₁) h d; wrong = λ n. absurd (n e) }
 
-  pub checked_refused : (w' : List ℕ) (q : Refusal) → length w ≡ 8192 → CheckDone l w₁ r → r ≡ Declined q
-      → w' ≡ replicate (length w₁) 0 → Checked l w w' (Declined q)
+  pub checked_refused : (w' : List ℕ) (q : Refusal) → length w ≡ 8192 → CheckDone l w₁ r → r ≡ Err q
+      → w' ≡ replicate (length w₁) 0 → Checked l w w' (Err q)
   checked_refused w' q e d h c =
       let f = subst (CheckDone l w₁) h d in
       record {

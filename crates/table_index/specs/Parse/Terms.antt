@@ -10,7 +10,9 @@ use Rattle.std.specs.Prelude.{ℕ, suc, ◌+◌, ◌≤◌, ◌<◌, ◌≡◌, 
 use Rattle.table.specs.declared.terms.Spot.{Spot}
 use Rattle.table.specs.declared.terms.Head.{Head}
 use Rattle.table.specs.declared.terms.TermEnd.{TermEnd}
-use Rattle.table.specs.declared.terms.TermEnd.TheVariants.{NextTerm, NoTerm}
+use Rattle.std.specs.declared.result.Result.{Result}
+use Rattle.std.specs.declared.result.Result.TheVariants.{Ok, Err}
+use Rattle.table.specs.declared.answer.Refusal.{Refusal}
 use Rattle.table.specs.Table.{SetRef, fixed, Term, prefix, choice, par, call, SetDef, Definition, size}
 use Rattle.table.specs.Tokens.{tokens_at}
 use Rattle.table.specs.Parser.{Parser, got, number, pure, and_then}
@@ -41,14 +43,15 @@ pub record TermFoundBy (p : Parser Term) (sets : List SetDef) (l : List ℕ) (s 
   pub stored : TermStored sets s n i term w w'
   pub within : j ≤ length l
 
-abbrev pub TermReadBy : Parser Term → List SetDef → List ℕ → Spot → ℕ → ℕ → ℕ → List ℕ → List ℕ → TermEnd → Type 0
-TermReadBy p sets l s n i from w w' (NextTerm j m) = TermFoundBy p sets l s n i from w w' j m
-TermReadBy p sets l s n i from w w' (NoTerm r) = Refuses (p (tokens_at l from)) r × (length w' ≡ length w)
+abbrev pub TermReadBy : Parser Term → List SetDef → List ℕ → Spot → ℕ → ℕ → ℕ → List ℕ → List ℕ → Result TermEnd Refusal
+    → Type 0
+TermReadBy p sets l s n i from w w' (Ok e) = TermFoundBy p sets l s n i from w w' e.next e.terms
+TermReadBy p sets l s n i from w w' (Err r) = Refuses (p (tokens_at l from)) r × (length w' ≡ length w)
 
 -- ---- terms without terms in them
 
-pub record LeafRead (h : Head) (n next : ℕ) (w w' : List ℕ) (r : TermEnd) : Type 0 where
-  pub answer : r ≡ NextTerm next (n + 1)
+pub record LeafRead (h : Head) (n next : ℕ) (w w' : List ℕ) (r : Result TermEnd Refusal) : Type 0 where
+  pub answer : r ≡ Ok (record { next = next; terms = n + 1 })
   pub stored : WordStored h n (n + 1) w w'
 
 unfoldable pub call_rest : Parser Term
@@ -139,6 +142,6 @@ pub record DefinitionFound (sets : List SetDef) (l : List ℕ) (d n i : ℕ) (w 
   pub ends : j ≡ i + length (definition_numbers value)
   pub within : j ≤ length l
 
-abbrev pub DefinitionRead : List SetDef → List ℕ → ℕ → ℕ → ℕ → List ℕ → List ℕ → TermEnd → Type 0
-DefinitionRead sets l d n i w w' (NextTerm j m) = DefinitionFound sets l d n i w w' j m
-DefinitionRead sets l d n i w w' (NoTerm r) = Refuses (definition sets n (tokens_at l i)) r × (length w' ≡ length w)
+abbrev pub DefinitionRead : List SetDef → List ℕ → ℕ → ℕ → ℕ → List ℕ → List ℕ → Result TermEnd Refusal → Type 0
+DefinitionRead sets l d n i w w' (Ok e) = DefinitionFound sets l d n i w w' e.next e.terms
+DefinitionRead sets l d n i w w' (Err r) = Refuses (definition sets n (tokens_at l i)) r × (length w' ≡ length w)

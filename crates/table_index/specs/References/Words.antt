@@ -15,8 +15,8 @@ use Rattle.std.proofs.Math.Option.{Option, none, some}
 use Rattle.std.proofs.Math.ListN.{length}
 use borrow.Author.Tests.{lt-ltb, le-ltb, le-leb, lt-leb, eq-eqb, ne_eqb}
 use Rattle.table.specs.declared.terms.Spot.{Spot}
-use Rattle.table.specs.declared.answer.First.{First}
-use Rattle.table.specs.declared.answer.First.TheVariants.{Nowhere, Broken}
+use Rattle.std.specs.declared.option.Option as code
+use Rattle.std.specs.declared.option.Option.TheVariants.{Some, None}
 use Rattle.table.specs.Table.{SetRef, fixed, family, Term, stop, fail, prefix, choice, par, call}
 use Rattle.table.specs.Table.{Definition, Table, term_count}
 use Rattle.table.specs.First.{unless}
@@ -41,7 +41,7 @@ call_word_fits ds w =
     call_fits ds (level_in ds (own_digit w)) (own_digit w) (word_context w) (target_digit w)
 
 -- the first number of term n that breaks a rule
-abbrev pub bad_reference : Table → ℕ → First
+abbrev pub bad_reference : Table → ℕ → code.Option ℕ
 bad_reference t n = first_of (wrong_at t.definitions (node_at t n))
 
 -- ---- the tests of a call
@@ -188,12 +188,12 @@ module _ (l work : List ℕ) (j : Judging l work) (n : ℕ) (h : n < term_count 
       (λ d x. f ∙ call_word t n w word d x)
 
   pub call_kept : kind_digit w ≡ 5 → true ≡ call_word_fits t.definitions w
-      → Nowhere ≡ bad_reference t n
+      → None ≡ bad_reference t n
   unfolding unless
   call_kept k f = rw (call_answer true k f)
 
   pub param_kept : (kind_digit w ≡ 5 → ⊥) → parameter_digit w ≤ prefixes_digit w
-      → Nowhere ≡ bad_reference t n
+      → None ≡ bad_reference t n
   unfolding wrong_at term_of
   param_kept k x =
       rw (here_kept t.definitions (node_at t n).spot (node_at t n).place (term_of t n) (λ y. k (word.kind ∙ y))
@@ -210,26 +210,26 @@ module _ (l work : List ℕ) (j : Judging l work) (n : ℕ) (h : n < term_count 
         omega (arith, placed, place_in_list l j.fields n h)
 
     pub call_broken : kind_digit w ≡ 5 → false ≡ call_word_fits t.definitions w
-        → Broken (p + 1) ≡ bad_reference t n
+        → Some (p + 1) ≡ bad_reference t n
     unfolding unless
     call_broken k f =
-        let z : p + 1 ≡ suc (node_at t n).place = omega (arith, placed) in rw (call_answer false k f) (ap Broken z)
+        let z : p + 1 ≡ suc (node_at t n).place = omega (arith, placed) in rw (call_answer false k f) (ap Some z)
 
     pub param_broken : prefixes_digit w < parameter_digit w
-        → Broken (p + 2) ≡ bad_reference t n
+        → Some (p + 2) ≡ bad_reference t n
     unfolding wrong_at term_of
     param_broken x =
         let z : p + 2 ≡ (node_at t n).place + 2 = omega (arith, placed) in
         rw (here_broken t.definitions (node_at t n).spot (node_at t n).place (term_of t n)
-        (omega (arith, word.parameter, word.prefixes))) (ap Broken z)
+        (omega (arith, word.parameter, word.prefixes))) (ap Some z)
 
 -- ---- what it answers of all terms
 
-pub nowhere_out : (o : Option ℕ) → Nowhere ≡ first_of o → o ≡ none
+pub nowhere_out : (o : Option ℕ) → None ≡ first_of o → o ≡ none
 nowhere_out none e = refl
 nowhere_out (some i) e = let z : ◌≡◌ {A = ℕ} 0 1 = cc in absurd (omega arith)
 
-broken_out : (o : Option ℕ) (i : ℕ) → Broken i ≡ first_of o → o ≡ some i
+broken_out : (o : Option ℕ) (i : ℕ) → Some i ≡ first_of o → o ≡ some i
 broken_out none i e = let z : ◌≡◌ {A = ℕ} 0 1 = cc in absurd (omega arith)
 broken_out (some k) i e = cc
 
@@ -238,8 +238,8 @@ abbrev pub NoneBelow : Table → ℕ → Type 0
 NoneBelow t n = (k : ℕ) → k < n → wrong_at t.definitions (node_at t k) ≡ none
 
 pub first_broken : (t : Table) (n i : ℕ) → n < term_count t → NoneBelow t n
-    → Broken i ≡ bad_reference t n → Broken i ≡ first_of (first_wrong t)
+    → Some i ≡ bad_reference t n → Some i ≡ first_of (first_wrong t)
 first_broken t n i h b e = rw (first_wrong_in t n i h b (broken_out (wrong_at t.definitions (node_at t n)) i e))
 
-pub first_nowhere : (t : Table) (n : ℕ) → term_count t ≤ n → NoneBelow t n → Nowhere ≡ first_of (first_wrong t)
+pub first_nowhere : (t : Table) (n : ℕ) → term_count t ≤ n → NoneBelow t n → None ≡ first_of (first_wrong t)
 first_nowhere t n h b = rw (first_wrong_none t (λ k x. b k (omega arith)))

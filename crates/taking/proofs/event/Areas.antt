@@ -19,8 +19,7 @@ use Rattle.monitor_spec.specs.State.{slot_count, fill}
 use Rattle.slots.specs.Canon.{Sixteen}
 use Rattle.monitor_spec.proofs.State.Areas.{slot_count_fill, cleared_fill}
 use Rattle.monitor_spec.specs.Holds.{held_in}
-use Rattle.taking.specs.declared.event.Next.{Next}
-use Rattle.taking.specs.declared.event.Next.TheVariants.{Count, Refused}
+use Rattle.std.specs.Prelude.{Result, Ok, Err}
 use Rattle.taking.specs.Taking.{Empty, NextBy, Holding, Advanced}
 
 module _ (t : Table) (rules : Rules t) (p o : List ℕ) (c : ℕ) (h : Holding t p o c) where
@@ -51,25 +50,25 @@ module _ (t : Table) (rules : Rules t) (p o : List ℕ) (c : ℕ) (h : Holding t
       ap₂ (λ (i : ℕ) (a : List ℕ). zeros (i * 16) ++ drop (i * 16) a) h.held.number h.held.words
       ∙ cleared_fill n (slots_of rs) sixteen h.held.room ∙ ap (λ (i : ℕ). fill i []) (sym present_slots)
 
-  module _ (e k : ℕ) (r : Next) (o₁ : List ℕ) (g : NextBy t (slot_count o) k (held_in t p c) e r o₁) where
+  module _ (e k : ℕ) (r : Result ℕ ℕ) (o₁ : List ℕ) (g : NextBy t (slot_count o) k (held_in t p c) e r o₁) where
     -- with the slots of the present area, which are as many
     given : NextBy t (slot_count p) k (held_in t p c) e r o₁
     given = subst (λ (i : ℕ). NextBy t i k (held_in t p c) e r o₁) same_slots g
 
-    given_as : (x : Next) → r ≡ x → NextBy t (slot_count p) k (held_in t p c) e x o₁
-    given_as x q = subst (λ (y : Next). NextBy t (slot_count p) k (held_in t p c) e y o₁) q given
+    given_as : (x : Result ℕ ℕ) → r ≡ x → NextBy t (slot_count p) k (held_in t p c) e x o₁
+    given_as x q = subst (λ (y : Result ℕ ℕ). NextBy t (slot_count p) k (held_in t p c) e y o₁) q given
 
-    pub advanced_count : (j : ℕ) → r ≡ Count j → (p' : List ℕ) → p' ≡ zeros (c * 16) ++ drop (c * 16) p
-        → Advanced t e k c p o (Count j) p' o₁
+    pub advanced_count : (j : ℕ) → r ≡ Ok j → (p' : List ℕ) → p' ≡ zeros (c * 16) ++ drop (c * 16) p
+        → Advanced t e k c p o (Ok j) p' o₁
     unfolding Advanced NextBy
     advanced_count j q p' z =
-        let (x, y, f) = given_as (Count j) q in
+        let (x, y, f) = given_as (Ok j) q in
         record { passes = x; count = y; first = z ∙ cleared; second = f }
 
-    pub advanced_refused : (x : ℕ) → r ≡ Refused x → Advanced t e k c p o (Refused x) p o₁
+    pub advanced_refused : (x : ℕ) → r ≡ Err x → Advanced t e k c p o (Err x) p o₁
     unfolding Advanced NextBy Empty
     advanced_refused x q =
-        let (y, f) = given_as (Refused x) q in
+        let (y, f) = given_as (Err x) q in
         record {
           meets = y;
           first = refl;

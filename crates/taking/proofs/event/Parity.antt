@@ -19,21 +19,20 @@ use Rattle.monitor_spec.proofs.Expected.Laid.{laid_lengths}
 use Rattle.state.specs.declared.record.State.{State}
 use Rattle.state.specs.Record.{state_of, monitor_of}
 use Rattle.monitor_spec.specs.Holds.{held_in}
-use Rattle.taking.specs.declared.event.Next.{Next}
-use Rattle.taking.specs.declared.event.Next.TheVariants.{Count, Refused}
+use Rattle.std.specs.Prelude.{Result, Ok, Err}
 use Rattle.taking.specs.Taking.{Holding, Standing, Stepped, Advanced, Moved}
 
 -- the same areas under other names
-stepped_as : (met met' : Option ℕ) (next next' : List (List ℕ)) (a b x y x' y' : List ℕ) (r : Next) (a' b' : List ℕ)
+stepped_as : (met met' : Option ℕ) (next next' : List (List ℕ)) (a b x y x' y' : List ℕ) (r : Result ℕ ℕ) (a' b' : List ℕ)
     → met ≡ met' → next ≡ next' → x ≡ x' → y ≡ y' → Stepped met next a b x y r a' b'
     → Stepped met' next' a b x' y' r a' b'
 stepped_as met met' next next' a b x y x' y' r a' b' p q u v h = rw (← p, ← q, ← u, ← v) h
 
-swapped : (met : Option ℕ) (next : List (List ℕ)) (a b x y : List ℕ) (r : Next) (a' b' : List ℕ)
+swapped : (met : Option ℕ) (next : List (List ℕ)) (a b x y : List ℕ) (r : Result ℕ ℕ) (a' b' : List ℕ)
     → Stepped met next b a x y r b' a' → Stepped met next a b y x r a' b'
-swapped met next a b x y (Count c) a' b' h =
+swapped met next a b x y (Ok c) a' b' h =
     record { passes = h.passes; count = h.count; first = h.second; second = h.first }
-swapped met next a b x y (Refused k) a' b' h =
+swapped met next a b x y (Err k) a' b' h =
     record { meets = h.meets; first = h.second; second = h.first }
 
 module _ (t : Table) (regular : Regular t) (s : State) (a b : List ℕ) (h : Standing t (monitor_of s a b)) where
@@ -98,7 +97,7 @@ module _ (t : Table) (regular : Regular t) (s : State) (a b : List ℕ) (h : Sta
         holds a b (area0_is ∙ present_even s.taken _ _ parity)
         (area1_is ∙ present_even s.taken _ _ parity)
 
-    pub moved_even : (e : ℕ) (r : Next) (a' b' : List ℕ)
+    pub moved_even : (e : ℕ) (r : Result ℕ ℕ) (a' b' : List ℕ)
         → Advanced t e s.taken s.count a b r a' b' → Moved t (monitor_of s a b) e r a' b'
     unfolding Advanced Moved taking
     moved_even e r a' b' g =
@@ -113,7 +112,7 @@ module _ (t : Table) (regular : Regular t) (s : State) (a b : List ℕ) (h : Sta
         holds b a (area1_is ∙ present_odd s.taken _ _ parity)
         (area0_is ∙ present_odd s.taken _ _ parity)
 
-    pub moved_odd : (e : ℕ) (r : Next) (a' b' : List ℕ)
+    pub moved_odd : (e : ℕ) (r : Result ℕ ℕ) (a' b' : List ℕ)
         → Advanced t e s.taken s.count b a r b' a' → Moved t (monitor_of s a b) e r a' b'
     unfolding Advanced Moved taking
     moved_odd e r a' b' g =

@@ -10,8 +10,6 @@ use lib.ListN.{length}
 use Rattle.table.specs.Table.{Table}
 use Rattle.table.specs.Operations.{zeros}
 use Rattle.table.specs.Rules.{Rules}
-use Rattle.slots.specs.declared.slots.Held.{Held}
-use Rattle.slots.specs.declared.slots.Held.TheVariants as held
 use Rattle.set_step.specs.Stepped.{SteppedSet}
 use Rattle.residuals.specs.Residual.{Residual, after_all}
 use Rattle.residuals.specs.Slots.{slots_of}
@@ -22,8 +20,9 @@ use Rattle.monitor_spec.proofs.Feed.Laws.{event_unknown, event_full, event_excee
 use Rattle.monitor_spec.specs.Holds.{AreaHolds, held_in}
 use Rattle.step_laws.specs.Filled.{Filled}
 use Rattle.step_laws.specs.Filled.Laws.{stepped_filled}
-use Rattle.taking.specs.declared.event.Next.TheVariants.{Count, Refused}
 use Rattle.taking.specs.Taking.{Empty, NextBy}
+use Rattle.slots.specs.Holding.{Held, no_room}
+use Rattle.std.specs.Prelude.{Ok, Err}
 
 module _ (t : Table) (e k : ℕ) (p : List ℕ) (c : ℕ) (o : List ℕ) (z : Empty o) where
   abbrev cap : ℕ
@@ -36,11 +35,11 @@ module _ (t : Table) (e k : ℕ) (p : List ℕ) (c : ℕ) (o : List ℕ) (z : Em
   unfolding Empty
   zero = z
 
-  pub next_unknown : t.alphabet ≤ e → NextBy t cap k rs e (Refused 11) o
+  pub next_unknown : t.alphabet ≤ e → NextBy t cap k rs e (Err 11) o
   unfolding NextBy
   next_unknown a = (event_unknown t cap k rs e a, zero)
 
-  pub next_full : e < t.alphabet → k ≡ counter_most → NextBy t cap k rs e (Refused 12) o
+  pub next_full : e < t.alphabet → k ≡ counter_most → NextBy t cap k rs e (Err 12) o
   unfolding NextBy
   next_full a b = (event_full t cap k rs e a b, zero)
 
@@ -55,11 +54,11 @@ module _ (t : Table) (e k : ℕ) (p : List ℕ) (c : ℕ) (o : List ℕ) (z : Em
     filled : (x : Held) → r ≡ x → Filled cap (slots_of (after_all t e rs)) x o₁
     filled x q = rw q at (stepped_filled t rules e a p c h cap o zero r o₁ g)
 
-    pub next_exceeded : r ≡ held.Exceeded → (o' : List ℕ) → o' ≡ zeros (length o₁) → length o₁ ≡ length o
-        → NextBy t cap k rs e (Refused 13) o'
+    pub next_exceeded : r ≡ Err no_room → (o' : List ℕ) → o' ≡ zeros (length o₁) → length o₁ ≡ length o
+        → NextBy t cap k rs e (Err 13) o'
     unfolding NextBy
-    next_exceeded q o' w l = (event_exceeded t cap k rs e a b (filled held.Exceeded q), cleared o₁ o' w l)
+    next_exceeded q o' w l = (event_exceeded t cap k rs e a b (filled (Err no_room) q), cleared o₁ o' w l)
 
-    pub next_count : (n : ℕ) → r ≡ held.Count n → NextBy t cap k rs e (Count n) o₁
+    pub next_count : (n : ℕ) → r ≡ Ok n → NextBy t cap k rs e (Ok n) o₁
     unfolding NextBy
-    next_count n q = let (x, y, f) = filled (held.Count n) q in (event_passes t cap k rs e a b y, x, f)
+    next_count n q = let (x, y, f) = filled (Ok n) q in (event_passes t cap k rs e a b y, x, f)

@@ -6,7 +6,7 @@
 --     ended_then                        the same from a monitor that is reached
 --     run_ended, run_left, run_then     a run, by where it comes to; a run from a monitor that is reached
 -- Assumes nothing.
-use Rattle.std.specs.Prelude.{ℕ, suc, ◌+◌, ◌<◌, ◌≤◌, ◌≡◌, refl, List, ◌∷◌, length, get_or, drop}
+use Rattle.std.specs.Prelude.{ℕ, suc, ◌+◌, ◌<◌, ◌≤◌, ◌≡◌, refl, List, ◌∷◌, length, get_or, drop, Ok, Err}
 use Rattle.std.proofs.Common.{add-one, ◌∙◌, drop_of_length-le, drop-cons}
 use Rattle.std.proofs.Math.Path.{ap, sym}
 use Rattle.table.specs.Table.{Table}
@@ -17,11 +17,10 @@ use Rattle.monitor_spec.proofs.Fold.Laws.{through_went, through_stops}
 use Rattle.monitor_spec.specs.Feed.{take_event, ending_of}
 use Rattle.monitor_spec.proofs.Consistent.Laws.{take_laid}
 use Rattle.state.specs.declared.record.State.{State}
-use Rattle.state.specs.declared.answer.Answer.{Answer}
-use Rattle.state.specs.declared.answer.Answer.TheVariants as answer
+use Rattle.state.specs.Answers.{Answer}
+use Rattle.state.specs.declared.answer.Declined.TheVariants as answer
 use Rattle.state.specs.Record.{monitor_of}
-use Rattle.taking.specs.declared.event.Taken.{Taken}
-use Rattle.taking.specs.declared.event.Taken.TheVariants.{Went, Stopped}
+use Rattle.taking.specs.Taking.{Taken}
 use Rattle.taking.specs.declared.run.Run.{Run}
 use Rattle.taking.specs.declared.run.Run.TheVariants.{Ended, Left}
 use Rattle.taking.specs.Taking.{Standing, TakenBy}
@@ -47,7 +46,7 @@ module _ (t : Table) (m : Monitor) (es : List ℕ) (i : ℕ) where
       split : through (take_event t) m i (drop i es) ≡ through (take_event t) m' j (get_or es j 0 ∷ drop (suc j) es)
       split = h.rest ∙ ap (through (take_event t) m' j) (drop-cons es j 0 l)
 
-      pub reached_next : Regular t → (s' : State) → r ≡ Went s' → ReachedAt t m es i (monitor_of s' a' b') (j + 1)
+      pub reached_next : Regular t → (s' : State) → r ≡ Ok s' → ReachedAt t m es i (monitor_of s' a' b') (j + 1)
       reached_next regular s' q =
           let e : take_event t m' (get_or es j 0) ≡ went (monitor_of s' a' b') = rw q at g in
           record {
@@ -61,15 +60,15 @@ module _ (t : Table) (m : Monitor) (es : List ℕ) (i : ℕ) where
                 ∙ through_went (take_event t) m' (monitor_of s' a' b') j (get_or es j 0) (drop (suc j) es) e);
           }
 
-      pub ended_refused : (k : ℕ) → r ≡ Stopped k
-          → EndedFrom t m es i (answer.Stopped (record { number = k; place = j }) s) a' b'
+      pub ended_refused : (k : ℕ) → r ≡ Err k
+          → EndedFrom t m es i (Err (answer.Stopped (record { number = k; place = j }) s)) a' b'
       unfolding EndedFrom ending_of
       ended_refused k q n =
           let e : (take_event t m' (get_or es j 0) ≡ stops k) × (a' ≡ a) × (b' ≡ b) = rw q at g in
           rw (e.1, e.2) (sym (ap (ending_of n) (split
           ∙ through_stops (take_event t) m' j k (get_or es j 0) (drop (suc j) es) e.0)))
 
-    pub ended_done : length es ≤ j → EndedFrom t m es i (answer.Given s) a b
+    pub ended_done : length es ≤ j → EndedFrom t m es i (Ok s) a b
     unfolding EndedFrom ending_of through
     ended_done l n = sym (ap (ending_of n) (h.rest ∙ ap (through (take_event t) m' j) (drop_of_length-le es l)))
 

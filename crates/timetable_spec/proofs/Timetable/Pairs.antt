@@ -1,13 +1,14 @@
 -- One pass over the windows of a list: what stands at a position, and what each definition says of the rest.
 --     drop_pair, drop_short                  two numbers more, and none
 --     good_next, good_bad, good_done         good_from, at a position
---     some_next, some_found, some_done       some_window;  some_not, some_is, some_last: by cases
+--     some_not, some_is, some_last           some_window, by cases
 --     gap_next, gap_found, gap_done          some_window of the gaps
+--     pair_found, pair_next, pair_none       some_window, by pairs that are taken off the front
 -- Assumes nothing.
-use Rattle.std.specs.Prelude.{ℕ, suc, ◌+◌, ◌≤◌, ◌<◌, ◌≡◌, Bool, true, ◌&&◌, ◌||◌, List, [], ◌∷◌, ◌⊎◌, drop}
+use Rattle.std.specs.Prelude.{ℕ, suc, ◌+◌, ◌≤◌, ◌<◌, ◌≡◌, Bool, true, ◌&&◌, ◌||◌, List, [], ◌∷◌, ◌++◌, ◌⊎◌, drop}
 use Rattle.std.proofs.Common.{arith, ◌∙◌, inl, inr, drop_of_length-le, drop-cons, eq-eqb, ne_eqb}
 use Rattle.std.proofs.Math.Decide.{dec_lt}
-use Rattle.std.proofs.Math.Path.{sym, ap}
+use Rattle.std.proofs.Math.Path.{refl, sym, ap}
 use Rattle.std.proofs.Math.Bool.{false, or-false}
 use Rattle.std.proofs.Math.ListN.{length, get_or}
 use Rattle.std.proofs.Math.Dec.{eqb}
@@ -76,23 +77,6 @@ module _ (t : ℕ → ℕ → Bool) where
   unfolding some_window
   some_last a b = or-false (t a b)
 
-  module _ (w : List ℕ) (i : ℕ) where
-    module _ (h : i + 1 < length w) where
-      pub some_next : t (get_or w i 0) (get_or w (i + 1) 0) ≡ false
-          → some_window t (drop i w) ≡ some_window t (drop (i + 2) w)
-      some_next e = ap (some_window t) (drop_pair w i h) ∙ some_not _ _ _ e
-
-      pub some_found : t (get_or w i 0) (get_or w (i + 1) 0) ≡ true → some_window t (drop i w) ≡ true
-      some_found e = ap (some_window t) (drop_pair w i h) ∙ some_is _ _ _ e
-
-    pub some_done : length w ≤ i + 1 → some_window t (drop i w) ≡ false
-    unfolding some_window
-    some_done h = by (drop_short w i h)
-      where
-        by : (length w ≤ i) ⊎ ((i < length w) × (drop i w ≡ get_or w i 0 ∷ [])) → some_window t (drop i w) ≡ false
-        by (inl l) = ap (some_window t) (drop_of_length-le w l)
-        by (inr l) = ap (some_window t) l.1
-
 -- ---- some_window of the gaps, from the end of the window before
 module _ (t : ℕ → ℕ → Bool) (w : List ℕ) (end i : ℕ) where
   module _ (h : i + 1 < length w) where
@@ -118,3 +102,27 @@ module _ (t : ℕ → ℕ → Bool) (w : List ℕ) (end i : ℕ) where
       by (inr l) =
           ap (λ (x : List ℕ). some_window t (gaps_from end x)) l.1
           ∙ ap (some_window t) (gaps_odd end (get_or w i 0)) ∙ some_last t end week
+
+-- ---- by pairs that are taken off the front
+module _ (t : ℕ → ℕ → Bool) where
+  pair_front : (x rest : List ℕ) → length x ≡ 2
+      → some_window t (x ++ rest) ≡ (t (get_or x 0 0) (get_or x 1 0) || some_window t rest)
+  unfolding some_window
+  pair_front [] rest e = absurd (omega arith)
+  pair_front (a ∷ []) rest e = absurd (omega arith)
+  pair_front (a ∷ b ∷ []) rest e = refl
+  pair_front (a ∷ b ∷ d ∷ x) rest e = absurd (omega arith)
+
+  pub pair_found : (s x rest : List ℕ) → s ≡ x ++ rest → length x ≡ 2 → true ≡ t (get_or x 0 0) (get_or x 1 0)
+      → true ≡ some_window t s
+  pair_found s x rest e l h = rw e (rw (pair_front x rest l, ← h) refl)
+
+  pub pair_next : (s x rest : List ℕ) → s ≡ x ++ rest → length x ≡ 2 → false ≡ t (get_or x 0 0) (get_or x 1 0)
+      → some_window t rest ≡ some_window t s
+  pair_next s x rest e l h = rw e (rw (pair_front x rest l, ← h) refl)
+
+  pub pair_none : (s : List ℕ) → length s < 2 → false ≡ some_window t s
+  unfolding some_window
+  pair_none [] h = refl
+  pair_none (a ∷ []) h = refl
+  pair_none (a ∷ b ∷ s) h = absurd (omega arith)

@@ -4,12 +4,10 @@
 --     read_long, read_none, read_short, read_room, read_some, read_more
 --                              what a read into the part of the buffer behind it leaves
 -- Assumes nothing.
-use Rattle.std.specs.Prelude.{ℕ, ◌+◌, ◌-◌, ◌≤◌, ◌<◌, ◌≡◌, List, ◌++◌, length, take, drop}
-use Rattle.std.proofs.Common.{arith, ap, sym, subst, ◌∙◌, length-drop, take-add, length-take-le}
+use Rattle.std.specs.Prelude.{ℕ, ◌+◌, ◌-◌, ◌≤◌, ◌<◌, ◌≡◌, List, ◌++◌, length, take, drop, Ok}
+use Rattle.std.proofs.Common.{arith, ap, sym, subst, ◌∙◌, length-drop, take-add, length-take-le, Continue}
 use borrow.Rule.Slice.PartMut.{mid_of, put_mid, same_len_mid, take_put}
-use Rattle.input.specs.declared.reading.Arrived.{Arrived}
-use Rattle.input.specs.declared.reading.Arrived.TheVariants.{Bytes}
-use Rattle.input.specs.Arrival.{Arrives}
+use Rattle.input.specs.Arrival.{Arrived, Arrives}
 use Rattle.input.specs.Arrival.Laws.{arrives_bytes}
 use Rattle.trace_front.specs.Wanted.{wanted_of, Fronts}
 use Rattle.trace_front.specs.Wanted.Laws.{fronts_first, fronts_more}
@@ -68,7 +66,7 @@ module _ (front filled : List ℕ) (n want : ℕ) (h : Held front n) (size : len
       some : (k : ℕ) → (k ≡ 0 → ⊥) → k ≡ wanted_of (take n after) → 0 < wanted_of (take n after)
       some k f g = omega (arith, f)
 
-  module _ (r : Arrived) (more : ℕ) (came : Arrives (length filled) r) (bytes : r ≡ Bytes more) where
+  module _ (r : Arrived) (more : ℕ) (came : Arrives (length filled) r) (bytes : r ≡ Ok (Continue more)) where
     pub read_room : n + more ≤ 16387
     read_room =
         let room = held_room front n h in

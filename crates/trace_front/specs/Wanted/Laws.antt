@@ -9,7 +9,9 @@ use Rattle.std.specs.Prelude.{ℕ, ◌+◌, ◌-◌, ◌≤◌, ◌<◌, ◌≡�
 use Rattle.std.proofs.Common.{arith, subst, ◌∙◌, append-nil, length-append, length-drop, lt-ltb, le-ltb}
 use Rattle.std.proofs.Math.Decide.{dec_lt}
 use Rattle.std.proofs.Math.Path.{ap, sym}
-use Rattle.numbers.specs.declared.Reading.TheVariants.{Value, Truncated, Malformed}
+use Rattle.std.specs.declared.result.Result.TheVariants.{Ok, Err}
+use Rattle.numbers.specs.declared.Reading.{Reading}
+use Rattle.numbers.specs.declared.ReadError.TheVariants.{Truncated, Malformed}
 use Rattle.numbers.specs.Number.{Scan, value, truncated, malformed, scan_with, read_number}
 use Rattle.numbers.specs.Position.{read_at}
 use Rattle.numbers.specs.Position.Laws.{value_read, truncated_read, malformed_read}
@@ -37,19 +39,20 @@ module _ (v k : ℕ) where
 -- ---- by what is read
 
 module _ (s : List ℕ) where
-  pub wanted_value : (v q r : ℕ) → Value v q ≡ read_at s 0 → r ≡ missing_of v (length s - q) → r ≡ wanted_of s
+  pub wanted_value : (x : Reading) (r : ℕ) → Ok x ≡ read_at s 0 → r ≡ missing_of x.value (length s - x.next)
+      → r ≡ wanted_of s
   unfolding wanted_of wanted_by
-  wanted_value v q r e h =
-      h ∙ ap (missing_of v) (sym (length-drop q s)) ∙ sym (ap wanted_by (value_read s 0 v q e).scan)
+  wanted_value x r e h =
+      h ∙ ap (missing_of x.value) (sym (length-drop x.next s)) ∙ sym (ap wanted_by (value_read s 0 x e).scan)
 
-  pub wanted_within : (v q : ℕ) → Value v q ≡ read_at s 0 → q ≤ length s
-  wanted_within v q e = (value_read s 0 v q e).within
+  pub wanted_within : (x : Reading) → Ok x ≡ read_at s 0 → x.next ≤ length s
+  wanted_within x e = (value_read s 0 x e).within
 
-  pub wanted_truncated : Truncated ≡ read_at s 0 → 1 ≡ wanted_of s
+  pub wanted_truncated : Err Truncated ≡ read_at s 0 → 1 ≡ wanted_of s
   unfolding wanted_of wanted_by
   wanted_truncated e = sym (ap wanted_by (truncated_read s 0 e))
 
-  pub wanted_malformed : Malformed ≡ read_at s 0 → 0 ≡ wanted_of s
+  pub wanted_malformed : Err Malformed ≡ read_at s 0 → 0 ≡ wanted_of s
   unfolding wanted_of wanted_by
   wanted_malformed e = sym (ap wanted_by (malformed_read s 0 e))
 

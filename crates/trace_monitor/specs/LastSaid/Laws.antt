@@ -4,7 +4,7 @@
 --     refused_said       a refusal was said
 --     cut_short_said     the input ended within its front
 -- Assumes nothing.
-use Rattle.std.specs.Prelude.{ℕ, ◌≡◌, refl}
+use Rattle.std.specs.Prelude.{ℕ, ◌≡◌, refl, Ok}
 use Rattle.std.proofs.Common.{arith, sym, ◌∙◌, length-append}
 use Rattle.std.proofs.Math.Path.{ap}
 use mathlib.Core.List.{List, [], ◌∷◌, ◌++◌, append_assoc, flatten}
@@ -109,7 +109,7 @@ module _ (s : List ℕ) (n p : ℕ) (h : beginning_of s ≡ declines n p) where
 -- ---- what is told
 
 module _ (s : List ℕ) where
-  ended_by : (b : Beginning) → beginning_of s ≡ b → (end : End) (y : Said) → SaysBy b (Ended end y)
+  ended_by : (b : Beginning) → beginning_of s ≡ b → (end : End) (y : Said) → SaysBy b (Ok (Ended end y))
       → AfterReads s (said_of y)
   unfolding SaysBy Followed
   ended_by (declines n p) h end y f = absurd f
@@ -128,20 +128,20 @@ module _ (s : List ℕ) where
             omega arith;
       }
 
-  pub ended_said : (end : End) (y : Said) → Says s (Ended end y) → AfterReads s (said_of y)
+  pub ended_said : (end : End) (y : Said) → Says s (Ok (Ended end y)) → AfterReads s (said_of y)
   ended_said = ended_by (beginning_of s) refl
 
-  refused_by : (b : Beginning) → beginning_of s ≡ b → Decided s → (y : Said) → SaysBy b (Refused y)
+  refused_by : (b : Beginning) → beginning_of s ≡ b → Decided s → (y : Said) → SaysBy b (Ok (Refused y))
       → WhateverFollows s (said_of y)
   unfolding SaysBy Followed
   refused_by (declines n p) h d y f = declined_said s n p h d (said_of y) f.0 f.1
   refused_by (begins ns t m es) h d y (none_yet, f) =
       begun_refused s ns t m (h ∙ ap (begins ns t m) none_yet) (said_of y) f
 
-  pub refused_said : Decided s → (y : Said) → Says s (Refused y) → WhateverFollows s (said_of y)
+  pub refused_said : Decided s → (y : Said) → Says s (Ok (Refused y)) → WhateverFollows s (said_of y)
   refused_said = refused_by (beginning_of s) refl
 
-  pub cut_short_said : (y : Said) → EndSaid s (Refused y)
+  pub cut_short_said : (y : Said) → EndSaid s (Ok (Refused y))
       → (trace_of s ≡ said_line y ∷ []) × (line_by (said_line y) ≡ line_of s) × (y.count.lines ≡ 1)
   cut_short_said y e =
       let g : trace_of s ≡ said_line y ∷ [] = e.trace ∙ ap (λ (x : TraceLine). x ∷ []) (sym e.told.0) in

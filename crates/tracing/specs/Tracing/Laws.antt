@@ -21,8 +21,8 @@ use Rattle.state.specs.declared.record.State.{State}
 use Rattle.state.specs.declared.answer.EventBits.{EventBits}
 use Rattle.state.specs.Record.{verdict_of, monitor_of}
 use Rattle.state.specs.Answers.{bits_of}
-use Rattle.taking.specs.declared.event.Taken.{Taken}
-use Rattle.taking.specs.declared.event.Taken.TheVariants as taking
+use Rattle.taking.specs.Taking.{Taken}
+use Rattle.std.specs.declared.result.Result.TheVariants as taken
 use Rattle.feeding.specs.Feeding.{Standing, TakenBy}
 use Rattle.trace_spec.specs.TraceLine.{takes, refuses}
 use Rattle.trace_spec.specs.Trace.{permitted_by, trace_of}
@@ -61,21 +61,21 @@ module _ (l w : List ℕ) (m : Monitor) (x : Tracing l w m) where
   -- ---- `trace_event`, by what `take_event` answered
 
   module _ (e : ℕ) (r : Taken) (a b : List ℕ) (said : TakenBy (table_in l) m e r a b) where
-    pub went_out : (s : State) → r ≡ taking.Went s → take_event (table_in l) m e ≡ went (monitor_of s a b)
+    pub went_out : (s : State) → r ≡ taken.Ok s → take_event (table_in l) m e ≡ went (monitor_of s a b)
     went_out s q = rw q at said
 
-    pub went_tracing : (s : State) → r ≡ taking.Went s → Tracing l w (monitor_of s a b)
+    pub went_tracing : (s : State) → r ≡ taken.Ok s → Tracing l w (monitor_of s a b)
     went_tracing s q = tracing_next e (monitor_of s a b) (went_out s q)
 
-    pub traced_went : (s : State) → r ≡ taking.Went s → (bits : EventBits)
+    pub traced_went : (s : State) → r ≡ taken.Ok s → (bits : EventBits)
         → bits_of bits ≡ offer.offer_bits (table_in l) (monitor_of s a b) (verdict_of s.verdict)
         → TracedOn l w m e s bits a b
     unfolding permitted_by
     traced_went s q bits h = record { takes = went_out s q; permitted = h; tracing = went_tracing s q }
 
-    pub traced_stopped : (k : ℕ) → r ≡ taking.Stopped k → RefusedEvent l m e k m.state.taken a b
+    pub traced_stopped : (k : ℕ) → r ≡ taken.Err k → RefusedEvent l m e k m.state.taken a b
     traced_stopped k q =
-        let (h, f, g) : TakenBy (table_in l) m e (taking.Stopped k) a b = rw q at said in
+        let (h, f, g) : TakenBy (table_in l) m e (taken.Err k) a b = rw q at said in
         record { stopped = h; placed = refl; first = f; second = g }
 
 -- ---- the trace of what was read

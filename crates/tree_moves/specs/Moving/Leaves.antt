@@ -3,7 +3,7 @@
 --     leaf_left, leaf_first, leaf_next, leaf_exceeded, leaf_end    its loop
 --     leaf_whole, leaf_back                        the whole result; the slot as it was
 -- Assumes nothing.
-use Rattle.std.specs.Prelude.{ℕ, suc, ◌+◌, ◌-◌, ◌*◌, ◌/◌, ◌<◌, ◌≤◌, ◌≡◌, List, [], ◌∷◌, ◌++◌, map, get_or, drop}
+use Rattle.std.specs.Prelude.{ℕ, suc, ◌+◌, ◌-◌, ◌*◌, ◌/◌, ◌<◌, ◌≤◌, ◌≡◌, List, [], ◌∷◌, ◌++◌, map, get_or, drop, Ok, Err}
 use Rattle.std.proofs.Common.{arith, add-one, ap, ◌∙◌, drop_of_length-le, drop-cons, eq-eqb}
 use Rattle.std.proofs.Math.Path.{refl, sym}
 use Rattle.std.proofs.Math.ListN.{length}
@@ -12,8 +12,6 @@ use Rattle.table.specs.Table.{Table, term_count}
 use Rattle.table.specs.Branches.{branches}
 use Rattle.table.specs.Branches.Capped.{capped}
 use Rattle.table.specs.Node.{term_of}
-use Rattle.slots.specs.declared.slots.Held.{Held}
-use Rattle.slots.specs.declared.slots.Held.TheVariants.{Count, Exceeded}
 use Rattle.table.specs.Memory.{remember}
 use Rattle.node_word.specs.Word.{term_of_word, memory_of}
 use Rattle.residuals.specs.Residual.{resolve}
@@ -27,7 +25,7 @@ use Rattle.resolving.specs.ResidualWords.Popped.{clean_push_all, pop_back}
 use Rattle.resolving.specs.Distinct.{window}
 use Rattle.resolving.specs.Distinct.Laws.{window_cons}
 use Rattle.tree_walk.specs.Walk.{room, leaf_results, longest, onto}
-use Rattle.slots.specs.Holding.{Outcome, held_as, put_one, put_all, Gave}
+use Rattle.slots.specs.Holding.{Outcome, held_as, put_one, put_all, Gave, Held, no_room}
 use Rattle.slots.proofs.Holding.Laws.{put_none, put_single, put_then, put_stop}
 use Rattle.tree_walk.specs.Walk.Leaves.{results_yes, nodes_short, nodes_at}
 use Rattle.tree_ways.specs.Only.{rebuilt, ending, tried, Rest}
@@ -169,17 +167,17 @@ module _ {t : Table} {bound e : ℕ} {src : List ℕ} {p n also : ℕ} {slot dst
             one_more =
                 rw (opened, ex, written, push_all_append slot (nodes (nth (resolve t (k + 1) (memory_of m)) i)) tail)
 
-            pub leaf_next : (d : ℕ) → r ≡ Count d → (left l d (i + 1) ≡ left y q i) × (d * 16 ≤ length l)
+            pub leaf_next : (d : ℕ) → r ≡ Ok d → (left l d (i + 1) ≡ left y q i) × (d * 16 ≤ length l)
             unfolding leaf_left
             leaf_next d ed = (
               put_then y q (x ∷ []) _ ed (g.same ∙ put_single y q x) ∙ sym one_more,
               rw ed at g.fits,
             )
 
-            pub leaf_exceeded : r ≡ Exceeded → held_as Exceeded l ≡ left y q i
+            pub leaf_exceeded : r ≡ Err no_room → held_as (Err no_room) l ≡ left y q i
             leaf_exceeded ed = put_stop y q (x ∷ []) _ ed (g.same ∙ put_single y q x) ∙ sym one_more
 
-      pub leaf_end : (y : List ℕ) (q i : ℕ) → b ≤ i → held_as (Count q) y ≡ left y q i
+      pub leaf_end : (y : List ℕ) (q i : ℕ) → b ≤ i → held_as (Ok q) y ≡ left y q i
       unfolding leaf_left onto
       leaf_end y q i h =
           put_none y q ∙ rw (drop_of_length-le results {i = i} (omega (arith, count_is)))

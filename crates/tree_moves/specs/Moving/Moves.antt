@@ -4,19 +4,17 @@
 --     left_room, left_pushed, left_carries, left_carried     a node that does not: pushed, or carried where marked
 --     left_end                             no leaf is left
 -- Assumes nothing.
-use Rattle.std.specs.Prelude.{ℕ, suc, ◌+◌, ◌-◌, ◌*◌, ◌/◌, ◌%◌, ◌<◌, ◌≤◌, ◌≡◌, refl, List, ◌∷◌, ◌++◌, length, get_or}
+use Rattle.std.specs.Prelude.{ℕ, suc, ◌+◌, ◌-◌, ◌*◌, ◌/◌, ◌%◌, ◌<◌, ◌≤◌, ◌≡◌, refl, List, ◌∷◌, ◌++◌, length, get_or, Ok, Err}
 use Rattle.std.proofs.Common.{arith, ap, sym, ◌∙◌}
 use Rattle.std.proofs.Math.Decide.{dec_lt}
 use Rattle.table.specs.Table.{Table}
-use Rattle.slots.specs.declared.slots.Held.{Held}
-use Rattle.slots.specs.declared.slots.Held.TheVariants.{Count, Exceeded}
 use Rattle.resolving.specs.Lawful.{Lawful}
 use Rattle.resolving.specs.ResidualWords.{pushed, push_all}
 use Rattle.resolving.specs.Distinct.{window}
 use Rattle.resolving.specs.Distinct.Laws.{window_cons, window_none}
 use Rattle.tree_walk.specs.Walk.{onto}
 use Rattle.tree_walk.specs.Walk.Results.{onto_append, onto_head}
-use Rattle.slots.specs.Holding.{Outcome, held_as, put_all, Gave}
+use Rattle.slots.specs.Holding.{Outcome, held_as, put_all, Gave, Held, no_room}
 use Rattle.slots.proofs.Holding.Laws.{put_none, put_then, put_stop}
 use Rattle.tree_ways.specs.Only.{grown, rebuilt, starting, tried_by, moved, Movable, Rest}
 use Rattle.tree_ways.specs.Only.{Carries}
@@ -43,7 +41,7 @@ moves_first s =
 
 module _ {t : Table} {e : ℕ} {src : List ℕ} {p n each also : ℕ} {slot dst : List ℕ} {c : ℕ} {o : Outcome}
     (s : MovesLeft t e src p n each also slot dst c o) where
-  pub left_end : each ≡ 0 → Gave o (Count c) dst
+  pub left_end : each ≡ 0 → Gave o (Ok c) dst
   unfolding stepped_moves onto
   left_end z =
       record { same = put_none dst c ∙ rw (z, moved_none t e (window p n src) also) at s.same; fits = s.held }
@@ -119,7 +117,7 @@ module _ {t : Table} {e : ℕ} {src : List ℕ} {p n each also : ℕ} {slot dst 
         unfolding stepped_leaf
         leaf_part = g1.same ∙ rw (tried_some t e first (each % 2) (rebuilt t e others (also / 2)) moves)
 
-        pub left_cleared : (d : ℕ) → r1 ≡ Count d → MovesLeft t e src p n (each - 1) also slot l1 d o
+        pub left_cleared : (d : ℕ) → r1 ≡ Ok d → MovesLeft t e src p n (each - 1) also slot l1 d o
         left_cleared d ed =
             let h : (each - 1) / 2 ≡ each / 2 = omega arith in
             let z : (each - 1) % 2 ≡ 0 = omega arith in
@@ -134,7 +132,7 @@ module _ {t : Table} {e : ℕ} {src : List ℕ} {p n each also : ℕ} {slot dst 
                   ∙ s.same;
             }
 
-        pub left_exceeded : r1 ≡ Exceeded → Gave o Exceeded l1
+        pub left_exceeded : r1 ≡ Err no_room → Gave o (Err no_room) l1
         left_exceeded ed =
             record {
               same = put_stop dst c _ _ ed leaf_part ∙ sym (by_parts each dst c) ∙ s.same;

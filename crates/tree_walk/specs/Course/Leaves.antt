@@ -4,7 +4,7 @@
 --     go_back                            its nodes are popped again
 --     go_next, go_exceeded               what is left after that
 -- Assumes nothing.
-use Rattle.std.specs.Prelude.{ℕ, ◌+◌, ◌-◌, ◌*◌, ◌<◌, ◌≤◌, ◌≡◌, refl, Bool, true, false, length, drop, eqb}
+use Rattle.std.specs.Prelude.{ℕ, ◌+◌, ◌-◌, ◌*◌, ◌<◌, ◌≤◌, ◌≡◌, refl, Bool, true, false, length, drop, eqb, Ok, Err}
 use Rattle.std.proofs.Common.{arith, add-one, ◌∙◌, drop_of_length-le, drop-cons, eqb-true}
 use Rattle.std.proofs.Math.Path.{ap, sym}
 use mathlib.Core.List.{List, [], ◌∷◌, ◌++◌, map}
@@ -12,9 +12,7 @@ use Rattle.std.proofs.Math.ListN.{get_or, length-map}
 use Rattle.table.specs.Table.{Table}
 use Rattle.table.specs.Memory.{remember}
 use Rattle.node_word.specs.Word.{term_of_word, memory_of}
-use Rattle.slots.specs.declared.slots.Held.{Held}
-use Rattle.slots.specs.declared.slots.Held.TheVariants.{Count, Exceeded}
-use Rattle.slots.specs.Holding.{held_as, put_all, Gave}
+use Rattle.slots.specs.Holding.{held_as, put_all, Gave, Held, no_room}
 use Rattle.slots.proofs.Holding.Laws.{put_none, put_then, put_stop}
 use Rattle.resolving.specs.ResidualWords.Pushed.{head_push_all}
 use Rattle.resolving.specs.ResidualWords.Popped.{clean_push_all, pop_back}
@@ -148,16 +146,16 @@ module _ {t : Table} {bound e : ℕ} {store : List ℕ} (ready : Ready t bound e
                 es',
               )
 
-          pub leaf_next : (d : ℕ) → r1 ≡ Count d → leaf_rest t e store k rest slot l1 d (j + 1)
+          pub leaf_next : (d : ℕ) → r1 ≡ Ok d → leaf_rest t e store k rest slot l1 d (j + 1)
               ≡ leaf_rest t e store k rest slot a c j
           unfolding leaf_rest walked
           leaf_next d e1 = put_then a c _ _ e1 g1.same ∙ sym leaf_split
 
-          pub leaf_exceeded : r1 ≡ Exceeded → held_as Exceeded l1 ≡ leaf_rest t e store k rest slot a c j
+          pub leaf_exceeded : r1 ≡ Err no_room → held_as (Err no_room) l1 ≡ leaf_rest t e store k rest slot a c j
           unfolding walked
           leaf_exceeded e1 = put_stop a c _ _ e1 g1.same ∙ sym leaf_split
 
-  pub leaf_end : (a : List ℕ) (c j : ℕ) → get_or store (k * 257) 0 ≤ j → held_as (Count c) a
+  pub leaf_end : (a : List ℕ) (c j : ℕ) → get_or store (k * 257) 0 ≤ j → held_as (Ok c) a
       ≡ leaf_rest t e store k rest slot a c j
   unfolding leaf_rest options joins onto
   leaf_end a c j w =
@@ -190,12 +188,12 @@ module _ {t : Table} {bound e : ℕ} {store : List ℕ} (ready : Ready t bound e
         e2 ∙ ap (λ (x : List ℕ). pop_all x (get_or x 0 0 - get_or slot 0 0)) (e1 ∙ es2) ∙ pop_back slot _ p.clean
 
     pub go_next : (a : List ℕ) (c : ℕ) (r1 : Held) (l1 : List ℕ) → Gave (walked t e store (k + 1) rest s a c) r1 l1
-        → (d : ℕ) → r1 ≡ Count d
+        → (d : ℕ) → r1 ≡ Ok d
         → (leaf_rest t e store k rest slot l1 d (j + 1) ≡ leaf_rest t e store k rest slot a c j) × (d * 16 ≤ length l1)
     go_next a c r1 l1 g d ed =
         (leaf_next ready k rest slot area count p h q j i jh ei s es2 a c r1 l1 g d ed, rw ed at g.fits)
 
     pub go_exceeded : (a : List ℕ) (c : ℕ) (r1 : Held) (l1 : List ℕ)
-        → Gave (walked t e store (k + 1) rest s a c) r1 l1 → r1 ≡ Exceeded
-        → held_as Exceeded l1 ≡ leaf_rest t e store k rest slot a c j
+        → Gave (walked t e store (k + 1) rest s a c) r1 l1 → r1 ≡ Err no_room
+        → held_as (Err no_room) l1 ≡ leaf_rest t e store k rest slot a c j
     go_exceeded = leaf_exceeded ready k rest slot area count p h q j i jh ei s es2

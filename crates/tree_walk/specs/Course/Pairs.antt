@@ -4,7 +4,7 @@
 --     pair_both                              both sides take the event
 --     pair_then, pair_room, pair_exceeded    one after the other
 -- Assumes nothing.
-use Rattle.std.specs.Prelude.{ℕ, ◌+◌, ◌*◌, ◌/◌, ◌≤◌, ◌≡◌, true, false, length, get_or}
+use Rattle.std.specs.Prelude.{ℕ, ◌+◌, ◌*◌, ◌/◌, ◌≤◌, ◌≡◌, true, false, length, get_or, Ok, Err}
 use native.Mathlib.Omega.{arith}
 use Rattle.std.proofs.Math.Path.{sym}
 use Rattle.std.proofs.Common.{◌∙◌, inl, inr}
@@ -12,9 +12,7 @@ use mathlib.Core.List.{List, [], ◌∷◌, ◌++◌, append_assoc}
 use Rattle.table.specs.Table.{Table}
 use Rattle.residuals.specs.Residual.{Residual, pair}
 use Rattle.residuals.specs.Slots.{nodes}
-use Rattle.slots.specs.declared.slots.Held.{Held}
-use Rattle.slots.specs.declared.slots.Held.TheVariants.{Count, Exceeded}
-use Rattle.slots.specs.Holding.{put_all, Gave}
+use Rattle.slots.specs.Holding.{put_all, Gave, Held, no_room}
 use Rattle.slots.proofs.Holding.Laws.{put_none, put_then, put_stop}
 use Rattle.resolving.specs.Words.{kind_at, holds_at}
 use Rattle.resolving.specs.ResidualWords.{pushed, Clean}
@@ -59,7 +57,7 @@ module _ {t : Table} {bound e : ℕ} {store : List ℕ} (ready : Ready t bound e
     unfolding joins whole
     no_result = rw spelt_here (results_moved t e whole turn.valid turn.tail rest ∙ rw (none_after is_prepared))
 
-    pub pair_stuck : Gave (walked t e store k (rest * 2 + 1) slot area count) (Count count) area
+    pub pair_stuck : Gave (walked t e store k (rest * 2 + 1) slot area count) (Ok count) area
     unfolding walked onto
     pair_stuck = record { same = put_none area count ∙ rw no_result; fits = p.held }
 
@@ -107,7 +105,7 @@ module _ {t : Table} {bound e : ℕ} {store : List ℕ} (ready : Ready t bound e
     unfolding walked
     total = rw (either, onto_append, onto_before, onto_before)
 
-    pub pair_then : (c1 : ℕ) → r1 ≡ Count c1 → (s : List ℕ) → s ≡ slot → (r : Held) (l : List ℕ)
+    pub pair_then : (c1 : ℕ) → r1 ≡ Ok c1 → (s : List ℕ) → s ≡ slot → (r : Held) (l : List ℕ)
         → Gave (walked t e store (k + 1) (rest * 4 + 2) (pushed s (get_or store k 0)) l1 c1) r l
         → Gave (walked t e store k (rest * 2 + 1) slot area count) r l
     unfolding walked
@@ -115,9 +113,9 @@ module _ {t : Table} {bound e : ℕ} {store : List ℕ} (ready : Ready t bound e
         let g2 = rw es at g in
         record { same = g2.same ∙ put_then area count _ _ e1 g1.same ∙ sym total; fits = g.fits }
 
-    pub pair_room : (c1 : ℕ) → r1 ≡ Count c1 → c1 * 16 ≤ length l1
+    pub pair_room : (c1 : ℕ) → r1 ≡ Ok c1 → c1 * 16 ≤ length l1
     pair_room c1 e1 = rw e1 at g1.fits
 
-    pub pair_exceeded : r1 ≡ Exceeded → Gave (walked t e store k (rest * 2 + 1) slot area count) Exceeded l1
+    pub pair_exceeded : r1 ≡ Err no_room → Gave (walked t e store k (rest * 2 + 1) slot area count) (Err no_room) l1
     unfolding walked
     pair_exceeded e1 = record { same = put_stop area count _ _ e1 g1.same ∙ sym total; fits = omega arith }

@@ -9,8 +9,7 @@ use Rattle.std.specs.Prelude.{ℕ, ◌+◌, ◌-◌, ◌*◌, ◌/◌, ◌%◌, 
 use Rattle.std.proofs.Common.{arith, add-one, pow-suc, ap, ◌∙◌, pow_mono}
 use Rattle.table.specs.Table.{Table}
 use Rattle.residuals.specs.Slots.{nodes}
-use Rattle.slots.specs.declared.slots.Held.{Held}
-use Rattle.slots.specs.Holding.{put_one, Gave}
+use Rattle.slots.specs.Holding.{put_one, Gave, Held}
 use Rattle.slots.proofs.Holding.Laws.{put_single}
 use Rattle.resolving.specs.ResidualWords.Pushed.{head_pushed}
 use Rattle.resolving.specs.ResidualWords.Popped.{clean_pushed, pop_back_one}

@@ -3,6 +3,7 @@
 --     try_declined, try_fed      refusals 1 to 10; the events
 --     copy_stands, copy_ends     what `take_all` asks for, of the copy, and what it leaves
 -- Assumes nothing.
+use Rattle.std.specs.Prelude.{Err}
 use Prim.Native.Nat.{ℕ}
 use mathlib.Core.Path.{◌≡◌, ap, sym, ◌∙◌}
 use mathlib.Core.Bool.{true}
@@ -13,15 +14,15 @@ use Rattle.table.specs.Operations.{zeros}
 use Rattle.table.specs.Table.{Table}
 use Rattle.table_index.specs.Index.{table_in}
 use Rattle.table.specs.declared.answer.Refusal.{Refusal}
-use Rattle.table.specs.declared.answer.Judged.{Judged}
-use Rattle.table.specs.declared.answer.Judged.TheVariants.{Accepted, Declined}
+use Rattle.std.specs.declared.result.Result.{Result}
+use Rattle.std.specs.declared.result.Result.TheVariants.{Ok, Err}
 use Rattle.monitor_spec.specs.State.{Monitor}
 use Rattle.monitor_spec.specs.Entering.{entrance_on, refusing}
 use Rattle.monitor_spec.specs.Try.{further_measured, try_of}
 use Rattle.monitor_spec.proofs.Try.Laws.{try_unlike, try_shut, try_admits}
 use Rattle.state.specs.declared.record.State.{State}
-use Rattle.state.specs.declared.answer.Answer.{Answer}
-use Rattle.state.specs.declared.answer.Answer.TheVariants.{Refused}
+use Rattle.state.specs.Answers.{Answer}
+use Rattle.state.specs.declared.answer.Declined.TheVariants.{Refused}
 use Rattle.state.specs.Record.{monitor_of}
 use Rattle.state.specs.Answers.{outcome}
 use Rattle.entering.specs.Entered.{Entered}
@@ -33,7 +34,7 @@ module _ (l : List ℕ) (s : State) (a b c d es work : List ℕ) where
   m = monitor_of s a b
 
   abbrev refusal_1 : Answer
-  refusal_1 = Refused (record { number = 1; place = 0 })
+  refusal_1 = Err (Refused (record { number = 1; place = 0 }))
 
   pub try_first : (length c ≡ length a → ⊥) → outcome refusal_1 c d work ≡ try_of l m c d es work
   unfolding refusing further_measured
@@ -49,15 +50,15 @@ module _ (l : List ℕ) (s : State) (a b c d es work : List ℕ) where
   unfolding further_measured
   alike e f = rw (eq-eqb (length c) (length a) e, eq-eqb (length d) (length b) f)
 
-  module _ (j : Judged) (work₁ : List ℕ) (h : Entered (entrance_on l m work) l j work₁) (e : length c ≡ length a)
+  module _ (j : Result Unit Refusal) (work₁ : List ℕ) (h : Entered (entrance_on l m work) l j work₁) (e : length c ≡ length a)
       (f : length d ≡ length b) where
-    pub try_declined : (r : Refusal) → j ≡ Declined r → outcome (Refused r) c d work₁ ≡ try_of l m c d es work
+    pub try_declined : (r : Refusal) → j ≡ Err r → outcome (Err (Refused r)) c d work₁ ≡ try_of l m c d es work
     unfolding refusing
     try_declined r q =
         sym (try_shut l m c d es work (alike e f) r.number r.place work₁
         (entered_shut (entrance_on l m work) l j work₁ h r q))
 
-    pub try_fed : j ≡ Accepted → (r : Answer) (c' d' work₂ : List ℕ) → EndedBy (table_in l) m es r c' d'
+    pub try_fed : j ≡ Ok tt → (r : Answer) (c' d' work₂ : List ℕ) → EndedBy (table_in l) m es r c' d'
         → work₂ ≡ zeros (length work₁) → length work₁ ≡ length work
         → outcome r c' d' work₂ ≡ try_of l m c d es work
     unfolding EndedBy

@@ -1,5 +1,7 @@
 -- The four events of a memory, one after the other: what `memory_fits` answers. Assumes nothing.
-use Prim.Native.Nat.{ℕ}
+use Prim.Native.Nat.{ℕ, zero, suc, ◌+◌, ◌≤◌, ◌<◌}
+use native.Mathlib.Omega.{arith}
+use native.Mathlib.Decide.{dec_lt}
 use mathlib.Core.Path.{◌≡◌, ap, sym, ◌∙◌}
 use mathlib.Core.Bool.{Bool, true, false}
 use Rattle.table.specs.Memory.{Memory, digit}
@@ -29,3 +31,29 @@ module _ (a c : ℕ) (m : Memory) where
       → r ≡ memory_fits a c m
   unfolding memory_fits digit
   last_fits r h k l e = rw (h, k, l) (sym e)
+
+  -- those before the i-th fit
+  abbrev pub fits_before : ℕ → Type 0
+  fits_before i = (j : ℕ) → j < i → fits_at j ≡ true
+
+  pub none_before : fits_before 0
+  none_before j h = absurd (omega arith)
+
+  pub one_more : (i : ℕ) → fits_before i → fits_at i ≡ true → fits_before (i + 1)
+  one_more i f e j h = by (dec_lt j i)
+    where
+      by : Dec (j < i) → fits_at j ≡ true
+      by (yes k) = f j k
+      by (no k) = let q : j ≡ i = omega arith in ap fits_at q ∙ e
+
+  pub unfit_at : (i : ℕ) → i < 4 → fits_before i → fits_at i ≡ false → false ≡ memory_fits a c m
+  unfit_at zero h f e = first_unfit e
+  unfit_at (suc zero) h f e = second_unfit (f 0 (omega arith)) e
+  unfit_at (suc (suc zero)) h f e = third_unfit (f 0 (omega arith)) (f 1 (omega arith)) e
+  unfit_at (suc (suc (suc zero))) h f e =
+      last_fits false (f 0 (omega arith)) (f 1 (omega arith)) (f 2 (omega arith)) e
+  unfit_at (suc (suc (suc (suc i)))) h f e = absurd (omega arith)
+
+  pub all_fit : (i : ℕ) → 4 ≤ i → fits_before i → true ≡ memory_fits a c m
+  all_fit i h f =
+      last_fits true (f 0 (omega arith)) (f 1 (omega arith)) (f 2 (omega arith)) (f 3 (omega arith))

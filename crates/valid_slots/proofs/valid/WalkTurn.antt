@@ -10,9 +10,7 @@ use Rattle.table.specs.Node.{term_of as nodeTerm}
 use Rattle.table.specs.Width.{reach}
 use Rattle.table_index.specs.Index.{table_in, Indexed}
 use Rattle.index.specs.Facts.{reach_is}
-use Rattle.valid_slots.specs.declared.valid.Forest.{Forest}
-use Rattle.valid_slots.specs.declared.valid.Forest.TheVariants.{Trees}
-use Rattle.valid_slots.specs.Walk.{Few, planted, planted_all}
+use Rattle.valid_slots.specs.Walk.{Forest, trees, Few, planted, planted_all}
 use Rattle.valid_slots.specs.Walk.Laws.{few_more, few_planted}
 
 pub reach_few : {l w : List ℕ} → Indexed l w → (k : ℕ) → k < term_count (table_in l)
@@ -32,7 +30,7 @@ module _ (t : Table) (s : List ℕ) (n : ℕ) (l : length s ≡ 16) (m : n ≤ 1
   words_length : length words ≡ n
   words_length = length-take-le n (drop 1 s) (omega (arith, length-drop 1 s))
 
-  pub head_first : Head t s n (Trees 0 0) n
+  pub head_first : Head t s n (trees 0 0) n
   unfolding planted_all
   head_first = record {
     at_most = omega arith;

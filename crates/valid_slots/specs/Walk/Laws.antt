@@ -1,33 +1,31 @@
 -- What a walk over node words keeps, case by case, and that the numbers stay small. Assumes nothing.
-use Rattle.std.specs.Prelude.{ℕ, suc, ◌-◌, ◌≤◌, ◌<◌, ◌≡◌, refl, Bool, true, false, ◌⊎◌, ltb}
+use Rattle.std.specs.Prelude.{ℕ, suc, ◌-◌, ◌≤◌, ◌<◌, ◌≡◌, refl, Bool, true, false, ◌⊎◌, Some, None, ltb}
 use Rattle.std.proofs.Common.{arith, ap, sym, subst, ◌∙◌, inl, inr, ⊎_elim, lt-ltb, le-ltb, ltb-true}
 use Rattle.table.specs.Table.{Table, Term, stop, fail, prefix, choice, par, call, term_count, enclosing}
 use Rattle.table.specs.Node.{term_of as nodeTerm, kind_of}
 use Rattle.table.specs.Width.{reach}
-use Rattle.valid_slots.specs.declared.valid.Forest.{Forest}
-use Rattle.valid_slots.specs.declared.valid.Forest.TheVariants.{Broken, Trees}
 use Rattle.node_word.specs.Word.{term_of_word, memory_of}
 use Rattle.monitor_spec.specs.Valid.{memory_fits}
 use Rattle.monitor_spec.proofs.Valid.Laws.{and_split}
-use Rattle.valid_slots.specs.Walk.{Few, with_leaf, paired, word_fits, planted_by, planted}
+use Rattle.valid_slots.specs.Walk.{Forest, trees, Few, with_leaf, paired, word_fits, planted_by, planted}
 
 -- ---- few trees
 
 pub few_more : (f : Forest) (j k : ℕ) → j ≤ k → Few f j → Few f k
-few_more Broken j k h x = tt
-few_more (Trees n s) j k h (a, b) = (omega arith, omega arith)
+few_more None j k h x = tt
+few_more (Some x) j k h (a, b) = (omega arith, omega arith)
 
 few_leaf : (r : ℕ) (f : Forest) (k : ℕ) → r ≤ 8 → Few f k → Few (with_leaf r f) (suc k)
 unfolding with_leaf
-few_leaf r Broken k h x = tt
-few_leaf r (Trees n s) k h (a, b) = (omega arith, omega arith)
+few_leaf r None k h x = tt
+few_leaf r (Some x) k h (a, b) = (omega arith, omega arith)
 
 few_paired : (f : Forest) (k : ℕ) → Few f k → Few (paired f) (suc k)
 unfolding paired
-few_paired Broken k x = tt
-few_paired (Trees n s) k (a, b) = by (ltb n 2)
+few_paired None k x = tt
+few_paired (Some x) k (a, b) = by (ltb x.count 2)
   where
-    by : (z : Bool) → Few (elim z [ true ↦ Broken | false ↦ Trees (n - 1) s ]) (suc k)
+    by : (z : Bool) → Few (elim z [ true ↦ None | false ↦ trees (x.count - 1) x.reach ]) (suc k)
     by true = tt
     by false = (omega arith, omega arith)
 
@@ -42,11 +40,11 @@ few_by r f k (call d) h x = tt
 
 -- ---- joining
 
-pub paired_few : (n s : ℕ) → n < 2 → Broken ≡ paired (Trees n s)
+pub paired_few : (n s : ℕ) → n < 2 → None ≡ paired (trees n s)
 unfolding paired
 paired_few n s h = rw (lt-ltb n 2 h, paired)
 
-pub paired_two : (n s : ℕ) → 2 ≤ n → Trees (n - 1) s ≡ paired (Trees n s)
+pub paired_two : (n s : ℕ) → 2 ≤ n → trees (n - 1) s ≡ paired (trees n s)
 unfolding paired
 paired_two n s h = rw (le-ltb n 2 h, paired)
 
@@ -93,7 +91,7 @@ by_par r f (par s p q) h = refl
 by_par r f (call d) h = absurd (omega arith)
 
 by_none : (r : ℕ) (f : Forest) (p : Term) → ((kind_of p ≡ 0) ⊎ (kind_of p ≡ 2) → ⊥) → (kind_of p ≡ 4 → ⊥)
-    → Broken ≡ planted_by r f p
+    → None ≡ planted_by r f p
 unfolding planted_by kind_of
 by_none r f stop g h = absurd (g (inl refl))
 by_none r f fail g h = refl
@@ -103,7 +101,7 @@ by_none r f (par s p q) g h = absurd (h refl)
 by_none r f (call d) g h = refl
 
 module _ (t : Table) (w : ℕ) (f : Forest) where
-  pub planted_unfit : word_fits t w ≡ false → Broken ≡ planted t w f
+  pub planted_unfit : word_fits t w ≡ false → None ≡ planted t w f
   unfolding planted
   planted_unfit e = rw (e, planted)
 
@@ -135,7 +133,7 @@ module _ (t : Table) (w : ℕ) (f : Forest) where
     pub planted_par : k ≡ 4 → r ≡ paired f → r ≡ planted t w f
     planted_par o s = s ∙ by_par (reach t (nodeTerm t n)) f (nodeTerm t n) (sym q ∙ o) ∙ sym same
 
-    pub planted_none : ((k ≡ 0) ⊎ (k ≡ 2) → ⊥) → (k ≡ 4 → ⊥) → Broken ≡ planted t w f
+    pub planted_none : ((k ≡ 0) ⊎ (k ≡ 2) → ⊥) → (k ≡ 4 → ⊥) → None ≡ planted t w f
     planted_none o p =
         by_none (reach t (nodeTerm t n)) f (nodeTerm t n) (subst (λ (i : ℕ). (i ≡ 0) ⊎ (i ≡ 2) → ⊥) q o)
         (λ u. p (q ∙ u))

@@ -6,7 +6,7 @@ use Prim.Native.Nat.{ℕ, suc, ◌+◌, ◌-◌, ◌≤◌, ◌<◌}
 use native.Mathlib.Omega.{arith}
 use Rattle.std.proofs.Common.{add-one, ◌∙◌}
 use Rattle.std.proofs.Math.Decide.{dec_lt}
-use Rattle.std.specs.Prelude.{◌≡◌, Bool, ◌&&◌, length}
+use Rattle.std.specs.Prelude.{◌≡◌, Bool, ◌&&◌, length, None}
 use Rattle.std.proofs.Math.Path.{refl, ap, ap₂, sym}
 use Rattle.std.proofs.Math.Bool.{true, false, and_assoc}
 use mathlib.Core.List.{List, [], ◌∷◌}
@@ -16,8 +16,6 @@ use Rattle.table.specs.Node.{term_of as nodeTerm}
 use Rattle.table.proofs.Node.Numbers.{term_at_lem}
 use Rattle.table.specs.Memory.{Memory}
 use Rattle.table.specs.Width.{reach}
-use Rattle.valid_slots.specs.declared.valid.Forest.{Forest}
-use Rattle.valid_slots.specs.declared.valid.Forest.TheVariants.{Broken, Trees}
 use Rattle.table.proofs.Stands.Laws.{number_at, number_below}
 use Rattle.monitor_spec.proofs.Proper.Laws.{reach_at_at}
 use Rattle.residuals.specs.Residual.{Residual, leaf, pair}
@@ -25,12 +23,12 @@ use Rattle.node_word.specs.Word.{term_of_word, memory_of}
 use Rattle.monitor_spec.specs.Valid.{join_trees, plant, plant_word, forest, memory_fits, memories_fit, reach_sum}
 use Rattle.monitor_spec.proofs.Valid.Laws.{plant_none, plant_some, forest_none, forest_some}
 use Rattle.monitor_spec.specs.Consistent.{every}
-use Rattle.valid_slots.specs.Walk.{with_leaf, paired, word_fits, planted_by, planted, planted_all}
+use Rattle.valid_slots.specs.Walk.{Forest, trees, with_leaf, paired, word_fits, planted_by, planted, planted_all}
 use Rattle.valid_slots.specs.Walk.Laws.{paired_few, paired_two, planted_unfit, planted_fit}
 use Rattle.valid_slots.specs.Walk.Laws.{unknown_term, known_term}
 
--- the Broken forest stays so
-by_broken : (r : ℕ) (p : Term) → planted_by r Broken p ≡ Broken
+-- where no trees are spelled, it stays so
+by_broken : (r : ℕ) (p : Term) → planted_by r None p ≡ None
 unfolding planted_by with_leaf paired
 by_broken r stop = refl
 by_broken r fail = refl
@@ -46,14 +44,14 @@ module _ (t : Table) where
 
   -- by whether all memories fit
   unfoldable pub counted_if : Bool → List Residual → Forest
-  counted_if true rs = Trees (length rs) (reach_all rs)
-  counted_if false rs = Broken
+  counted_if true rs = trees (length rs) (reach_all rs)
+  counted_if false rs = None
 
   unfoldable pub kept : Option (List Residual) → Forest
-  kept none = Broken
+  kept none = None
   kept (some rs) = counted_if (every (memories_fit t) rs) rs
 
-  kept_none : kept none ≡ Broken
+  kept_none : kept none ≡ None
   unfolding kept
   kept_none = refl
 
@@ -64,11 +62,11 @@ module _ (t : Table) where
     fit = memory_fits t.alphabet (enclosing t n) m
 
     -- a memory that does not fit
-    leaf_unfit : fit ≡ false → (rs : List Residual) → Broken ≡ kept (some (leaf n m ∷ rs))
+    leaf_unfit : fit ≡ false → (rs : List Residual) → None ≡ kept (some (leaf n m ∷ rs))
     unfolding kept counted_if every memories_fit
     leaf_unfit f rs = rw f
 
-    join_unfit : fit ≡ false → (rs : List Residual) → Broken ≡ kept (join_trees n m rs)
+    join_unfit : fit ≡ false → (rs : List Residual) → None ≡ kept (join_trees n m rs)
     unfolding kept counted_if every memories_fit join_trees
     join_unfit f [] = refl
     join_unfit f (x ∷ []) = refl
@@ -78,7 +76,7 @@ module _ (t : Table) where
     leaf_by : (b : Bool) (rs : List Residual) → with_leaf (reach t p) (counted_if b rs) ≡ counted_if b (leaf n m ∷ rs)
     unfolding with_leaf counted_if reach_all reach_sum
     leaf_by true rs =
-        ap₂ Trees (add-one (length rs)) (ap (λ (i : ℕ). i + reach_all rs) (sym (reach_at_at t n p e)))
+        ap₂ trees (add-one (length rs)) (ap (λ (i : ℕ). i + reach_all rs) (sym (reach_at_at t n p e)))
     leaf_by false rs = refl
 
     leaf_fit : fit ≡ true → (rs : List Residual) → with_leaf (reach t p) (kept (some rs)) ≡ kept (some (leaf n m ∷ rs))
@@ -93,7 +91,7 @@ module _ (t : Table) where
         let s : ℕ = reach_sum t x + (reach_sum t y + reach_all rs) in
         let c : suc (suc (length rs)) - 1 ≡ suc (length rs) = omega arith in
         let d : s ≡ reach_sum t x + reach_sum t y + reach_all rs = omega arith in
-        sym (paired_two (suc (suc (length rs))) s (omega arith)) ∙ ap₂ Trees c d
+        sym (paired_two (suc (suc (length rs))) s (omega arith)) ∙ ap₂ trees c d
     join_by false x y rs = unfold paired in refl
 
     pair_fits : (x y : Residual) (rs : List Residual) → fit ≡ true
@@ -103,7 +101,7 @@ module _ (t : Table) where
         sym (and_assoc (memories_fit t x) (memories_fit t y) (every (memories_fit t) rs))
         ∙ ap (λ (b : Bool). (b && (memories_fit t x && memories_fit t y)) && every (memories_fit t) rs) (sym f)
 
-    none_one : (b : Bool) (x : Residual) → paired (counted_if b (x ∷ [])) ≡ Broken
+    none_one : (b : Bool) (x : Residual) → paired (counted_if b (x ∷ [])) ≡ None
     unfolding counted_if
     none_one true x = sym (paired_few 1 (reach_all (x ∷ [])) (omega arith))
     none_one false x = unfold paired in refl
@@ -117,7 +115,7 @@ module _ (t : Table) where
         ∙ ap (λ (b : Bool). counted_if b (pair n m x y ∷ rs)) (pair_fits x y rs f)
 
   plant_unfit : (n : ℕ) (m : Memory) (p : Term) → term_at t n ≡ some p
-      → memory_fits t.alphabet (enclosing t n) m ≡ false → (rs : List Residual) → Broken ≡ kept (plant n m rs p)
+      → memory_fits t.alphabet (enclosing t n) m ≡ false → (rs : List Residual) → None ≡ kept (plant n m rs p)
   unfolding plant
   plant_unfit n m stop e f rs = leaf_unfit n m stop e f rs
   plant_unfit n m fail e f rs = unfold kept in refl
@@ -171,12 +169,12 @@ module _ (t : Table) where
 
   -- ---- all of them
 
-  broken_stays : (w : ℕ) → planted t w Broken ≡ Broken
+  pub broken_stays : (w : ℕ) → planted t w None ≡ None
   broken_stays w = by (word_fits t w) refl
     where
-      by : (b : Bool) → word_fits t w ≡ b → planted t w Broken ≡ Broken
-      by true e = planted_fit t w Broken e ∙ by_broken (reach t (nodeTerm t (term_of_word w))) (nodeTerm t (term_of_word w))
-      by false e = sym (planted_unfit t w Broken e)
+      by : (b : Bool) → word_fits t w ≡ b → planted t w None ≡ None
+      by true e = planted_fit t w None e ∙ by_broken (reach t (nodeTerm t (term_of_word w))) (nodeTerm t (term_of_word w))
+      by false e = sym (planted_unfit t w None e)
 
   -- The walk is what is kept of the trees that the words spell.
   pub planted_all_forest : (ws : List ℕ) → planted_all t ws ≡ kept (forest t ws)

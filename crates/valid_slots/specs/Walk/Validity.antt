@@ -13,7 +13,6 @@ use Rattle.std.proofs.Math.ListN.{length, replicate}
 use Rattle.std.proofs.Math.Seq.{take_all, length-take-le}
 use Rattle.std.proofs.Math.Dec.{leb}
 use Rattle.table.specs.Table.{Table}
-use Rattle.valid_slots.specs.declared.valid.Forest.{Forest}
 use Rattle.residuals.specs.Residual.{Residual}
 use Rattle.slots.specs.Canon.{Order, below, same, above, compare_words}
 use Rattle.residuals.specs.Slots.{nodes, slot_of}
@@ -24,7 +23,7 @@ use Rattle.monitor_spec.proofs.Valid.Laws.{slot_none, slot_some, valid_none, val
 use Rattle.monitor_spec.proofs.State.Areas.{zero_zeros}
 use Rattle.monitor_spec.specs.Consistent.{every, all_zero}
 use Rattle.monitor_spec.proofs.Consistent.Reading.{zero_split}
-use Rattle.valid_slots.specs.Walk.{planted_all, is_whole}
+use Rattle.valid_slots.specs.Walk.{Forest, planted_all, is_whole}
 use Rattle.valid_slots.specs.Walk.Words.{one_words}
 use Rattle.valid_slots.specs.Walk.Spelling.{reach_all, counted_if, kept, planted_all_forest}
 

@@ -16,8 +16,8 @@ use Rattle.table.specs.Table.{Table}
 use Rattle.table.specs.Judge.{judge_list}
 use Rattle.table.specs.Operations.{zeros}
 use Rattle.table.specs.declared.answer.Refusal.{Refusal}
-use Rattle.table.specs.declared.answer.Judged.{Judged}
-use Rattle.table.specs.declared.answer.Judged.TheVariants.{Accepted, Declined}
+use Rattle.std.specs.declared.result.Result.{Result}
+use Rattle.std.specs.declared.result.Result.TheVariants.{Ok, Err}
 use Rattle.table_index.specs.Index.{table_in, Indexed}
 use Rattle.monitor_spec.specs.State.{lengths_fit, areas_measured, work_measured}
 use Rattle.monitor_spec.proofs.Valid.Laws.{and_split}
@@ -40,7 +40,7 @@ module _ (everyday wash windows : List ℕ) (x : TimedState) (a b : List ℕ) wh
   abbrev m : TimedMonitor
   m = timed_monitor_of x a b
 
-  abbrev of : TimedEntrance → Judged → List ℕ → Type 0
+  abbrev of : TimedEntrance → Result Unit Refusal → List ℕ → Type 0
   of e j w = TimedEntered e everyday wash windows x a b j w
 
   -- ---- the timetable and the state
@@ -48,21 +48,21 @@ module _ (everyday wash windows : List ℕ) (x : TimedState) (a b : List ℕ) wh
   next = scheduling windows m 8192 (table_in everyday) (table_in wash)
 
   pub scheduled_bad : good_timetable windows ≡ false → (w w' : List ℕ) → length w ≡ 8192 → w' ≡ zeros (length w)
-      → of next (Declined (record { number = 16; place = 0 })) w'
+      → of next (Err (record { number = 16; place = 0 })) w'
   unfolding TimedEntered scheduling
   scheduled_bad g w w' k z = rw (g, scheduling) (ap (shut 16 0) (ap zeros (sym k) ∙ sym z))
 
   module _ (g : good_timetable windows ≡ true) (r : Bool) (w : List ℕ) (k : length w ≡ 8192)
       (h : Agreed everyday wash windows x a b r w) where
     pub scheduled_no : r ≡ false → (w' : List ℕ) → w' ≡ zeros (length w)
-        → of next (Declined (record { number = 10; place = 0 })) w'
+        → of next (Err (record { number = 10; place = 0 })) w'
     unfolding TimedEntered scheduling timed_consistent
     scheduled_no q w' z =
         let c = sym h.answer ∙ q in
         rw (g, c, scheduling) (ap (shut 10 0) (ap zeros (sym k) ∙ sym z))
 
     pub scheduled_yes : r ≡ true → ListAccepted everyday → ListAccepted wash → areas_measured a b ≡ true
-        → of next Accepted w
+        → of next (Ok tt) w
     unfolding TimedEntered scheduling timed_consistent
     scheduled_yes q f s ok =
         let c = sym h.answer ∙ q in
@@ -89,15 +89,15 @@ module _ (everyday wash windows : List ℕ) (x : TimedState) (a b : List ℕ) wh
       entrance_judged (true && work_measured w) wash w (eq-eqb (length w) 8192 k)
       ∙ ap (judging (judge_list wash)) k
 
-  module _ (w : List ℕ) (k : length w ≡ 8192) (j : Judged) (w' : List ℕ)
+  module _ (w : List ℕ) (k : length w ≡ 8192) (j : Result Unit Refusal) (w' : List ℕ)
       (h : Entered (entrance (true && work_measured w) wash w) wash j w') where
-    pub wash_declined : (r : Refusal) → j ≡ Declined r → of later (Declined r) w'
+    pub wash_declined : (r : Refusal) → j ≡ Err r → of later (Err r) w'
     unfolding TimedEntered after_everyday entering
     wash_declined r q =
         ap (entering shut (λ u. scheduling windows m 8192 (table_in everyday) u))
         (sym (judged_wash w k) ∙ entered_shut _ wash j w' h r q)
 
-    pub wash_accepted : j ≡ Accepted → (i : Judged) (w'' : List ℕ) → of next i w'' → of later i w''
+    pub wash_accepted : j ≡ Ok tt → (i : Result Unit Refusal) (w'' : List ℕ) → of next i w'' → of later i w''
     unfolding after_everyday entering
     wash_accepted q i w'' f =
         let e : later ≡ next = ap (entering shut (λ u. scheduling windows m 8192 (table_in everyday) u))
@@ -129,7 +129,7 @@ module _ (everyday wash windows : List ℕ) (x : TimedState) (a b : List ℕ) wh
         by false = refl
     regroup false q r = refl
 
-    module _ (lent : Bool) (e : lent ≡ (lengths_fit (length a) (length b) && eqb es ms)) (j : Judged) (w' : List ℕ)
+    module _ (lent : Bool) (e : lent ≡ (lengths_fit (length a) (length b) && eqb es ms)) (j : Result Unit Refusal) (w' : List ℕ)
         (h : Entered (entrance (lent && work_measured w) everyday w) everyday j w') where
       same_fits : (lent && work_measured w) ≡ fits
       same_fits =
@@ -140,12 +140,12 @@ module _ (everyday wash windows : List ℕ) (x : TimedState) (a b : List ℕ) wh
       entered : Entered (entrance fits everyday w) everyday j w'
       entered = subst (λ (z : Bool). Entered (entrance z everyday w) everyday j w') same_fits h
 
-      pub timed_declined : (r : Refusal) → j ≡ Declined r → of whole (Declined r) w'
+      pub timed_declined : (r : Refusal) → j ≡ Err r → of whole (Err r) w'
       unfolding TimedEntered timed_entrance entering
       timed_declined r q =
           ap (entering shut rest) (entered_shut (entrance fits everyday w) everyday j w' entered r q)
 
-      module _ (q : j ≡ Accepted) where
+      module _ (q : j ≡ Ok tt) where
         open_everyday : (entrance fits everyday w ≡ before.admits (table_in everyday)) × Indexed everyday w'
         open_everyday = entered_open (entrance fits everyday w) everyday j w' entered q
 
@@ -167,7 +167,7 @@ module _ (everyday wash windows : List ℕ) (x : TimedState) (a b : List ℕ) wh
             eqb-true (length w) 8192 (and_split (areas_measured a b) (work_measured w)
             (and_split (areas_measured a b && work_measured w) (eqb es ms) lent_right).0).1
 
-        pub timed_accepted : (i : Judged) (w'' : List ℕ) → of later i w'' → of whole i w''
+        pub timed_accepted : (i : Result Unit Refusal) (w'' : List ℕ) → of later i w'' → of whole i w''
         unfolding timed_entrance after_everyday entering
         timed_accepted i w'' f =
             let e : whole ≡ later = ap (entering shut rest) open_everyday.0

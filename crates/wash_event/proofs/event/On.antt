@@ -11,8 +11,8 @@ use Rattle.table_index.specs.Index.{table_in, Indexed}
 use Rattle.monitor_spec.specs.State.{slot_count, even, choose}
 use Rattle.state.specs.declared.record.State.{State}
 use Rattle.state.specs.Record.{monitor_of}
-use Rattle.taking.specs.declared.event.Taken.{Taken}
-use Rattle.taking.specs.declared.event.Taken.TheVariants.{Went, Stopped}
+use Rattle.taking.specs.Taking.{Taken}
+use Rattle.std.specs.declared.result.Result.TheVariants.{Ok, Err}
 use Rattle.feeding.specs.Feeding.{Standing, TakenBy}
 use Rattle.wash_spec.specs.Taking.{take_fresh, take_on}
 use Rattle.wash_state.specs.declared.answer.TimedState.{TimedState}
@@ -46,8 +46,8 @@ module _ (l : List ℕ) (due : Bool) (x : TimedState) (e : ℕ) (a b : List ℕ)
   afresh q f = record { areas = by r f.areas; index = f.index }
     where
       by : (u : Taken) → AfreshBy (table_in l) e a b u a' b' → AreasOn (table_in l) due x e a b u a' b'
-      by (Went s) g = q ∙ g
-      by (Stopped k) g = (q ∙ g.0, g.1, g.2)
+      by (Ok s) g = q ∙ g
+      by (Err k) g = (q ∙ g.0, g.1, g.2)
 
   pub on_first : x ≡ NotStarted → FreshBy l e a b r a' b' work' → OnBy l due x e a b r a' b' work'
   unfolding take_on
@@ -68,5 +68,5 @@ module _ (l : List ℕ) (due : Bool) (x : TimedState) (e : ℕ) (a b : List ℕ)
         same = rw (q, d)
 
         by : (u : Taken) → TakenBy (table_in l) (monitor_of s a b) e u a' b' → AreasOn (table_in l) due x e a b u a' b'
-        by (Went v) k = same ∙ k
-        by (Stopped n) k = (same ∙ k.0, k.1, k.2)
+        by (Ok v) k = same ∙ k
+        by (Err n) k = (same ∙ k.0, k.1, k.2)

@@ -15,8 +15,8 @@ use Rattle.index.specs.Facts.{indexed_rules}
 use Rattle.monitor_spec.proofs.Regular.Laws.{regular}
 use Rattle.state.specs.declared.record.State.{State}
 use Rattle.state.specs.Record.{monitor_of}
-use Rattle.taking.specs.declared.event.Taken.{Taken}
-use Rattle.taking.specs.declared.event.Taken.TheVariants.{Went, Stopped}
+use Rattle.taking.specs.Taking.{Taken}
+use Rattle.std.specs.declared.result.Result.TheVariants.{Ok, Err}
 use Rattle.feeding.specs.Feeding.{Standing}
 use Rattle.timetable_spec.specs.Timetable.{minute_bound, changes}
 use Rattle.timetable_spec.proofs.Timetable.Exact.{unchanged_same}
@@ -45,7 +45,7 @@ module _ (everyday wash windows : List ℕ) (x : TimedState) (minute : ℕ) (a b
   now = list_at everyday wash windows minute
 
   pub timed_back : (e : ℕ) → clock_back (timed_state_of x) minute ≡ true
-      → TimedBy everyday wash windows x e minute a b (Stopped 17) a b work
+      → TimedBy everyday wash windows x e minute a b (Err 17) a b work
   timed_back e q =
       (take_back (table_in everyday) (table_in wash) windows (timed_monitor_of x a b) (e, minute) q, refl, refl)
 
@@ -90,7 +90,7 @@ module _ (everyday wash windows : List ℕ) (x : TimedState) (minute : ℕ) (a b
         where
           by : (u : Taken) → AreasOn (table_in now) due x e a b u a' b'
               → TimedBy everyday wash windows x e minute a b u a' b' work'
-          by (Went s) g = (
+          by (Ok s) g = (
             taken ∙ ap (at_minute minute) g,
             (
               f.index,
@@ -98,7 +98,7 @@ module _ (everyday wash windows : List ℕ) (x : TimedState) (minute : ℕ) (a b
                   (monitor_of s a' b') g (λ u last q v. (stands_now u last q v).1),
             ),
           )
-          by (Stopped k) g = (taken ∙ ap (at_minute minute) g.0, g.1, g.2)
+          by (Err k) g = (taken ∙ ap (at_minute minute) g.0, g.1, g.2)
 
       pub timed_taken : (l : List ℕ) → now ≡ l → OnBy l due x e a b r a' b' work'
           → TimedBy everyday wash windows x e minute a b r a' b' work'

@@ -21,8 +21,8 @@ use Rattle.state.specs.declared.record.State.{State}
 use Rattle.state.specs.Record.{monitor_of}
 use Rattle.entering.specs.Entered.Laws.{areas_same}
 use Rattle.opening.specs.Opening.Laws.{areas_cleared}
-use Rattle.taking.specs.declared.event.Taken.{Taken}
-use Rattle.taking.specs.declared.event.Taken.TheVariants.{Went, Stopped}
+use Rattle.taking.specs.Taking.{Taken}
+use Rattle.std.specs.declared.result.Result.TheVariants.{Ok, Err}
 use Rattle.feeding.specs.Feeding.{Empty}
 use Rattle.wash_spec.specs.Taking.{take_fresh}
 use Rattle.wash_start.specs.Fresh.{FirstBy, AfreshBy, Free}
@@ -47,16 +47,16 @@ module _ (a b : List ℕ) (m : areas_measured a b ≡ true) where
   module _ (t : Table) (e : ℕ) (r : Taken) where
     -- ---- area 1 is zero
     module _ (b' : List ℕ) (g : FirstBy t (slot_count b) e r b') where
-      pub other_went : (s : State) → r ≡ Went s → (a' : List ℕ) → a' ≡ zeros (length a)
-          → AfreshBy t e a b (Went s) a' b'
+      pub other_went : (s : State) → r ≡ Ok s → (a' : List ℕ) → a' ≡ zeros (length a)
+          → AfreshBy t e a b (Ok s) a' b'
       unfolding FirstBy
       other_went s q a' z =
           let f : take_fresh t (slot_count b) e ≡ went (monitor_of s (fill (slot_count b) []) b') = rw q at g in
           rw (← (measured_same a b m)) (f ∙ ap (λ (x : List ℕ). went (monitor_of s x b'))
           (ap (λ (i : ℕ). fill i []) (measured_same a b m) ∙ sym (areas_cleared a b m).0 ∙ sym z))
 
-      pub other_stopped : Empty b → (k : ℕ) → r ≡ Stopped k → (a' : List ℕ) → a' ≡ a
-          → AfreshBy t e a b (Stopped k) a' b'
+      pub other_stopped : Empty b → (k : ℕ) → r ≡ Err k → (a' : List ℕ) → a' ≡ a
+          → AfreshBy t e a b (Err k) a' b'
       unfolding FirstBy Empty
       other_stopped f k q a' z =
           let h : (take_fresh t (slot_count b) e ≡ stops k) × (b' ≡ fill (slot_count b) []) = rw q at g in
@@ -64,16 +64,16 @@ module _ (a b : List ℕ) (m : areas_measured a b ≡ true) where
 
     -- ---- area 0 is
     module _ (a₁ : List ℕ) (g : FirstBy t (slot_count a) e r a₁) where
-      pub first_went : (s : State) → r ≡ Went s → length a₁ ≡ length a → (a' b' : List ℕ) → b' ≡ a₁
-          → a' ≡ zeros (length a₁) → AfreshBy t e a b (Went s) a' b'
+      pub first_went : (s : State) → r ≡ Ok s → length a₁ ≡ length a → (a' b' : List ℕ) → b' ≡ a₁
+          → a' ≡ zeros (length a₁) → AfreshBy t e a b (Ok s) a' b'
       unfolding FirstBy
       first_went s q k a' b' x z =
           let f : take_fresh t (slot_count a) e ≡ went (monitor_of s (fill (slot_count a) []) a₁) = rw q at g in
           let zero : a' ≡ fill (slot_count a) [] = z ∙ ap zeros k ∙ (areas_cleared a b m).0 in
           f ∙ ap₂ (λ (u v : List ℕ). went (monitor_of s u v)) (sym zero) (sym x)
 
-      pub first_stopped : Empty a → (k : ℕ) → r ≡ Stopped k → (b' : List ℕ) → b' ≡ b
-          → AfreshBy t e a b (Stopped k) a₁ b'
+      pub first_stopped : Empty a → (k : ℕ) → r ≡ Err k → (b' : List ℕ) → b' ≡ b
+          → AfreshBy t e a b (Err k) a₁ b'
       unfolding FirstBy Empty
       first_stopped f k q b' z =
           let h : (take_fresh t (slot_count a) e ≡ stops k) × (a₁ ≡ fill (slot_count a) []) = rw q at g in

@@ -14,11 +14,11 @@ use lib.ListN.{length, take, replicate, length-replicate}
 use lib.Seq.{length-take-le}
 use borrow.Author.Tests.{lt-ltb, le-ltb, eq-eqb}
 use Rattle.table.specs.Table.{Table}
-use Rattle.table.specs.declared.answer.Judged.{Judged}
-use Rattle.table.specs.declared.answer.Judged.TheVariants.{Accepted, Declined}
+use Rattle.std.specs.declared.result.Result.{Result}
+use Rattle.table.specs.declared.answer.Refusal.{Refusal}
+use Rattle.std.specs.declared.result.Result.TheVariants.{Ok, Err}
 use Rattle.table_index.specs.Index.{table_in, Indexed}
 use Rattle.index.specs.Facts.{indexed_rules}
-use Rattle.slots.specs.declared.slots.Held.TheVariants.{Count, Exceeded}
 use Rattle.monitor_spec.specs.Regular.{Regular}
 use Rattle.monitor_spec.proofs.Regular.Laws.{regular}
 use Rattle.monitor_spec.specs.State.{holding, fresh_state, Monitor, areas_measured, work_measured, slot_count, even}
@@ -37,19 +37,20 @@ use Rattle.state.specs.Record.{state_of, monitor_of}
 use Rattle.entering.specs.Entered.{Entered}
 use Rattle.opening.specs.Opening.{Resolved}
 use Rattle.opening.specs.Opening.Laws.{fresh_same}
-use Rattle.taking.specs.declared.event.Taken.{Taken}
-use Rattle.taking.specs.declared.event.Taken.TheVariants.{Went, Stopped}
+use Rattle.taking.specs.Taking.{Taken}
 use Rattle.feeding.specs.Feeding.{TakenBy}
 use Rattle.wash_spec.proofs.Taking.Laws.{fresh_crowded, fresh_room}
 use Rattle.wash_start.specs.Fresh.{ListAccepted, FirstBy}
 use Rattle.wash_start.specs.Standing.Laws.{measured_same}
+use Rattle.slots.specs.Holding.{no_room}
+use Rattle.std.specs.Prelude.{Ok, Err}
 
 -- ---- the index
-pub indexed_again : (l w : List ℕ) → ListAccepted l → length w ≡ 8192 → (j : Judged) (w' : List ℕ)
+pub indexed_again : (l w : List ℕ) → ListAccepted l → length w ≡ 8192 → (j : Result Unit Refusal) (w' : List ℕ)
     → Entered (entrance (true && work_measured w) l w) l j w' → Indexed l w'
 unfolding Entered ListAccepted work_measured
-indexed_again l w x k Accepted w' h = h.1
-indexed_again l w x k (Declined r) w' h =
+indexed_again l w x k (Ok _) w' h = h.1
+indexed_again l w x k (Err r) w' h =
     shut_admits r.number r.place w' (table_in l) h
     (entrance_accepted (true && work_measured w) l w l (table_in l) (eq-eqb (length w) 8192 k) x)
 
@@ -91,11 +92,11 @@ module _ (t : Table) (n : ℕ) where
   first_taken : Regular t → residual_count t [] ≤ n → (m : Monitor) → m ≡ begun → m.area1 ≡ fill n []
       → (e : ℕ) (r : Taken) (room' other' : List ℕ) → TakenBy t m e r room' other' → FirstBy t n e r other'
   unfolding FirstBy residual_count
-  first_taken ok h m q z e (Went s) room' other' g =
+  first_taken ok h m q z e (Ok s) room' other' g =
       let x = ap (λ (u : Monitor). take_event t u e) (sym q) ∙ g in
       let y = begun_zero ok h (monitor_of s room' other') e x in
       fresh_room t n e (le-ltb n (residual_count t []) h) ∙ x ∙ ap (λ (a : List ℕ). went (monitor_of s a other')) y
-  first_taken ok h m q z e (Stopped k) room' other' g = (
+  first_taken ok h m q z e (Err k) room' other' g = (
     fresh_room t n e (le-ltb n (residual_count t []) h) ∙ ap (λ (u : Monitor). take_event t u e) (sym q) ∙ g.0,
     g.2 ∙ z,
   )
@@ -106,14 +107,14 @@ module _ {l w : List ℕ} (x : Indexed l w) (a b : List ℕ) (m : areas_measured
       → FirstBy (table_in l) (slot_count b) e r o
   as_other e r o g = subst (λ (i : ℕ). FirstBy (table_in l) i e r o) (sym (measured_same a b m)) g
 
-  pub settled_crowded : Resolved (table_in l) a Exceeded room other → (e : ℕ)
-      → FirstBy (table_in l) (slot_count b) e (Stopped 13) other
+  pub settled_crowded : Resolved (table_in l) a (Err no_room) room other → (e : ℕ)
+      → FirstBy (table_in l) (slot_count b) e (Err 13) other
   unfolding FirstBy residual_count
   settled_crowded (over, first, second) e =
-      as_other e (Stopped 13) other
+      as_other e (Err 13) other
       (fresh_crowded (table_in l) (slot_count a) e (lt-ltb (slot_count a) (residual_count (table_in l) []) over), second)
 
-  pub settled_first : (k : ℕ) → Resolved (table_in l) a (Count k) room other → (s : code.State)
+  pub settled_first : (k : ℕ) → Resolved (table_in l) a (Ok k) room other → (s : code.State)
       → state_of s ≡ fresh_state k → (e : ℕ) (r : Taken) (room' other' : List ℕ)
       → TakenBy (table_in l) (monitor_of s room other) e r room' other' → FirstBy (table_in l) (slot_count b) e r other'
   settled_first k h s f e r room' other' g =

@@ -1,5 +1,5 @@
 -- What a call in wash hours comes to, case by case, and that it goes one of its ways. Assumes nothing.
-use Rattle.std.specs.Prelude.{ℕ, ◌≡◌, Bool, List, length, eqb}
+use Rattle.std.specs.Prelude.{ℕ, ◌≡◌, Bool, List, length, eqb, Ok, Err}
 use Rattle.std.proofs.Math.Path.{refl, ap, subst}
 use Rattle.std.proofs.Common.{sym, ◌∙◌, eq-eqb, ne_eqb, eqb-true}
 use Rattle.std.proofs.Math.Bool.{true, false}
@@ -7,8 +7,8 @@ use Rattle.std.proofs.lemmas.Bool.{eqb-false}
 use Rattle.table.specs.declared.answer.Refusal.{Refusal}
 use Rattle.words_spec.specs.Calls.{MonitorCall, monitor_said, unmeasured}
 use Rattle.wash_state.specs.declared.answer.TimedState as kept
-use Rattle.wash_state.specs.declared.answer.TimedAnswer as code
-use Rattle.wash_state.specs.declared.answer.TimedAnswer.TheVariants.{Given, Refused, Stopped}
+use Rattle.wash_state.specs.Answers as code
+use Rattle.state.specs.declared.answer.Declined.TheVariants.{Refused, Stopped}
 use Rattle.wash_state.specs.Answers.{timed_state_of, timed_monitor_of, timed_answer_of, timed_outcome}
 use Rattle.wash_spec.specs.Timed.{TimedState, TimedAnswer, given, refused, stopped, TimedOutcome}
 use Rattle.wash_spec.specs.Feed.{timed_of}
@@ -18,17 +18,17 @@ use Rattle.wash_words.specs.Call.{timed_call, TimedWay, timed_unfit, timed_given
 
 -- ---- what `tell_timed` promises of each answer
 
-pub tell_given : (x : code.TimedAnswer) (s : kept.TimedState) (r r' : List ℕ) → x ≡ Given s
+pub tell_given : (x : code.TimedAnswer) (s : kept.TimedState) (r r' : List ℕ) → x ≡ Ok s
     → r' ≡ timed_words (timed_state_of s) → TimedTold (timed_answer_of x) r 0 0 r'
 unfolding timed_number timed_place timed_record_after
 tell_given x s r r' e h = rw e (record { number = refl; place = refl; words = h })
 
-pub tell_refused : (x : code.TimedAnswer) (q : Refusal) (r : List ℕ) → x ≡ Refused q
+pub tell_refused : (x : code.TimedAnswer) (q : Refusal) (r : List ℕ) → x ≡ Err (Refused q)
     → TimedTold (timed_answer_of x) r q.number q.place r
 unfolding timed_number timed_place timed_record_after
 tell_refused x q r e = rw e (record { number = refl; place = refl; words = refl })
 
-pub tell_stopped : (x : code.TimedAnswer) (q : Refusal) (s : kept.TimedState) (r r' : List ℕ) → x ≡ Stopped q s
+pub tell_stopped : (x : code.TimedAnswer) (q : Refusal) (s : kept.TimedState) (r r' : List ℕ) → x ≡ Err (Stopped q s)
     → r' ≡ timed_words (timed_state_of s) → TimedTold (timed_answer_of x) r q.number q.place r'
 unfolding timed_number timed_place timed_record_after
 tell_stopped x q s r r' e h = rw e (record { number = refl; place = refl; words = h })

@@ -6,6 +6,7 @@
 --     head_first, head_next          it holds at first, and after an event that is taken
 --     head_stopped, head_done        the outcome where an event is refused, and after the last
 -- Assumes nothing.
+use Rattle.std.specs.Prelude.{Ok, Err}
 use Prim.Native.Nat.{ℕ, zero, suc, ◌+◌, ◌<◌, ◌≤◌}
 use native.Mathlib.Omega.{arith}
 use native.Mathlib.Numerals.{add-one}
@@ -19,14 +20,13 @@ use Rattle.monitor_spec.specs.State.{areas_measured}
 use Rattle.monitor_spec.specs.Fold.{Ended, through}
 use Rattle.monitor_spec.proofs.Fold.Laws.{through_went, through_stops}
 use Rattle.state.specs.declared.record.State.{State}
-use Rattle.taking.specs.declared.event.Taken.{Taken}
-use Rattle.taking.specs.declared.event.Taken.TheVariants.{Went, Stopped}
+use Rattle.taking.specs.Taking.{Taken}
 use Rattle.wash_spec.specs.Timed.{TimedMonitor}
 use Rattle.wash_spec.specs.Taking.{take_timed}
 use Rattle.wash_spec.specs.Feed.{timed_pairs, timed_ending}
 use Rattle.wash_state.specs.declared.answer.TimedState.{TimedState}
 use Rattle.wash_state.specs.declared.answer.TimedState.TheVariants.{Started}
-use Rattle.wash_state.specs.declared.answer.TimedAnswer.TheVariants as answer
+use Rattle.state.specs.declared.answer.Declined.TheVariants as answer
 use Rattle.wash_state.specs.Answers.{timed_monitor_of}
 use Rattle.wash_start.specs.Standing.{TimedReady}
 use Rattle.wash_event.specs.Event.{TimedBy}
@@ -90,10 +90,10 @@ module _ (everyday wash windows : List ℕ) where
       split : folded m 0 ps ≡ folded m' i (p ∷ drop (suc i) ps)
       split = h.rest ∙ ap (folded m' i) (pairs_cons i es ms l same)
 
-      pub head_next : (s : State) → r ≡ Went s → areas_measured a' b' ≡ true → length w' ≡ 8192
+      pub head_next : (s : State) → r ≡ Ok s → areas_measured a' b' ≡ true → length w' ≡ 8192
           → Head m es ms (Started s (get_or ms i 0)) a' b' w' (i + 1)
       head_next s q ok k =
-          let f : TimedBy everyday wash windows x (get_or es i 0) (get_or ms i 0) a b (Went s) a' b' w' = rw q at g in
+          let f : TimedBy everyday wash windows x (get_or es i 0) (get_or ms i 0) a b (Ok s) a' b' w' = rw q at g in
           record {
             ready =
                 record {
@@ -109,14 +109,14 @@ module _ (everyday wash windows : List ℕ) where
                 (timed_monitor_of (Started s (get_or ms i 0)) a' b') i p (drop (suc i) ps) f.0);
           }
 
-      pub head_stopped : (k : ℕ) → r ≡ Stopped k
-          → TimedEndedBy everyday wash windows m es ms (answer.Stopped (record { number = k; place = i }) x) a' b'
+      pub head_stopped : (k : ℕ) → r ≡ Err k
+          → TimedEndedBy everyday wash windows m es ms (Err (answer.Stopped (record { number = k; place = i }) x)) a' b'
       unfolding TimedEndedBy timed_ending
       head_stopped k q n =
-          let f : TimedBy everyday wash windows x (get_or es i 0) (get_or ms i 0) a b (Stopped k) a' b' w' = rw q at g in
+          let f : TimedBy everyday wash windows x (get_or es i 0) (get_or ms i 0) a b (Err k) a' b' w' = rw q at g in
           rw (f.1, f.2) (sym (ap (timed_ending n) (split
           ∙ through_stops (take_timed (table_in everyday) (table_in wash) windows) m' i k p (drop (suc i) ps) f.0)))
 
-    pub head_done : length es ≤ i → TimedEndedBy everyday wash windows m es ms (answer.Given x) a b
+    pub head_done : length es ≤ i → TimedEndedBy everyday wash windows m es ms (Ok x) a b
     unfolding TimedEndedBy timed_ending through
     head_done l n = sym (ap (timed_ending n) (h.rest ∙ ap (folded m' i) (pairs_done i es ms l)))

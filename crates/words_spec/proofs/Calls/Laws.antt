@@ -1,15 +1,13 @@
 -- What a call of the monitor's operations comes to, case by case. Assumes nothing.
-use Rattle.std.specs.Prelude.{ℕ, ◌%◌, ◌≡◌, refl, List, length}
+use Rattle.std.specs.Prelude.{ℕ, ◌%◌, ◌≡◌, refl, List, length, Ok, Err}
 use Rattle.std.proofs.Math.Path.{ap}
 use Rattle.std.proofs.Common.{sym, ◌∙◌}
 use borrow.Author.Tests.{eq-eqb, ne_eqb}
 use Rattle.state.specs.declared.record.State.{State as StateCode}
 use Rattle.table.specs.declared.answer.Refusal.{Refusal}
-use Rattle.state.specs.declared.answer.Answer as code
-use Rattle.state.specs.declared.answer.Answer.TheVariants.{Given, Refused, Stopped}
+use Rattle.state.specs.Answers as code
+use Rattle.state.specs.declared.answer.Declined.TheVariants.{Refused, Stopped}
 use Rattle.state.specs.declared.answer.EventBits.{EventBits}
-use Rattle.state.specs.declared.answer.Offered as offer
-use Rattle.state.specs.declared.answer.Offered.TheVariants as variant
 use Rattle.monitor_spec.specs.State.{State, Outcome}
 use Rattle.monitor_spec.specs.Open.{open_of}
 use Rattle.monitor_spec.specs.Feed.{feed_of}
@@ -57,31 +55,31 @@ view_unmeasured r a b h = rw (ne_eqb (length r) 5 h, view_call) refl
 -- ---- Open and Feed
 
 -- what `tell` promises of each answer
-pub tell_given : (x : code.Answer) (s : StateCode) (r r' : List ℕ) → x ≡ Given s → r' ≡ words_of (state_of s)
+pub tell_given : (x : code.Answer) (s : StateCode) (r r' : List ℕ) → x ≡ Ok s → r' ≡ words_of (state_of s)
     → MonitorTold (answer_of x) r 0 0 r'
 unfolding answer_number answer_place record_after
 tell_given x s r r' e h = rw e (record { number = refl; place = refl; words = h })
 
-pub tell_refused : (x : code.Answer) (q : Refusal) (r : List ℕ) → x ≡ Refused q
+pub tell_refused : (x : code.Answer) (q : Refusal) (r : List ℕ) → x ≡ Err (Refused q)
     → MonitorTold (answer_of x) r q.number q.place r
 unfolding answer_number answer_place record_after
 tell_refused x q r e = rw e (record { number = refl; place = refl; words = refl })
 
-pub tell_stopped : (x : code.Answer) (q : Refusal) (s : StateCode) (r r' : List ℕ) → x ≡ Stopped q s
+pub tell_stopped : (x : code.Answer) (q : Refusal) (s : StateCode) (r r' : List ℕ) → x ≡ Err (Stopped q s)
     → r' ≡ words_of (state_of s) → MonitorTold (answer_of x) r q.number q.place r'
 unfolding answer_number answer_place record_after
 tell_stopped x q s r r' e h = rw e (record { number = refl; place = refl; words = h })
 
 -- what `has_record` promises of each answer
-pub has_given : (x : code.Answer) (s : StateCode) → x ≡ Given s → 1 ≡ opened_of (answer_of x)
+pub has_given : (x : code.Answer) (s : StateCode) → x ≡ Ok s → 1 ≡ opened_of (answer_of x)
 unfolding opened_of
 has_given x s e = rw e refl
 
-pub has_refused : (x : code.Answer) (q : Refusal) → x ≡ Refused q → 0 ≡ opened_of (answer_of x)
+pub has_refused : (x : code.Answer) (q : Refusal) → x ≡ Err (Refused q) → 0 ≡ opened_of (answer_of x)
 unfolding opened_of
 has_refused x q e = rw e refl
 
-pub has_stopped : (x : code.Answer) (q : Refusal) (s : StateCode) → x ≡ Stopped q s → 1 ≡ opened_of (answer_of x)
+pub has_stopped : (x : code.Answer) (q : Refusal) (s : StateCode) → x ≡ Err (Stopped q s) → 1 ≡ opened_of (answer_of x)
 unfolding opened_of
 has_stopped x q s e = rw e refl
 
@@ -119,17 +117,17 @@ module _ (x : code.Answer) (n p : ℕ) (r r' a b w : List ℕ) (t : MonitorTold 
 -- ---- Offer
 
 -- what `tell_offer` promises of each answer
-pub tell_offers : (x : offer.Offered) (bits : EventBits) → x ≡ variant.Offers bits
+pub tell_offers : (x : code.Offered) (bits : EventBits) → x ≡ Ok bits
     → OfferTold (offered_of x) 0 bits.first bits.second
 unfolding offer_number offer_value offer_second
 tell_offers x bits e = rw e (record { number = refl; value = refl; second = refl })
 
-pub tell_declined : (x : offer.Offered) (q : Refusal) → x ≡ variant.Refused q
+pub tell_declined : (x : code.Offered) (q : Refusal) → x ≡ Err q
     → OfferTold (offered_of x) q.number q.place 0
 unfolding offer_number offer_value offer_second
 tell_declined x q e = rw e (record { number = refl; value = refl; second = refl })
 
-pub offer_told : (x : offer.Offered) (n v u : ℕ) (l r a b w w₀ : List ℕ) (s : StateCode)
+pub offer_told : (x : code.Offered) (n v u : ℕ) (l r a b w w₀ : List ℕ) (s : StateCode)
     → OfferTold (offered_of x) n v u → length r ≡ 5 → state_of s ≡ state_in r
     → offer_outcome x a b w ≡ offer_of l (monitor_of s a b) w₀ → offer_said n v u a b w ≡ offer_call l r a b w₀
 unfolding offer_call offering_call record_measured monitor_in

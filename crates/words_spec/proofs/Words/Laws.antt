@@ -1,6 +1,6 @@
 -- Records and their words, case by case. Assumes nothing.
-use Rattle.std.specs.Prelude.{ℕ, ◌<◌, ◌≡◌, refl, List, [], ◌∷◌, ◌++◌, length, get_or, set}
-use Rattle.std.proofs.Common.{arith, length-set, eq-eqb, ne_eqb}
+use Rattle.std.specs.Prelude.{ℕ, ◌≡◌, refl, List, [], ◌∷◌, ◌++◌, get_or}
+use Rattle.std.proofs.Common.{eq-eqb, ne_eqb}
 use Rattle.state.specs.declared.record.Verdict.{Verdict as VerdictCode}
 use Rattle.state.specs.declared.record.Verdict.TheVariants.{Running, Failed}
 use Rattle.state.specs.declared.record.State.{State as StateCode}
@@ -38,25 +38,6 @@ read_back s = λ i. record {
   peak = behind s.verdict s.peak i;
   verdict = back s.verdict (s.peak ∷ []) i;
 }
-
--- ---- five stores
-
-pub four_kept : (r : List ℕ) (a b c d : ℕ) → length r ≡ 5 → 4 < length (set (set (set (set r 0 a) 1 b) 2 c) 3 d)
-four_kept r a b c d h =
-    let e = length-set r 0 a in
-    let f = length-set (set r 0 a) 1 b in
-    let g = length-set (set (set r 0 a) 1 b) 2 c in
-    omega (arith, length-set (set (set (set r 0 a) 1 b) 2 c) 3 d)
-
-pub five_stores : (r : List ℕ) (a b c d e : ℕ) → length r ≡ 5
-    → set (set (set (set (set r 0 a) 1 b) 2 c) 3 d) 4 e ≡ a ∷ b ∷ c ∷ d ∷ e ∷ []
-five_stores [] a b c d e h = absurd (omega arith)
-five_stores (_ ∷ []) a b c d e h = absurd (omega arith)
-five_stores (_ ∷ _ ∷ []) a b c d e h = absurd (omega arith)
-five_stores (_ ∷ _ ∷ _ ∷ []) a b c d e h = absurd (omega arith)
-five_stores (_ ∷ _ ∷ _ ∷ _ ∷ []) a b c d e h = absurd (omega arith)
-five_stores (_ ∷ _ ∷ _ ∷ _ ∷ _ ∷ []) a b c d e h = refl
-five_stores (_ ∷ _ ∷ _ ∷ _ ∷ _ ∷ _ ∷ r) a b c d e h = absurd (omega arith)
 
 -- ---- what `store` writes
 

@@ -1,24 +1,15 @@
 -- `reads::after_arrived` meets its contract, by what arrived. Assumes nothing.
-use native.Mathlib.Omega.{arith}
-use mathlib.Core.Path.{sym}
-use lib.ListN.{length}
-use lib.Seq.{length-take-le}
-use Rattle.input.specs.Arrival.Laws.{arrives_bytes}
+use mathlib.Core.Path.{ap, ◌∙◌}
+use Rattle.std.specs.Prelude.{Ok}
 use Rattle.course_spec.specs.Course.Laws.{arrived_bytes, arrived_ended, arrived_broken}
 use Rattle.arrivals.proofs.reads.after_arrived.Goals as goal
 
-pub slice_bounds-take_read-end : goal.slice_bounds-take_read-end
-slice_bounds-take_read-end c =
-    let came = arrives_bytes (length c.args.piece.now) _ c.requires.rooms.1 _
-    c.in-Bytes.is in
-    sym (length-take-le _ _ (omega (arith, came.0)))
+pub returns-in-Continue : goal.returns-in-Continue
+returns-in-Continue c =
+    arrived_bytes _ _ _ _ _ _ _ _ _ (c.in-Ok.is ∙ ap Ok c.in-Continue.is) _ c.take_read.ensures
 
-pub returns-in-Bytes : goal.returns-in-Bytes
-returns-in-Bytes c =
-    arrived_bytes _ _ _ _ _ _ _ _ _ c.in-Bytes.is _ c.take_read.ensures
+pub returns-in-Break : goal.returns-in-Break
+returns-in-Break c = arrived_ended _ _ _ _ _ _ _ _ _ (c.in-Ok.is ∙ ap Ok c.in-Break.is)
 
-pub returns-in-Ended : goal.returns-in-Ended
-returns-in-Ended c = arrived_ended _ _ _ _ _ _ _ _ _ c.in-Ended.is
-
-pub returns-in-Broken : goal.returns-in-Broken
-returns-in-Broken c = arrived_broken _ _ _ _ _ _ _ _ _ c.in-Broken.is
+pub returns-in-Err : goal.returns-in-Err
+returns-in-Err c = arrived_broken _ _ _ _ _ _ _ _ _ c.in-Err.is

@@ -1,12 +1,8 @@
--- The invariants and measures of `bytes.encode`.
-use Prim.Native.Nat.{◌-◌}
+-- The invariant of `bytes.encode`.
 use mathlib.Core.Path.{◌≡◌}
 use lib.ListN.{length}
 use Rattle.codec.proofs.bytes.Written.{OutputFilled}
 use Rattle.codec.proofs.bytes.encode.Given as goal
 
-abbrev pub invariant-loop-i : goal.invariant-loop-i
-invariant-loop-i l = OutputFilled l.list l.initial.out l.out l.i l.p × (length l.out ≡ length l.initial.out)
-
-abbrev pub decreases-loop-i : goal.decreases-loop-i
-decreases-loop-i l = length l.list - l.i
+abbrev pub invariant-loop-n : goal.invariant-loop-n
+invariant-loop-n l = OutputFilled l.list l.initial.out l.out l.n-index l.p × (length l.out ≡ length l.initial.out)

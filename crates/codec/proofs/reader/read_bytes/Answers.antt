@@ -14,17 +14,17 @@ returns-then-size-gt16384 c =
 pub slice_bounds-judge_decoded-end-2 : goal.slice_bounds-judge_decoded-end-2
 slice_bounds-judge_decoded-end-2 c = sym (length-take-le _ _ (omega arith))
 
-pub returns-in-Accepted : goal.returns-in-Accepted
-returns-in-Accepted c =
+pub returns-in-Ok : goal.returns-in-Ok
+returns-in-Ok c =
     let d = c.decode-d.ensures in
     let one = c.decode-d.auto.out ∙ c.requires.0 in
     said_accepted _ _ _ _ _ _ d.numbers c.if-size-gt16384.false d.few one c.clear_numbers-2.ensures
-    _ c.judge_decoded.ensures c.in-Accepted.is
+    _ c.judge_decoded.ensures c.in-Ok.is
 
-pub returns-in-Declined : goal.returns-in-Declined
-returns-in-Declined c =
+pub returns-in-Err : goal.returns-in-Err
+returns-in-Err c =
     let d = c.decode-d.ensures in
     let one = c.decode-d.auto.out ∙ c.requires.0 in
     let two = c.clear_numbers-2.auto.numbers ∙ one in
     said_declined _ _ _ _ _ _ d.numbers c.if-size-gt16384.false d.few one c.clear_numbers-2.ensures
-    _ c.judge_decoded.ensures _ _ c.in-Declined.is two c.clear_numbers-in-Declined.ensures
+    _ c.judge_decoded.ensures _ _ c.in-Err.is two c.clear_numbers-in-Err.ensures

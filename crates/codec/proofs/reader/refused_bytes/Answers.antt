@@ -16,11 +16,11 @@ pub byte_place-requires-in-5 : goal.byte_place-requires-in-5
 byte_place-requires-in-5 c =
     c.requires (omega arith) (omega arith)
 
-pub returns-then-d : goal.returns-then-d
-returns-then-d c = on_loose _ _ _ _ _ _ (omega arith) c.if-d.true
+pub returns-in-Malformed : goal.returns-in-Malformed
+returns-in-Malformed c = on_loose _ _ _ _ _ _ (omega arith) c.in-Malformed.is
 
-pub returns-else-d : goal.returns-else-d
-returns-else-d c = on_short _ _ _ _ _ _ (omega arith) c.if-d.false
+pub returns-in-Truncated : goal.returns-in-Truncated
+returns-in-Truncated c = on_short _ _ _ _ _ _ (omega arith) c.in-Truncated.is
 
 pub returns-then-next-size : goal.returns-then-next-size
 returns-then-next-size c =

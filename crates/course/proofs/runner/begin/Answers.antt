@@ -4,7 +4,7 @@ use native.Mathlib.Omega.{arith}
 use mathlib.Core.Path.{sym, subst}
 use lib.ListN.{length-replicate}
 use Rattle.feeding.specs.Feeding.{step_words}
-use Rattle.course_spec.specs.Course.Laws.{begin_said, begin_unsaid}
+use Rattle.course_spec.specs.Course.Laws.{begin_said}
 use Rattle.course.proofs.runner.begin.Goals as goal
 
 pub follow-requires : goal.follow-requires
@@ -18,10 +18,5 @@ follow-requires c =
       );
     }
 
-pub returns-in-Written : goal.returns-in-Written
-returns-in-Written c =
-    begin_said _ _ _ _ _ c.none.ensures _ c.say.ensures.spoken _ c.in-Written.is
-    _ c.follow.ensures
-
-pub returns-in-Failed : goal.returns-in-Failed
-returns-in-Failed c = begin_unsaid _ _ _ _
+pub returns : goal.returns
+returns c = begin_said _ _ _ _ _ c.none.ensures _ c.say.ensures.spoken _ c.in_ok-said.was _ c.follow.ensures

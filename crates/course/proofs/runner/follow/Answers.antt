@@ -49,7 +49,7 @@ loop-next-smaller c =
       c.loop-next.invariant.6,
     ) in
     let more = brought _ _ _ _ _ room _ _ _ _ c.arrive-arrived.ensures c.after_arrived.ensures
-    _ _ c.in-Going.is in
+    _ _ c.in-Continue.is in
     omega (arith, more.some, more.onward.took.all, more.onward.took.fits c.loop-next.invariant.7)
 
 pub loop-next-preserved : goal.loop-next-preserved
@@ -61,7 +61,7 @@ loop-next-preserved c =
       c.loop-next.invariant.6,
     ) in
     let more = brought _ _ _ _ _ room _ _ _ _ c.arrive-arrived.ensures c.after_arrived.ensures
-    _ _ c.in-Going.is in (
+    _ _ c.in-Continue.is in (
       c.after_arrived.auto.area0 ∙ c.loop-next.invariant.0,
       c.after_arrived.auto.area1 ∙ c.loop-next.invariant.1,
       c.arrive-arrived.auto.buffer ∙
@@ -76,8 +76,8 @@ loop-next-preserved c =
       more.tracing,
     )
 
-pub returns-in-Over : goal.returns-in-Over
-returns-in-Over c =
+pub returns-in-Break : goal.returns-in-Break
+returns-in-Break c =
     let room : 0 < length c.arrive-arrived.new.buffer = omega (
       arith,
       c.arrive-arrived.auto.buffer,
@@ -85,4 +85,4 @@ returns-in-Over c =
       c.loop-next.invariant.6,
     ) in
     follow_over _ _ _ _ _ room _ _ _ _ _ c.loop-next.invariant.8 _ c.arrive-arrived.ensures
-    c.after_arrived.ensures _ c.in-Over.is
+    c.after_arrived.ensures _ c.in-Break.is

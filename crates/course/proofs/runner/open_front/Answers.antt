@@ -9,31 +9,28 @@ use Rattle.course.proofs.runner.open_front.Goals as goal
 
 pub slice_bounds-begin-end : goal.slice_bounds-begin-end
 slice_bounds-begin-end c =
-    (opened_front _ _ _ _ _ c.requires.lengths _ _ _ _ _ c.open_trace.ensures _ _ _ _
-    c.in-Started.is).few
+    (opened_front _ _ _ _ _ c.requires.lengths _ _ _ _ _ c.open_trace.ensures _ c.in-Ok.is).few
 
-pub slice_bounds-begin-end-in-Started : goal.slice_bounds-begin-end-in-Started
-slice_bounds-begin-end-in-Started c =
-    sym (length-take-le _ _ (opened_front _ _ _ _ _ c.requires.lengths _ _ _ _ _ c.open_trace.ensures _
-    _ _ _ c.in-Started.is).few)
+pub slice_bounds-begin-end-in-Ok : goal.slice_bounds-begin-end-in-Ok
+slice_bounds-begin-end-in-Ok c =
+    sym (length-take-le _ _ (opened_front _ _ _ _ _ c.requires.lengths _ _ _ _ _ c.open_trace.ensures _ c.in-Ok.is).few)
 
 pub begin-requires : goal.begin-requires
 begin-requires c =
     record {
-      tracing = (opened_front _ _ _ _ _ c.requires.lengths _ _ _ _ _ c.open_trace.ensures _ _ _ _
-          c.in-Started.is).tracing;
+      tracing = (opened_front _ _ _ _ _ c.requires.lengths _ _ _ _ _ c.open_trace.ensures _ c.in-Ok.is).tracing;
       in_bounds = subst (λ (n : ℕ). 2816 ≤ n) (sym (length-replicate {A = ℕ} 4096 0)) (omega
           arith);
     }
 
-pub returns-in-Started : goal.returns-in-Started
-returns-in-Started c =
+pub returns-in-Ok : goal.returns-in-Ok
+returns-in-Ok c =
     says_started _ c.requires.fronts _ _ _ _ _ _ _ _ (opened_front _ _ _ _ _ c.requires.lengths _ _ _ _ _
-    c.open_trace.ensures _ _ _ _ c.in-Started.is) _ c.begin.ensures
+    c.open_trace.ensures _ c.in-Ok.is) _ c.begin.ensures
 
-pub returns-in-Refused : goal.returns-in-Refused
-returns-in-Refused c =
-    let q = c.in-Refused.refusal in
+pub returns-in-Err : goal.returns-in-Err
+returns-in-Err c =
+    let q = c.in-Err.refusal in
     says_refused _ q.number q.place (refused_front _ _ _ _ _ c.requires.lengths _ _ _ _ _
-    c.open_trace.ensures _ c.in-Refused.is) _ c.none.ensures _
+    c.open_trace.ensures _ c.in-Err.is) _ c.none.ensures _
     c.say_refusal.ensures

@@ -1,5 +1,5 @@
--- The invariants and measures of `rows.read_rows`.
-use Prim.Native.Nat.{◌+◌, ◌-◌, ◌≤◌}
+-- The invariant of `rows.read_rows`.
+use Prim.Native.Nat.{◌+◌, ◌≤◌}
 use mathlib.Core.Path.{◌≡◌}
 use lib.ListN.{length}
 use Rattle.table.specs.Rows.{alphabet_most, RowsFit}
@@ -11,6 +11,3 @@ abbrev pub invariant-loop-j : goal.invariant-loop-j
 invariant-loop-j l =
     Head l.list l.alphabet l.count l.at l.row l.initial.work l.work l.j l.p × (l.alphabet ≤ alphabet_most) × (l.row + l.count ≤ rows_most)
     × (length l.initial.work ≡ 8192) × RowsFit l.alphabet (l.row + l.count)
-
-abbrev pub decreases-loop-j : goal.decreases-loop-j
-decreases-loop-j l = l.count - l.j

@@ -1,8 +1,10 @@
 -- `event_sets::rows::read_sets` meets its contract. The loop's invariant: s sets are read and indexed (`Head` of
--- SetsTurn), and the alphabet's bounds. The measure is how many sets are left. Assumes nothing.
-use Prim.Native.Nat.{◌-◌}
+-- SetsTurn), and the alphabet's bounds. Assumes nothing.
 use native.Mathlib.Omega.{arith}
 use mathlib.Core.Path.{refl}
+use Rattle.std.specs.declared.result.Result.TheVariants.{Err}
+use Rattle.table.proofs.Passed.{passed}
+use Rattle.table_index.specs.Parse.{SetsRead}
 use Rattle.event_sets.proofs.rows.SetsTurn.{head_first, head_room, head_next, head_fits, head_done}
 use Rattle.event_sets.proofs.rows.SetsTurn.{head_stop}
 use Rattle.event_sets.proofs.rows.read_sets.Goals as goal
@@ -23,23 +25,22 @@ pub overflow_add-work : goal.overflow_add-work
 overflow_add-work c =
     let head = c.loop-s.invariant.0 in
     let told = c.read_set.ensures in
-    omega (arith, head_fits head _ _ _ _ _ c.in-NextSet.is told)
+    omega (arith, head_fits head _ _ _ c.in_ok-set.was told)
 
 pub loop-s-preserved : goal.loop-s-preserved
 loop-s-preserved c =
     let head = c.loop-s.invariant.0 in
     let told = c.read_set.ensures in (
-      head_next head _ _ _ _ _ _ c.in-NextSet.is told (omega arith) refl,
+      head_next head _ _ _ _ c.in_ok-set.was told (omega arith) refl,
       omega arith,
       omega arith,
     )
 
 -- a set is refused
-pub returns-in-NoSet : goal.returns-in-NoSet
-returns-in-NoSet c =
-    let head = c.loop-s.invariant.0 in
-    let told = c.read_set.ensures in
-    head_stop head _ _ _ c.in-NoSet.is told (omega arith)
+pub returns-in_err-set : goal.returns-in_err-set
+returns-in_err-set c =
+    passed (SetsRead _ _ _ _ _ _) _ _ c.from_residual.ensures.1
+    (head_stop c.loop-s.invariant.0 _ _ (Err _) refl c.in_err-set.ensures (omega arith))
 
 -- all sets are read
 pub returns : goal.returns

@@ -10,9 +10,8 @@ use Rattle.feeding.proofs.feeder.take_all.Goals as goal
 
 pub take_each-requires : goal.take_each-requires
 take_each-requires c =
-    let t = table_in c.args.list.now in
+    let t = table_in c.args.table.now.list.now in
     record {
-      indexed = c.requires.indexed;
       standing = c.requires.standing;
       from_in_bounds = (omega arith, omega arith);
       store_of = store_zeros t;
@@ -20,18 +19,17 @@ take_each-requires c =
 
 pub returns-then-events-i : goal.returns-then-events-i
 returns-then-events-i c =
-    let g = run_left (table_in c.args.list.now) (let args = c.args in
+    let g = run_left (table_in c.args.table.now.list.now) (let args = c.args in
     monitor_of args.state args.area0.now args.area1.now) _ _ _ _ _ _ c.take_each.ensures.0 _ _ c.in-Left.is in
-    ended_all (table_in c.args.list.now) (let args = c.args in
-    monitor_of args.state args.area0.now args.area1.now) _ _ _ _ (ended_done (table_in c.args.list.now) (let args = c.args in
+    ended_all (table_in c.args.table.now.list.now) (let args = c.args in
+    monitor_of args.state args.area0.now args.area1.now) _ _ _ _ (ended_done (table_in c.args.table.now.list.now) (let args = c.args in
     monitor_of args.state args.area0.now args.area1.now) _ _ _ _ _ _ g.0 c.if-events-i.true)
 
 pub take_rest-requires : goal.take_rest-requires
 take_rest-requires c =
-    let g = run_left (table_in c.args.list.now) (let args = c.args in
+    let g = run_left (table_in c.args.table.now.list.now) (let args = c.args in
     monitor_of args.state args.area0.now args.area1.now) _ _ _ _ _ _ c.take_each.ensures.0 _ _ c.in-Left.is in
     record {
-      indexed = c.requires.indexed;
       standing = g.0.standing;
       from_in_bounds = g.2;
       store_of = c.take_each.ensures.1;
@@ -39,16 +37,16 @@ take_rest-requires c =
 
 pub returns-in-Ended : goal.returns-in-Ended
 returns-in-Ended c =
-    ended_all (table_in c.args.list.now) (let args = c.args in
+    ended_all (table_in c.args.table.now.list.now) (let args = c.args in
     monitor_of args.state args.area0.now args.area1.now) _ _ _ _
-    (run_ended (table_in c.args.list.now) (let args = c.args in
+    (run_ended (table_in c.args.table.now.list.now) (let args = c.args in
     monitor_of args.state args.area0.now args.area1.now) _ _ _ _ _ _ c.take_each.ensures.0 _ c.in-Ended.is)
 
 pub returns-else-events-i : goal.returns-else-events-i
 returns-else-events-i c =
-    let g = run_left (table_in c.args.list.now) (let args = c.args in
+    let g = run_left (table_in c.args.table.now.list.now) (let args = c.args in
     monitor_of args.state args.area0.now args.area1.now) _ _ _ _ _ _ c.take_each.ensures.0 _ _ c.in-Left.is in
-    ended_all (table_in c.args.list.now) (let args = c.args in
+    ended_all (table_in c.args.table.now.list.now) (let args = c.args in
     monitor_of args.state args.area0.now args.area1.now) _ _ _ _
-    (ended_then (table_in c.args.list.now) (let args = c.args in
+    (ended_then (table_in c.args.table.now.list.now) (let args = c.args in
     monitor_of args.state args.area0.now args.area1.now) _ _ _ _ g.0 _ _ _ c.take_rest.ensures)

@@ -1,11 +1,16 @@
 -- `text::spell` meets its contract: the parts are added one after the other. Assumes nothing.
-use mathlib.Core.Path.{refl}
-use Rattle.format.specs.Bytes.Laws.{spelled_shown}
+use Rattle.std.proofs.Common.{[], ◌∷◌, ◌++◌, ◌∙◌, append_assoc}
+use Rattle.decimal.specs.Decimal.{decimal}
+use Rattle.format.specs.Text.{spelled}
 use Rattle.format.proofs.text.spell.Goals as goal
 
 pub returns : goal.returns
+unfolding spelled
 returns c =
-    spelled_shown _ _ _ _ _ _ _ _ refl c.add.ensures
-    c.add_number-first.ensures
-    c.add_number-second.ensures c.add-2.ensures
-    c.requires
+    let args = c.args in
+    let word = args.word.now in
+    let first = 32 ∷ decimal args.a in
+    let second = 32 ∷ decimal args.b in
+    c.push-2.ensures
+    ∙ rw (c.push_number-2.ensures.bytes, c.push_number.ensures.bytes, c.push.ensures, c.new-text.ensures)
+    (append_assoc (word ++ first) second (10 ∷ []) ∙ append_assoc word first (second ++ (10 ∷ [])))

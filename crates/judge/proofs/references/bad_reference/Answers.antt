@@ -29,7 +29,7 @@ call_fits-requires c =
 pub returns-then-call_fits : goal.returns-then-call_fits
 returns-then-call_fits c =
     let p = c.requires in
-    call_kept _ _ p.judging _ p.n_bound c.if-w-eq5.true
+    call_kept _ _ p.judging _ p.n_bound (omega (arith, c.number.ensures, c.if-w-number.true))
     (sym c.if-call_fits.true ∙ c.call_fits.ensures)
 
 pub overflow_add-result : goal.overflow_add-result
@@ -37,16 +37,16 @@ overflow_add-result c =
     let p = c.requires in
     omega (arith, call_place _ _ p.judging _ p.n_bound _ (place_known _ _ p.judging _ p.n_bound _ p.p_value))
 
-pub returns-then-w-eq5 : goal.returns-then-w-eq5
-returns-then-w-eq5 c =
+pub returns-then-w-number : goal.returns-then-w-number
+returns-then-w-number c =
     let p = c.requires in
     call_broken _ _ p.judging _ p.n_bound _ (place_known _ _ p.judging _ p.n_bound _ p.p_value)
-    c.if-w-eq5.true (sym c.if-call_fits.false ∙ c.call_fits.ensures)
+    (omega (arith, c.number.ensures, c.if-w-number.true)) (sym c.if-call_fits.false ∙ c.call_fits.ensures)
 
 pub returns-then-parameter-w : goal.returns-then-parameter-w
 returns-then-parameter-w c =
     let p = c.requires in
-    param_kept _ _ p.judging _ p.n_bound c.if-w-eq5.false c.if-parameter-w.true
+    param_kept _ _ p.judging _ p.n_bound (λ e. c.if-w-number.false (e ∙ sym c.number.ensures)) c.if-parameter-w.true
 
 pub overflow_add-result-2 : goal.overflow_add-result-2
 overflow_add-result-2 c =

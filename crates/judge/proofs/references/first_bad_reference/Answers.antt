@@ -1,6 +1,5 @@
 -- `judge::references::first_bad_reference` meets its contract: the first term that breaks a rule is the first over all.
--- The loop's invariant: no term below n breaks one, and p is where the definitions start and the heads before n. The
--- measure is what is left of the terms. Assumes nothing.
+-- The loop's invariant: no term below n breaks one, and p is where the definitions start and the heads before n. Assumes nothing.
 use native.Mathlib.Omega.{arith}
 use mathlib.Core.Path.{sym, ◌∙◌}
 use borrow.Author.Count.{below_more}
@@ -39,18 +38,18 @@ pub loop-n-preserved : goal.loop-n-preserved
 loop-n-preserved c =
     let t = table_in c.args.list.now in
     let k = c.loop-n in
-    let e = sym c.in-Nowhere.is ∙ c.bad_reference.ensures in (
+    let e = sym c.in_default.is ∙ c.bad_reference.ensures in (
       k.invariant.0,
       omega arith,
       below_more _ _ k.invariant.2 (nowhere_out _ e),
       omega (arith, k.invariant.3, c.head_length-p.ensures, heads_next t k.n (omega (arith, k.invariant.0))),
     )
 
-pub returns-in-Broken : goal.returns-in-Broken
-returns-in-Broken c =
+pub returns-in-Some : goal.returns-in-Some
+returns-in-Some c =
     let k = c.loop-n in
     first_broken _ _ _ (omega arith) k.invariant.2
-    (sym c.in-Broken.is ∙ c.bad_reference.ensures)
+    (sym c.in-Some.is ∙ c.bad_reference.ensures)
 
 pub returns : goal.returns
 returns c = first_nowhere _ _ (omega arith) c.loop-n.invariant.2

@@ -1,5 +1,5 @@
--- The invariants and measures of `references.first_bad_reference`.
-use Prim.Native.Nat.{◌-◌, ◌≤◌}
+-- The invariant of `references.first_bad_reference`.
+use Prim.Native.Nat.{◌≤◌}
 use mathlib.Core.Path.{◌≡◌}
 use Rattle.table.specs.Table.{term_count}
 use Rattle.table_index.specs.Index.{table_in}
@@ -10,6 +10,3 @@ use Rattle.judge.proofs.references.first_bad_reference.Given as goal
 abbrev pub invariant-loop-n : goal.invariant-loop-n
 invariant-loop-n l =
     (l.terms ≡ term_count (table_in l.list)) × (l.n ≤ l.terms) × NoneBelow (table_in l.list) l.n × (l.p ≡ heads_before (table_in l.list) l.n)
-
-abbrev pub decreases-loop-n : goal.decreases-loop-n
-decreases-loop-n l = l.terms - l.n

@@ -1,5 +1,6 @@
 -- `judge::references::head_length` meets its contract: the parameter and the kind in the term's word say how many
 -- numbers stand before those of the terms in it. Assumes nothing.
+use native.Mathlib.Omega.{arith}
 use Rattle.table_index.specs.References.Heads.{head_family, head_leaf, head_choice, head_two}
 use Rattle.judge.proofs.references.head_length.Goals as goal
 
@@ -7,16 +8,43 @@ use Rattle.judge.proofs.references.head_length.Goals as goal
 pub returns-then-w-gt0 : goal.returns-then-w-gt0
 returns-then-w-gt0 c = let p = c.requires in head_family _ _ p.judging _ p.n_bound c.if-w-gt0.true
 
--- STOP or FAIL
-pub returns-then-kind-lt2 : goal.returns-then-kind-lt2
-returns-then-kind-lt2 c = let p = c.requires in head_leaf _ _ p.judging _ p.n_bound c.if-kind-lt2.true
-
--- a choice
-pub returns-then-kind-eq3 : goal.returns-then-kind-eq3
-returns-then-kind-eq3 c = let p = c.requires in head_choice _ _ p.judging _ p.n_bound c.if-kind-eq3.true
-
--- a set reference without one, or a call
-pub returns : goal.returns
-returns c =
+pub returns-in-Some-Stop : goal.returns-in-Some-Stop
+returns-in-Some-Stop c =
     let p = c.requires in
-    head_two _ _ p.judging _ p.n_bound c.if-w-gt0.false c.if-kind-lt2.false c.if-kind-eq3.false
+    let k = rw c.in-Some-Stop.field-0-is at c.in-Some-Stop.ensures in
+    head_leaf _ _ p.judging _ p.n_bound (omega arith)
+
+pub returns-in-Some-Fail : goal.returns-in-Some-Fail
+returns-in-Some-Fail c =
+    let p = c.requires in
+    let k = rw c.in-Some-Fail.field-0-is at c.in-Some-Fail.ensures in
+    head_leaf _ _ p.judging _ p.n_bound (omega arith)
+
+pub returns-in-Some-Choice : goal.returns-in-Some-Choice
+returns-in-Some-Choice c =
+    let p = c.requires in
+    let k = rw c.in-Some-Choice.field-0-is at c.in-Some-Choice.ensures in
+    head_choice _ _ p.judging _ p.n_bound k
+
+pub returns-in-Some-Prefix : goal.returns-in-Some-Prefix
+returns-in-Some-Prefix c =
+    let p = c.requires in
+    let k = rw c.in-Some-Prefix.field-0-is at c.in-Some-Prefix.ensures in
+    head_two _ _ p.judging _ p.n_bound c.if-w-gt0.false (omega arith) (λ e. omega arith)
+
+pub returns-in-Some-Parallel : goal.returns-in-Some-Parallel
+returns-in-Some-Parallel c =
+    let p = c.requires in
+    let k = rw c.in-Some-Parallel.field-0-is at c.in-Some-Parallel.ensures in
+    head_two _ _ p.judging _ p.n_bound c.if-w-gt0.false (omega arith) (λ e. omega arith)
+
+pub returns-in-Some-Call : goal.returns-in-Some-Call
+returns-in-Some-Call c =
+    let p = c.requires in
+    let k = rw c.in-Some-Call.field-0-is at c.in-Some-Call.ensures in
+    head_two _ _ p.judging _ p.n_bound c.if-w-gt0.false (omega arith) (λ e. omega arith)
+
+pub returns-in-None : goal.returns-in-None
+returns-in-None c =
+    let p = c.requires in
+    head_two _ _ p.judging _ p.n_bound c.if-w-gt0.false (omega (arith, c.in-None.ensures)) (λ e. omega (arith, c.in-None.ensures))

@@ -1,5 +1,5 @@
 -- `judge::widths::first_wide_level` meets its contract. The loop's invariant: the widths of the levels below are
--- stored, and at most 8. The measure is how many levels are left. Assumes nothing.
+-- stored, and at most 8. Assumes nothing.
 use native.Mathlib.Omega.{arith}
 use mathlib.Core.Path.{sym, ◌∙◌}
 use Rattle.table_index.specs.Filling.Wide.{wide_first, wide_asked, wide_level, wide_next, wide_none}
@@ -35,12 +35,6 @@ offset_bounds-work-level c = omega arith
 
 pub bounds-work-level : goal.bounds-work-level
 bounds-work-level c = omega (arith, c.level_width-w.ensures.structure.whole)
-
-pub overflow_add-level : goal.overflow_add-level
-overflow_add-level c = omega arith
-
-pub loop-level-smaller : goal.loop-level-smaller
-loop-level-smaller c = omega arith
 
 pub loop-level-preserved : goal.loop-level-preserved
 loop-level-preserved c =

@@ -1,5 +1,5 @@
 -- `judge::widths::level_width` meets its contract. The loop's invariant: the larger of `widest` and of the widths of
--- the bodies from d on is the level's width. The measure is how many bodies are left. Assumes nothing.
+-- the bodies from d on is the level's width. Assumes nothing.
 use native.Mathlib.Omega.{arith}
 use mathlib.Core.Path.{sym, ◌∙◌}
 use Rattle.table_index.specs.Filling.Levels.{level_first, level_asked, level_next, level_done}
@@ -19,12 +19,6 @@ body_width-requires c =
 
 pub larger-widest-requires : goal.larger-widest-requires
 larger-widest-requires c = tt
-
-pub overflow_add-d : goal.overflow_add-d
-overflow_add-d c = omega arith
-
-pub loop-d-smaller : goal.loop-d-smaller
-loop-d-smaller c = omega arith
 
 pub loop-d-preserved : goal.loop-d-preserved
 loop-d-preserved c =

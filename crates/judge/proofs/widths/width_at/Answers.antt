@@ -6,39 +6,42 @@ use Rattle.table_index.specs.Filling.OneWidth.{width_leaf, width_prefix, width_c
 use Rattle.table_index.specs.Filling.OneWidth.{width_call, call_named, width_none}
 use Rattle.judge.proofs.widths.width_at.Goals as goal
 
-pub overflow_add-result-in-4-4 : goal.overflow_add-result-in-4-4
-overflow_add-result-in-4-4 c =
-    omega (arith, par_small _ _ _ _ c.requires c.in-4.is)
+pub overflow_add-result-in-Some-Parallel : goal.overflow_add-result-in-Some-Parallel
+overflow_add-result-in-Some-Parallel c =
+    omega (arith, par_small _ _ _ _ c.requires (rw c.in-Some-Parallel.field-0-is at c.in-Some-Parallel.ensures))
 
 -- a call
 pub call_width-requires : goal.call_width-requires
 call_width-requires c =
     let p = c.requires in
-    (record { fields = p.fields; structure = p.structure }, call_named _ _ _ _ p c.in-5.is)
+    (record { fields = p.fields; structure = p.structure }, call_named _ _ _ _ p (rw c.in-Some-Call.field-0-is at c.in-Some-Call.ensures))
 
 -- a prefix
-pub returns-in-2 : goal.returns-in-2
-returns-in-2 c = width_prefix _ _ _ _ c.requires c.in-2.is
+pub returns-in-Some-Prefix : goal.returns-in-Some-Prefix
+returns-in-Some-Prefix c = width_prefix _ _ _ _ c.requires (rw c.in-Some-Prefix.field-0-is at c.in-Some-Prefix.ensures)
 
 -- a choice
-pub returns-in-3 : goal.returns-in-3
-returns-in-3 c =
-    width_choice _ _ _ _ c.requires c.in-3.is _ c.larger.ensures
+pub returns-in-Some-Choice : goal.returns-in-Some-Choice
+returns-in-Some-Choice c =
+    width_choice _ _ _ _ c.requires (rw c.in-Some-Choice.field-0-is at c.in-Some-Choice.ensures) _ c.larger.ensures
 
 -- a parallel
-pub returns-in-4 : goal.returns-in-4
-returns-in-4 c =
-    width_par _ _ _ _ c.requires c.in-4.is _ refl
+pub returns-in-Some-Parallel : goal.returns-in-Some-Parallel
+returns-in-Some-Parallel c =
+    width_par _ _ _ _ c.requires (rw c.in-Some-Parallel.field-0-is at c.in-Some-Parallel.ensures) _ refl
 
 -- a call
-pub returns-in-5 : goal.returns-in-5
-returns-in-5 c =
-    width_call _ _ _ _ c.requires c.in-5.is _ c.call_width.ensures
+pub returns-in-Some-Call : goal.returns-in-Some-Call
+returns-in-Some-Call c =
+    width_call _ _ _ _ c.requires (rw c.in-Some-Call.field-0-is at c.in-Some-Call.ensures) _ c.call_width.ensures
 
--- STOP or FAIL
-pub returns-in-0 : goal.returns-in-0
-returns-in-0 c = width_leaf _ _ _ _ c.requires (omega arith)
+-- STOP and FAIL
+pub returns-in-Some-Stop : goal.returns-in-Some-Stop
+returns-in-Some-Stop c = width_leaf _ _ _ _ c.requires (omega (arith, rw c.in-Some-Stop.field-0-is at c.in-Some-Stop.ensures))
+
+pub returns-in-Some-Fail : goal.returns-in-Some-Fail
+returns-in-Some-Fail c = width_leaf _ _ _ _ c.requires (omega (arith, rw c.in-Some-Fail.field-0-is at c.in-Some-Fail.ensures))
 
 -- no other kind
-pub returns-in-6-to-18446744073709551615 : goal.returns-in-6-to-18446744073709551615
-returns-in-6-to-18446744073709551615 c = absurd (width_none _ _ _ _ c.requires (omega arith))
+pub returns-in-None : goal.returns-in-None
+returns-in-None c = absurd (width_none _ _ _ _ c.requires (omega (arith, c.in-None.ensures)))

@@ -1,6 +1,5 @@
 -- `leaf_memo::memo::forget` meets its contract: nothing is kept in the first i entries. The measure is what is left of
 -- them. Assumes nothing.
-use Prim.Native.Nat.{◌-◌}
 use native.Mathlib.Omega.{arith}
 use mathlib.Core.Path.{◌≡◌}
 use lib.ListN.{length-set}

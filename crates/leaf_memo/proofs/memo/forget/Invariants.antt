@@ -1,5 +1,5 @@
 -- The invariants and measures of `memo.forget`.
-use Prim.Native.Nat.{◌-◌, ◌≤◌}
+use Prim.Native.Nat.{◌≤◌}
 use mathlib.Core.Path.{◌≡◌}
 use lib.ListN.{length}
 use Rattle.tree_walk.specs.Layout.{entry_count, store_words}
@@ -8,6 +8,3 @@ use Rattle.leaf_memo.proofs.memo.forget.Given as goal
 
 abbrev pub invariant-loop-i : goal.invariant-loop-i
 invariant-loop-i l = (l.i ≤ entry_count) × (length l.store ≡ store_words) × KeepsNone l.store l.i
-
-abbrev pub decreases-loop-i : goal.decreases-loop-i
-decreases-loop-i l = entry_count - l.i

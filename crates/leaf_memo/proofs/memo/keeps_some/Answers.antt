@@ -1,6 +1,5 @@
 -- `leaf_memo::memo::keeps_some` meets its contract: nothing is kept in the first j entries. The measure is what is left
 -- of them. Assumes nothing.
-use Prim.Native.Nat.{◌-◌}
 use native.Mathlib.Omega.{arith}
 use mathlib.Core.Path.{◌≡◌}
 use Rattle.tree_walk.specs.Layout.{entry_count}

@@ -1,6 +1,5 @@
 -- `leaf_repeats::looking::few` is safe: at most 13 keys are held. The measure is what is left of the residuals. Assumes
 -- nothing.
-use Prim.Native.Nat.{◌-◌}
 use native.Mathlib.Omega.{arith}
 use mathlib.Core.Path.{refl, ap}
 use lib.ListN.{length}
@@ -18,7 +17,6 @@ slice_bounds-key_at-end c = ap length c.loop-i.invariant.2
 pub key_at-key-requires : goal.key_at-key-requires
 key_at-key-requires c =
     record {
-      indexed = c.requires.indexed;
       resolvable = c.requires.resolvable;
       i_in_bounds = omega (arith, c.requires.resolvable.1, c.loop-i-test.true);
       none_value = c.loop-i.invariant.2;

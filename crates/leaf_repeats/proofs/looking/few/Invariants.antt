@@ -8,6 +8,3 @@ use Rattle.leaf_repeats.proofs.looking.few.Given as goal
 abbrev pub invariant-loop-i : goal.invariant-loop-i
 invariant-loop-i l =
     (l.k ≤ 13) × (length l.keys ≡ 13) × (l.none ≡ empty)
-
-abbrev pub decreases-loop-i : goal.decreases-loop-i
-decreases-loop-i l = l.b - l.i

@@ -7,7 +7,6 @@ pub descend-requires : goal.descend-requires
 descend-requires c =
     let asked = c.requires in
     record {
-      indexed = c.requires.indexed;
       resolves = rw asked.none_value (resolves_empty _ _ _ _ _ asked.resolvable.0 asked.i_in_bounds);
       m_lt_memory_bound = asked.resolvable.1;
     }
@@ -16,7 +15,6 @@ pub pair_key-requires : goal.pair_key-requires
 pair_key-requires c =
     let q = landed_pair _ _ _ _ _ _ c.descend.ensures _ _ _ _ c.in-Pair.is in
     record {
-      indexed = c.requires.indexed;
       resolves = rw c.requires.none_value at q.0;
       m_lt_memory_bound = q.1;
     }

@@ -5,7 +5,6 @@ use Rattle.leaf_repeats.proofs.looking.look_node.Goals as goal
 pub look_leaf-requires : goal.look_leaf-requires
 look_leaf-requires c =
     record {
-      indexed = c.requires.indexed;
       looks_leaf = c.requires.looks_leaf c.if-marks-eq1.true;
       store_len = c.requires.store_len;
     }

@@ -1,5 +1,4 @@
 -- `leaf_repeats::looking::repeats` is safe: the nodes that are left can be looked at. Assumes nothing.
-use Prim.Native.Nat.{◌-◌}
 use native.Mathlib.Omega.{arith}
 use Rattle.leaf_repeats.specs.Looking.Laws.{looks_from, looks_head, looks_leaf, looks_next}
 use Rattle.leaf_repeats.proofs.looking.repeats.Goals as goal
@@ -18,17 +17,16 @@ bounds-src-at c =
     let here = c.loop-x.invariant.1 in
     omega (arith, here.inside, looks_head here c.loop-x-test.true)
 
-pub look_node-look-requires : goal.look_node-look-requires
-look_node-look-requires c =
+pub look_node-requires : goal.look_node-requires
+look_node-requires c =
     let here = c.loop-x.invariant.1 in
     record {
-      indexed = c.requires.indexed;
       looks_leaf = λ odd. looks_leaf here (looks_head here c.loop-x-test.true) odd;
       store_len = c.requires.store_len;
     }
 
-pub returns-then-look-eq-MANY : goal.returns-then-look-eq-MANY
-returns-then-look-eq-MANY c = tt
+pub returns-in-Many : goal.returns-in-Many
+returns-in-Many c = tt
 
 pub overflow_add-at : goal.overflow_add-at
 overflow_add-at c =

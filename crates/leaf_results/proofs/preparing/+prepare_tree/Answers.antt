@@ -1,6 +1,5 @@
 -- `leaf_results::preparing::prepare_tree` meets its contract: one law of `Prepared/Trees.antt` per way out. The measure is
 -- the nodes left. Assumes nothing.
-use Prim.Native.Nat.{◌-◌}
 use native.Mathlib.Omega.{arith}
 use mathlib.Core.Path.{sym, ◌∙◌}
 use Rattle.resolving.specs.Lawful.{lawful}
@@ -13,7 +12,6 @@ use Rattle.leaf_results.proofs.preparing.+prepare_tree.Goals as goal
 pub takes_at-tree-requires : goal.takes_at-tree-requires
 takes_at-tree-requires t c =
     record {
-      indexed = c.requires.indexed;
       e_bound = (c.requires.loaded.event, tree_asked c.requires.loaded _ c.requires.tree_from);
     }
 
@@ -34,7 +32,6 @@ pub is_prefix-requires : goal.is_prefix-requires
 is_prefix-requires t c =
     let inside = node_inside c.requires.loaded _ c.requires.tree_from in
     record {
-      indexed = c.requires.indexed;
       w_bound = (node_known _ _ _ _ c.requires.loaded _ c.requires.tree_from.first inside).within;
     }
 
@@ -46,7 +43,6 @@ prepare_leaf-requires t c =
     c.if-tree.true q in
     let inside = node_inside c.requires.loaded _ c.requires.tree_from in
     record {
-      indexed = c.requires.indexed;
       loaded = c.requires.loaded;
       le_k = (c.requires.tree_from.first, inside);
       k_value = (q, held);
@@ -57,7 +53,7 @@ pub returns-then-is_prefix : goal.returns-then-is_prefix
 returns-then-is_prefix t c =
     let q = kind_yes _ _ 2 c.is_prefix.ensures c.if-is_prefix.true in
     let filled = c.prepare_leaf.ensures in
-    (leaf_done c.requires.loaded _ c.requires.tree_from (lawful c.requires.indexed) q _ filled.0, filled.1)
+    (leaf_done c.requires.loaded _ c.requires.tree_from (lawful c.args.table.now.indexed) q _ filled.0, filled.1)
 
 -- a pair
 pub overflow_mul-store : goal.overflow_mul-store
@@ -78,7 +74,7 @@ prepare_tree-left-requires t c =
     c.if-tree.true (kind_no _ _ 2 c.is_prefix.ensures c.if-is_prefix.false) _
     c.requires.filled_before in (
       omega (arith, c.decreases, node_inside c.requires.loaded _ c.requires.tree_from, c.requires.loaded.few),
-      (c.requires.indexed, (g.0, (g.1, g.2))),
+      (g.0, (g.1, g.2)),
     )
 
 pub prepare_tree-requires : goal.prepare_tree-requires
@@ -88,7 +84,7 @@ prepare_tree-requires t c =
     c.if-tree.true
     (kind_no _ _ 2 c.is_prefix.ensures c.if-is_prefix.false) _ _ left.0 left.1 in (
       omega (arith, c.decreases, node_inside c.requires.loaded _ c.requires.tree_from, c.requires.loaded.few, g.2),
-      (c.requires.indexed, (g.0, (g.1, left.0.last))),
+      (g.0, (g.1, left.0.last)),
     )
 
 pub shape_of-store-then-tree : goal.shape_of-store-then-tree
@@ -101,7 +97,7 @@ returns-then-tree t c =
       pair_done c.requires.loaded _ c.requires.tree_from _ c.takes_at-tree.ensures
           c.if-tree.true
           (kind_no _ _ 2 c.is_prefix.ensures c.if-is_prefix.false) _ _
-          c.prepare_tree-left.ensures.0 (lawful c.requires.indexed) _ _ right.0,
+          c.prepare_tree-left.ensures.0 (lawful c.args.table.now.indexed) _ _ right.0,
       right.1,
     )
 

@@ -8,7 +8,6 @@ pub prepare_tree-requires : goal.prepare_tree-requires
 prepare_tree-requires c =
     let asked = c.requires in
     record {
-      indexed = asked.indexed;
       loaded = asked.loaded;
       tree_from = whole_asks asked.loaded;
       filled_before = last_none _ _ _;
@@ -18,4 +17,4 @@ pub returns : goal.returns
 returns c =
     let asked = c.requires in
     let filled = c.prepare_tree.ensures in
-    (whole_done asked.loaded (lawful asked.indexed) _ _ filled.0 filled.1, filled.1)
+    (whole_done asked.loaded (lawful c.args.table.now.indexed) _ _ filled.0 filled.1, filled.1)

@@ -13,13 +13,13 @@ use Rattle.leaf_results.proofs.preparing.prepare_prefix.Goals as goal
 
 pub entry_at-p-requires : goal.entry_at-p-requires
 entry_at-p-requires c =
-    omega (arith, c.requires.loaded.event, (lawful c.requires.indexed).events_most)
+    omega (arith, c.requires.loaded.event, (lawful c.args.table.now.indexed).events_most)
 
 pub is_entry-requires : goal.is_entry-requires
 is_entry-requires c =
     let place = c.entry_at-p.ensures in (
       omega (arith, place.place, place.within, c.requires.loaded.size),
-      omega (arith, c.requires.loaded.event, (lawful c.requires.indexed).events_most),
+      omega (arith, c.requires.loaded.event, (lawful c.args.table.now.indexed).events_most),
     )
 
 pub copy_part-requires : goal.copy_part-requires
@@ -52,7 +52,7 @@ returns-then-is_entry c =
 
 pub remember-m-requires : goal.remember-m-requires
 remember-m-requires c =
-    (event_fits (lawful c.requires.indexed) c.requires.loaded, c.memory_of.ensures.1)
+    (event_fits (lawful c.args.table.now.indexed) c.requires.loaded, c.memory_of.ensures.1)
 
 pub overflow_add-term_of : goal.overflow_add-term_of
 overflow_add-term_of c =
@@ -60,15 +60,14 @@ overflow_add-term_of c =
       arith,
       c.term_of.ensures,
       (node_known _ _ _ _ c.requires.loaded _ c.requires.le_k.0 c.requires.le_k.1).within,
-      terms_few c.requires.indexed,
+      terms_few c.args.table.now.indexed,
     )
 
 pub distinct-c-requires : goal.distinct-c-requires
 distinct-c-requires c =
     record {
-      indexed = c.requires.indexed;
       resolvable = (
-        fill_resolves _ _ _ _ c.requires.loaded _ c.requires.le_k.0 c.requires.le_k.1 (lawful c.requires.indexed)
+        fill_resolves _ _ _ _ c.requires.loaded _ c.requires.le_k.0 c.requires.le_k.1 (lawful c.args.table.now.indexed)
             c.requires.k_value.0 c.requires.k_value.1 _ _ _ c.term_of.ensures
             c.memory_of.ensures.0 c.remember-m.ensures.0,
         c.remember-m.ensures.1,
@@ -83,7 +82,7 @@ keep-requires c =
       omega (arith, place.place),
       simp length-set (omega (arith, place.place, place.within, c.requires.loaded.size, same)),
       omega (arith, c.requires.loaded.few, c.requires.le_k.1),
-      omega (arith, c.requires.loaded.event, (lawful c.requires.indexed).events_most),
+      omega (arith, c.requires.loaded.event, (lawful c.args.table.now.indexed).events_most),
     )
 
 pub shape_of-store : goal.shape_of-store
@@ -93,7 +92,7 @@ shape_of-store c =
 pub returns : goal.returns
 returns c =
     let place = c.entry_at-p.ensures in
-    let law = lawful c.requires.indexed in
+    let law = lawful c.args.table.now.indexed in
     let q = c.requires.k_value.0 in
     let same = c.distinct-c.auto.store in
     let keeps = c.keep in

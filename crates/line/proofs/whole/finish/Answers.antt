@@ -2,15 +2,15 @@
 use Rattle.line.specs.Answers.Whole.{end_going, end_over}
 use Rattle.line.proofs.whole.finish.Goals as goal
 
-pub returns-in-Going : goal.returns-in-Going
-returns-in-Going c =
+pub returns-in-Continue : goal.returns-in-Continue
+returns-in-Continue c =
     let args = c.args in
     end_going args.list.now args.state args.area0.now args.area1.now args.events.now
-    args.work.now _ _ _ _ c.resume.ensures _ c.in-Going.is c.conclude.result
+    args.work.now _ _ _ _ c.resume.ensures _ c.in-Continue.is c.conclude.result
     c.conclude.ensures
 
-pub returns-in-Over : goal.returns-in-Over
-returns-in-Over c =
+pub returns-in-Break : goal.returns-in-Break
+returns-in-Break c =
     let args = c.args in
     end_over args.list.now args.state args.area0.now args.area1.now args.events.now
-    args.work.now _ _ _ _ c.resume.ensures _ c.in-Over.is
+    args.work.now _ _ _ _ c.resume.ensures _ c.in-Break.is

@@ -11,40 +11,40 @@ pub slice_bounds-finish-end : goal.slice_bounds-finish-end
 slice_bounds-finish-end c =
     let args = c.args in
     let within = started_within args.input.now args.list.now args.area0.now args.area1.now
-    args.work.now _ _ _ _ _ c.«open».ensures _ _ _ c.in-Started.is in
+    args.work.now _ _ _ _ _ c.«open».ensures _ c.in-Ok.is in
     omega arith
 
-pub slice_bounds-finish-end-in-Started : goal.slice_bounds-finish-end-in-Started
-slice_bounds-finish-end-in-Started c =
+pub slice_bounds-finish-end-in-Ok : goal.slice_bounds-finish-end-in-Ok
+slice_bounds-finish-end-in-Ok c =
     let args = c.args in
     let within = started_within args.input.now args.list.now args.area0.now args.area1.now
-    args.work.now _ _ _ _ _ c.«open».ensures _ _ _ c.in-Started.is in
+    args.work.now _ _ _ _ _ c.«open».ensures _ c.in-Ok.is in
     sym (length-take-le _ _ within.0)
 
 pub slice_bounds-finish-count : goal.slice_bounds-finish-count
 slice_bounds-finish-count c =
     let args = c.args in
     let within = started_within args.input.now args.list.now args.area0.now args.area1.now
-    args.work.now _ _ _ _ _ c.«open».ensures _ _ _ c.in-Started.is in
+    args.work.now _ _ _ _ _ c.«open».ensures _ c.in-Ok.is in
     omega arith
 
 pub slice_bounds-finish-start : goal.slice_bounds-finish-start
 slice_bounds-finish-start c =
     let args = c.args in
     let within = started_within args.input.now args.list.now args.area0.now args.area1.now
-    args.work.now _ _ _ _ _ c.«open».ensures _ _ _ c.in-Started.is in
+    args.work.now _ _ _ _ _ c.«open».ensures _ c.in-Ok.is in
     omega arith
 
-pub returns-in-Started : goal.returns-in-Started
-returns-in-Started c =
+pub returns-in-Ok : goal.returns-in-Ok
+returns-in-Ok c =
     let args = c.args in
     line_started args.input.now args.list.now args.area0.now args.area1.now args.work.now _ _
-    _ _ _ c.«open».ensures _ _ _ c.in-Started.is c.finish.result _
+    _ _ _ c.«open».ensures _ c.in-Ok.is c.finish.result _
     _ _ c.finish.ensures
 
-pub returns-in-Refused : goal.returns-in-Refused
-returns-in-Refused c =
+pub returns-in-Err : goal.returns-in-Err
+returns-in-Err c =
     let args = c.args in
     line_refused args.input.now args.list.now args.area0.now args.area1.now args.work.now _ _
-    _ _ _ c.«open».ensures _ c.in-Refused.is c.refused.result
+    _ _ _ c.«open».ensures _ c.in-Err.is c.refused.result
     c.refused.ensures

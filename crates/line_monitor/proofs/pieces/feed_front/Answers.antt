@@ -2,15 +2,15 @@
 use Rattle.line_monitor.specs.Report.Front.{front_goes, front_over}
 use Rattle.line_monitor.proofs.pieces.feed_front.Goals as goal
 
-pub returns-in-Going : goal.returns-in-Going
-returns-in-Going c =
+pub returns-in-Continue : goal.returns-in-Continue
+returns-in-Continue c =
     let args = c.args in
     front_goes args.list.now args.state args.area0.now args.area1.now args.events.now
-    args.work.now args.last _ _ _ _ c.take_piece.ensures _ c.in-Going.is _
+    args.work.now args.last _ _ _ _ c.take_piece.ensures _ c.in-Continue.is _
     c.large_buffer-piece.ensures c.follow.result c.follow.ensures
 
-pub returns-in-Over : goal.returns-in-Over
-returns-in-Over c =
+pub returns-in-Break : goal.returns-in-Break
+returns-in-Break c =
     let args = c.args in
     front_over args.list.now args.state args.area0.now args.area1.now args.events.now
-    args.work.now args.last _ _ _ _ c.take_piece.ensures _ c.in-Over.is
+    args.work.now args.last _ _ _ _ c.take_piece.ensures _ c.in-Break.is

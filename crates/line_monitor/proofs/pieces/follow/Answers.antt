@@ -16,16 +16,16 @@ loop-part-init c = (refl, refl, refl, refl, search rules, goes_first _ _)
 
 pub turn-requires : goal.turn-requires
 turn-requires c =
-    fills_part _ _ c.fill.ensures _ c.in-Bytes.is
+    fills_part _ _ c.fill.ensures _ c.in_ok-part.was
 
 pub loop-part-smaller : goal.loop-part-smaller
 loop-part-smaller c =
     let loop = c.loop-part in
     let args = c.args in
     let size = c.fill.auto.buffer ∙ loop.invariant.2 in
-    let fits = fills_part _ _ c.fill.ensures _ c.in-Bytes.is in
+    let fits = fills_part _ _ c.fill.ensures _ c.in_ok-part.was in
     let took = turn_took (length args.piece.now) _ size _ fits args.list.now loop.last loop.area0
-    loop.area1 loop.work c.turn.result _ _ _ c.turn.ensures _ c.in-Going.is in
+    loop.area1 loop.work c.turn.result _ _ _ c.turn.ensures _ c.in-Continue.is in
     omega (arith, took.all, took.fits loop.invariant.4, c.requires)
 
 pub loop-part-preserved : goal.loop-part-preserved
@@ -33,9 +33,9 @@ loop-part-preserved c =
     let loop = c.loop-part in
     let args = c.args in
     let size = c.fill.auto.buffer ∙ loop.invariant.2 in
-    let fits = fills_part _ _ c.fill.ensures _ c.in-Bytes.is in
+    let fits = fills_part _ _ c.fill.ensures _ c.in_ok-part.was in
     let took = turn_took (length args.piece.now) _ size _ fits args.list.now loop.last loop.area0
-    loop.area1 loop.work c.turn.result _ _ _ c.turn.ensures _ c.in-Going.is in
+    loop.area1 loop.work c.turn.result _ _ _ c.turn.ensures _ c.in-Continue.is in
     let kept = c.turn.auto in (
       kept.area0 ∙ loop.invariant.0,
       kept.area1 ∙ loop.invariant.1,
@@ -44,14 +44,14 @@ loop-part-preserved c =
       took.fits loop.invariant.4,
       turn_on (length args.piece.now) _ size _ fits args.list.now loop.last loop.area0 loop.area1
           loop.work c.turn.result _ _ _ c.turn.ensures _ loop.invariant.5 _
-          c.in-Going.is,
+          c.in-Continue.is,
     )
 
-pub returns-in-Over : goal.returns-in-Over
-returns-in-Over c =
+pub returns-in-Break : goal.returns-in-Break
+returns-in-Break c =
     let loop = c.loop-part in
     let args = c.args in
     let size = c.fill.auto.buffer ∙ loop.invariant.2 in
-    let fits = fills_part _ _ c.fill.ensures _ c.in-Bytes.is in
+    let fits = fills_part _ _ c.fill.ensures _ c.in_ok-part.was in
     turn_over (length args.piece.now) _ size _ fits args.list.now loop.last loop.area0 loop.area1
-    loop.work c.turn.result _ _ _ c.turn.ensures _ loop.invariant.5 _ c.in-Over.is
+    loop.work c.turn.result _ _ _ c.turn.ensures _ loop.invariant.5 _ c.in-Break.is

@@ -20,30 +20,16 @@ loop-i-init c = (
   refl,
   refl,
   c.requires.store_of,
-  search rules,
-  search rules,
-  search rules,
   reached_start _ _ _ _ c.requires.standing,
 )
 
 pub further-to-requires : goal.further-to-requires
 further-to-requires c = c.loop-i-test.true
 
-pub slice_bounds-take_stretch-end : goal.slice_bounds-take_stretch-end
-slice_bounds-take_stretch-end c = sym c.loop-i.invariant.6
-
-pub slice_bounds-take_stretch-end-in-loop-i : goal.slice_bounds-take_stretch-end-in-loop-i
-slice_bounds-take_stretch-end-in-loop-i c = sym c.loop-i.invariant.7
-
-pub slice_bounds-take_stretch-end-in-loop-i-2 : goal.slice_bounds-take_stretch-end-in-loop-i-2
-slice_bounds-take_stretch-end-in-loop-i-2 c = sym c.loop-i.invariant.8
-
 pub take_stretch-requires : goal.take_stretch-requires
 take_stretch-requires c =
     let inv = c.loop-i.invariant in record {
-      indexed = c.requires.indexed;
-      standing = inv.9.standing;
-      sets_len = (inv.6, inv.7, inv.8);
+      standing = inv.6.standing;
       from_in_bounds = (inv.1, c.further-to.ensures.1);
       store_of = inv.5;
     }
@@ -59,20 +45,20 @@ shape_of-store-in-Ended c = c.take_stretch.ensures.1.size ∙ sym c.requires.sto
 
 pub returns-in-Ended : goal.returns-in-Ended
 returns-in-Ended c =
-    ended_then _ _ _ _ (monitor_of c.loop-i.reached c.loop-i.area0 c.loop-i.area1) _ c.loop-i.invariant.9 _ _ _
-    (run_ended (table_in c.args.list.now) (monitor_of c.loop-i.reached c.loop-i.area0 c.loop-i.area1) _ _ _ _ _ _ c.take_stretch.ensures.0 _
+    ended_then _ _ _ _ (monitor_of c.loop-i.reached c.loop-i.area0 c.loop-i.area1) _ c.loop-i.invariant.6 _ _ _
+    (run_ended (table_in c.args.table.now.list.now) (monitor_of c.loop-i.reached c.loop-i.area0 c.loop-i.area1) _ _ _ _ _ _ c.take_stretch.ensures.0 _
     c.in-Ended.is)
 
 -- ---- a stretch that leaves events over
 pub loop-i-smaller : goal.loop-i-smaller
 loop-i-smaller c =
-    let g = run_left (table_in c.args.list.now) (monitor_of c.loop-i.reached c.loop-i.area0 c.loop-i.area1) _ _ _ _ _ _
+    let g = run_left (table_in c.args.table.now.list.now) (monitor_of c.loop-i.reached c.loop-i.area0 c.loop-i.area1) _ _ _ _ _ _
     c.take_stretch.ensures.0 _ _ c.in-Left.is in
     omega (arith, g.1, g.2, c.further-to.ensures.0)
 
 pub loop-i-preserved : goal.loop-i-preserved
 loop-i-preserved c =
-    let g = run_left (table_in c.args.list.now) (monitor_of c.loop-i.reached c.loop-i.area0 c.loop-i.area1) _ _ _ _ _ _
+    let g = run_left (table_in c.args.table.now.list.now) (monitor_of c.loop-i.reached c.loop-i.area0 c.loop-i.area1) _ _ _ _ _ _
     c.take_stretch.ensures.0 _ _ c.in-Left.is in (
       omega (arith, c.loop-i.invariant.0, g.1, c.further-to.ensures.0),
       g.2,
@@ -80,11 +66,8 @@ loop-i-preserved c =
       c.take_stretch.auto.area0 ∙ c.loop-i.invariant.3,
       c.take_stretch.auto.area1 ∙ c.loop-i.invariant.4,
       c.take_stretch.ensures.1,
-      c.take_stretch.auto.sets ∙ c.loop-i.invariant.6,
-      c.take_stretch.auto.starts ∙ c.loop-i.invariant.7,
-      c.take_stretch.auto.next ∙ c.loop-i.invariant.8,
-      reached_then _ _ _ _ (monitor_of c.loop-i.reached c.loop-i.area0 c.loop-i.area1) _ c.loop-i.invariant.9 _ _
-          (run_left (table_in c.args.list.now) (monitor_of c.loop-i.reached c.loop-i.area0 c.loop-i.area1) _ _ _ _ _ _ c.take_stretch.ensures.0 _ _
+      reached_then _ _ _ _ (monitor_of c.loop-i.reached c.loop-i.area0 c.loop-i.area1) _ c.loop-i.invariant.6 _ _
+          (run_left (table_in c.args.table.now.list.now) (monitor_of c.loop-i.reached c.loop-i.area0 c.loop-i.area1) _ _ _ _ _ _ c.take_stretch.ensures.0 _ _
           c.in-Left.is).0,
     )
 
@@ -99,4 +82,4 @@ pub shape_of-store : goal.shape_of-store
 shape_of-store c = c.loop-i.invariant.5.size ∙ sym c.requires.store_of.size
 
 pub returns : goal.returns
-returns c = ended_done _ _ _ _ _ _ _ _ c.loop-i.invariant.9 (omega (arith, c.loop-i-test.false))
+returns c = ended_done _ _ _ _ _ _ _ _ c.loop-i.invariant.6 (omega (arith, c.loop-i-test.false))

@@ -11,9 +11,8 @@ use Rattle.long_runs.proofs.stretches.take_long.Given as goal
 abbrev pub invariant-loop-i : goal.invariant-loop-i
 invariant-loop-i l =
     (l.from ≤ l.i) × (l.i ≤ length l.events) × (length l.events < 2 ^ 64) × (length l.area0 ≡ length l.initial.area0)
-    × (length l.area1 ≡ length l.initial.area1) × StoreOf (table_in l.list) l.store × (length l.sets ≡ 1664) × (length l.starts ≡ 64)
-    × (length l.next ≡ 2560)
-    × ReachedAt (table_in l.list) (monitor_of l.initial.reached l.initial.area0 l.initial.area1) l.events l.from (monitor_of l.reached l.area0 l.area1) l.i
+    × (length l.area1 ≡ length l.initial.area1) × StoreOf (table_in l.table.list.now) l.store
+    × ReachedAt (table_in l.table.list.now) (monitor_of l.initial.reached l.initial.area0 l.initial.area1) l.events l.from (monitor_of l.reached l.area0 l.area1) l.i
 
 abbrev pub decreases-loop-i : goal.decreases-loop-i
 decreases-loop-i l = length l.events - l.i

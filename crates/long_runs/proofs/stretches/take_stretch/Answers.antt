@@ -14,9 +14,7 @@ take_kept-requires c =
     let pre =
     c.requires in
     record {
-      indexed = pre.indexed;
       standing = pre.standing;
-      sets_len = pre.sets_len;
       from_in_bounds = pre.from_in_bounds.0;
       store_of = pre.store_of;
     }
@@ -24,9 +22,8 @@ take_kept-requires c =
 pub take_each-requires : goal.take_each-requires
 take_each-requires c =
     let pre = c.requires in
-    let g = run_left (table_in c.args.list.now) (let args = c.args in
+    let g = run_left (table_in c.args.table.now.list.now) (let args = c.args in
     monitor_of args.state args.area0.now args.area1.now) _ _ _ _ _ _ c.take_kept.ensures.0 _ _ c.in-Left.is in record {
-      indexed = pre.indexed;
       standing = g.0.standing;
       from_in_bounds = (omega (arith, g.2, pre.from_in_bounds.0), pre.from_in_bounds.1);
       store_of = c.take_kept.ensures.1;
@@ -35,16 +32,16 @@ take_each-requires c =
 pub returns-in-Ended : goal.returns-in-Ended
 unfolding RunBy
 returns-in-Ended c = (
-  run_ended (table_in c.args.list.now) (let args = c.args in
+  run_ended (table_in c.args.table.now.list.now) (let args = c.args in
       monitor_of args.state args.area0.now args.area1.now) _ _ _ _ _ _ c.take_kept.ensures.0 _ c.in-Ended.is,
   c.take_kept.ensures.1,
 )
 
 pub returns-in-Left : goal.returns-in-Left
 returns-in-Left c =
-    let g = run_left (table_in c.args.list.now) (let args = c.args in
+    let g = run_left (table_in c.args.table.now.list.now) (let args = c.args in
     monitor_of args.state args.area0.now args.area1.now) _ _ _ _ _ _ c.take_kept.ensures.0 _ _ c.in-Left.is in (
-      run_then (table_in c.args.list.now) (let args = c.args in
+      run_then (table_in c.args.table.now.list.now) (let args = c.args in
           monitor_of args.state args.area0.now args.area1.now) _ _ _ _ g.0 _ _ _ _ c.take_each.ensures.0,
       c.take_each.ensures.1,
     )

@@ -1,33 +1,29 @@
 -- `lot_book::entry::lot_at` meets its contract: one law for each number that is not there, and one for all four.
 -- Assumes nothing.
-use mathlib.Core.Path.{sym, ◌∙◌}
+use mathlib.Core.Path.{◌∙◌}
 use Rattle.lot_book.proofs.Lots.Laws.{no_number, no_taken, no_mark, no_place, whole}
 use Rattle.lot_book.proofs.entry.lot_at.Goals as goal
 
-pub returns-in_default : goal.returns-in_default
-returns-in_default c = no_number _ _ (sym c.in_default.is ∙ c.read.ensures)
+pub returns-in_err-number : goal.returns-in_err-number
+returns-in_err-number c = c.from_residual.ensures ∙ no_number _ _ c.in_err-number.ensures
 
-pub returns-in_default-read : goal.returns-in_default-read
-returns-in_default-read c =
-    no_taken _ _ _ _ (sym c.in-Value.is ∙ c.read.ensures)
-    (sym c.in_default-read.is ∙ c.read-2.ensures)
+pub returns-in_err-taken : goal.returns-in_err-taken
+returns-in_err-taken c =
+    c.from_residual-in_err-taken.ensures
+    ∙ no_taken _ _ _ _ c.in_ok-number.ensures c.in_err-taken.ensures
 
-pub returns-in_default-read-2 : goal.returns-in_default-read-2
-returns-in_default-read-2 c =
-    no_mark _ _ _ _ (sym c.in-Value.is ∙ c.read.ensures) _ _
-    (sym c.in-Value-read.is ∙ c.read-2.ensures)
-    (sym c.in_default-read-2.is ∙ c.read-3.ensures)
+pub returns-in_err-mark : goal.returns-in_err-mark
+returns-in_err-mark c =
+    c.from_residual-in_err-mark.ensures
+    ∙ no_mark _ _ _ _ c.in_ok-number.ensures _ _ c.in_ok-taken.ensures c.in_err-mark.ensures
 
-pub returns-in_default-read-3 : goal.returns-in_default-read-3
-returns-in_default-read-3 c =
-    no_place _ _ _ _ (sym c.in-Value.is ∙ c.read.ensures) _ _
-    (sym c.in-Value-read.is ∙ c.read-2.ensures) _ _
-    (sym c.in-Value-read-2.is ∙ c.read-3.ensures)
-    (sym c.in_default-read-3.is ∙ c.read-4.ensures)
+pub returns-in_err-place : goal.returns-in_err-place
+returns-in_err-place c =
+    c.from_residual-in_err-place.ensures
+    ∙ no_place _ _ _ _ c.in_ok-number.ensures _ _ c.in_ok-taken.ensures _ _ c.in_ok-mark.ensures
+    c.in_err-place.ensures
 
 pub returns : goal.returns
 returns c =
-    whole _ _ _ _ (sym c.in-Value.is ∙ c.read.ensures) _ _
-    (sym c.in-Value-read.is ∙ c.read-2.ensures) _ _
-    (sym c.in-Value-read-2.is ∙ c.read-3.ensures) _ _
-    (sym c.in-Value-read-3.is ∙ c.read-4.ensures)
+    whole _ _ _ _ c.in_ok-number.ensures _ _ c.in_ok-taken.ensures _ _ c.in_ok-mark.ensures _ _
+    c.in_ok-place.ensures

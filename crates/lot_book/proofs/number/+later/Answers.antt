@@ -2,42 +2,62 @@
 -- `numbers`. The measure is how many bytes may follow. Assumes nothing.
 use Prim.Native.Nat.{◌-◌}
 use native.Mathlib.Omega.{arith}
-use borrow.Author.Rules.{rules}
+use mathlib.Core.Path.{◌∙◌}
 use Rattle.lot_book.proofs.NumberLaws.{cut, zero_byte, large, last, short, more, lost, limit_under, value_small}
 use Rattle.lot_book.proofs.number.+later.Goals as goal
 
-pub returns-then-s-at : goal.returns-then-s-at
-returns-then-s-at t c = cut _ _ _ (omega arith)
+pub returns-in_err-get : goal.returns-in_err-get
+returns-in_err-get t c = rw c.from_residual.ensures (cut _ _ _ c.in_err-get.ensures.lookup.3)
 
 pub returns-then-b-eq0 : goal.returns-then-b-eq0
-returns-then-b-eq0 t c = zero_byte _ _ _ (omega arith) (omega arith)
+returns-then-b-eq0 t c =
+    let byte = c.in_ok-get.ensures.lookup.3 in
+    let same = c.from-b.ensures ∙ byte.1 0 in
+    zero_byte _ _ _ byte.0 (omega arith)
 
 pub returns-then-b-gt1 : goal.returns-then-b-gt1
-returns-then-b-gt1 t c = large _ _ _ (omega arith) (omega arith) (omega arith)
+returns-then-b-gt1 t c =
+    let byte = c.in_ok-get.ensures.lookup.3 in
+    let same = c.from-b.ensures ∙ byte.1 0 in
+    large _ _ _ (omega arith) byte.0 (omega arith)
 
 pub returns-then-more-eq0 : goal.returns-then-more-eq0
-returns-then-more-eq0 t c = last _ _ _ _ (omega arith) (omega arith) (omega arith) (search rules) (omega arith)
+returns-then-more-eq0 t c =
+    let byte = c.in_ok-get.ensures.lookup.3 in
+    last _ _ _ _ (omega arith) (c.from-b.ensures ∙ byte.1 0) byte.0 c.if-b-eq0.false (omega arith)
 
 pub returns-then-b-lt128 : goal.returns-then-b-lt128
-returns-then-b-lt128 t c = short _ _ _ _ (omega arith) (omega arith) (omega arith) (search rules) (omega arith)
+returns-then-b-lt128 t c =
+    let byte = c.in_ok-get.ensures.lookup.3 in
+    short _ _ _ _ (omega arith) (c.from-b.ensures ∙ byte.1 0) byte.0 c.if-b-eq0.false (omega arith)
+
+pub returns-in_err-value : goal.returns-in_err-value
+returns-in_err-value t c =
+    let byte = c.in_ok-get.ensures.lookup.3 in
+    let same = c.from-b.ensures ∙ byte.1 0 in
+    rw c.from_residual-in_err-value.ensures
+    (lost _ _ _ (omega arith) byte.0 (omega arith) c.in_err-value.ensures)
 
 pub overflow_mul-result : goal.overflow_mul-result
 overflow_mul-result t c =
     let k = c.args.more - 1 in
-    let v = value_small k _ _ _ _ _ c.in-Value.is c.later.ensures in
-    omega (arith, v, limit_under k (omega arith))
+    omega (arith, value_small k _ _ _ _ c.in_ok-value.ensures, limit_under k (omega arith))
 
 pub overflow_add-result : goal.overflow_add-result
 overflow_add-result t c =
     let k = c.args.more - 1 in
-    let v = value_small k _ _ _ _ _ c.in-Value.is c.later.ensures in
-    omega (arith, v, limit_under k (omega arith))
+    let byte = c.in_ok-get.ensures.lookup.3 in
+    let same = c.from-b.ensures ∙ byte.1 0 in
+    omega (
+      arith,
+      value_small k _ _ _ _ c.in_ok-value.ensures,
+      limit_under k (omega arith),
+      c.type_inv.s c.args.at,
+    )
 
-pub returns-in-Value : goal.returns-in-Value
-returns-in-Value t c =
-    more _ _ _ _ _ _ _ (omega arith) (omega arith) (omega arith) (omega arith) (omega arith)
-    c.in-Value.is c.later.ensures
-
-pub returns-in-Unread : goal.returns-in-Unread
-returns-in-Unread t c =
-    lost _ _ _ _ (omega arith) (omega arith) (omega arith) c.in-Unread.is c.later.ensures
+pub returns : goal.returns
+returns t c =
+    let byte = c.in_ok-get.ensures.lookup.3 in
+    let same = c.from-b.ensures ∙ byte.1 0 in
+    let fits = c.type_inv.s c.args.at in
+    more _ _ _ _ _ _ (omega arith) same byte.0 (omega arith) (omega arith) c.in_ok-value.ensures

@@ -1,6 +1,4 @@
 -- The invariants and measures of `number.+later`.
-use Prim.Native.Nat.{◌-◌}
-use Rattle.lot_book.proofs.NumberLaws.{more}
 use Rattle.lot_book.proofs.number.+later.Given as goal
 
 abbrev pub decreases-later : goal.decreases-later

@@ -6,4 +6,4 @@ use Rattle.lot_sheet.proofs.print.say.Goals as goal
 
 pub slice_bounds-say_sheet-end : goal.slice_bounds-say_sheet-end
 slice_bounds-say_sheet-end c =
-    sym (length-take-le _ _ (fits_sheet _ _ c.requires _ c.in-Sheet.is))
+    sym (length-take-le _ _ (fits_sheet _ _ c.requires _ c.in-Ok.is))

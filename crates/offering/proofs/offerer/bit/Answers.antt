@@ -1,5 +1,5 @@
 -- `offering::offerer::bit` meets its contract. The invariant: the residuals from the i-th on have the bit that all
--- have. The measure is what is left of the count. Assumes nothing.
+-- have. Assumes nothing.
 use native.Mathlib.Omega.{arith}
 use Prim.Native.Nat.{◌-◌}
 use mathlib.Core.Path.{refl, ◌∙◌}
@@ -14,20 +14,19 @@ loop-i-init c = refl
 
 pub overflow_mul-i : goal.overflow_mul-i
 overflow_mul-i c =
-    let room = holds_room (indexed_rules c.requires.indexed) c.requires.area_holds in
+    let room = holds_room (indexed_rules c.args.table.now.indexed) c.requires.area_holds in
     omega arith
 
 pub overflow_add-i : goal.overflow_add-i
 overflow_add-i c =
-    let room = holds_room (indexed_rules c.requires.indexed) c.requires.area_holds in
+    let room = holds_room (indexed_rules c.args.table.now.indexed) c.requires.area_holds in
     omega arith
 
 pub takes_at-tree-requires : goal.takes_at-tree-requires
 takes_at-tree-requires c =
     let turn = c.loop-i in
-    let rules = indexed_rules c.requires.indexed in
+    let rules = indexed_rules c.args.table.now.indexed in
     record {
-      indexed = c.requires.indexed;
       e_bound = (c.requires.e_bound, holds_tree rules c.requires.area_holds turn.i c.loop-i-test.true);
     }
 
@@ -35,7 +34,7 @@ pub returns-then-tree : goal.returns-then-tree
 returns-then-tree c =
     let loop-test = c.loop-i-test in
     let turn = c.loop-i in
-    bit_found (indexed_rules c.requires.indexed) c.requires.area_holds _ _ loop-test.true _
+    bit_found (indexed_rules c.args.table.now.indexed) c.requires.area_holds _ _ loop-test.true _
     c.takes_at-tree.ensures c.if-tree.true
     ∙ turn.invariant
 
@@ -43,11 +42,11 @@ pub loop-i-preserved : goal.loop-i-preserved
 loop-i-preserved c =
     let loop-test = c.loop-i-test in
     let turn = c.loop-i in
-    bit_next (indexed_rules c.requires.indexed) c.requires.area_holds _ _ loop-test.true _
+    bit_next (indexed_rules c.args.table.now.indexed) c.requires.area_holds _ _ loop-test.true _
     c.takes_at-tree.ensures c.if-tree.false
     ∙ turn.invariant
 
 pub returns : goal.returns
 returns c =
     let turn = c.loop-i in
-    bit_done (indexed_rules c.requires.indexed) c.requires.area_holds _ _ c.loop-i-test.false ∙ turn.invariant
+    bit_done (indexed_rules c.args.table.now.indexed) c.requires.area_holds _ _ c.loop-i-test.false ∙ turn.invariant

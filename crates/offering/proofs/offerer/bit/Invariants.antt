@@ -1,5 +1,4 @@
--- The invariants and measures of `offerer.bit`.
-use Prim.Native.Nat.{◌-◌}
+-- The invariant of `offerer.bit`.
 use mathlib.Core.Path.{◌≡◌}
 use Rattle.table_index.specs.Index.{table_in}
 use Rattle.residuals.specs.Residual.{after_all}
@@ -10,8 +9,5 @@ use Rattle.offering.proofs.offerer.bit.Given as goal
 
 abbrev pub invariant-loop-i : goal.invariant-loop-i
 invariant-loop-i l =
-    bit_from (table_in l.list) l.e (held_in (table_in l.list) l.area l.count) l.i
-    ≡ bit_of 0 (after_all (table_in l.list) l.e (held_in (table_in l.list) l.area l.count))
-
-abbrev pub decreases-loop-i : goal.decreases-loop-i
-decreases-loop-i l = l.count - l.i
+    bit_from (table_in l.table.list.now) l.e (held_in (table_in l.table.list.now) l.area l.count) l.i
+    ≡ bit_of 0 (after_all (table_in l.table.list.now) l.e (held_in (table_in l.table.list.now) l.area l.count))

@@ -18,14 +18,13 @@ overflow_mul-bits c =
 pub overflow_add-b : goal.overflow_add-b
 overflow_add-b c =
     let turn = c.loop-i in
-    let most = (indexed_rules c.requires.indexed).fields.alphabet_most_lem in
+    let most = (indexed_rules c.args.table.now.indexed).fields.alphabet_most_lem in
     omega arith
 
 pub bit-requires : goal.bit-requires
 bit-requires c =
     let turn = c.loop-i in
     record {
-      indexed = c.requires.indexed;
       area_holds = c.requires.area_holds;
       e_bound = omega arith;
     }

@@ -15,7 +15,6 @@ unfolding word_bits
 bits-requires c =
     let size = c.alphabet-alphabet.ensures.0 in
     record {
-      indexed = c.requires.indexed;
       area_holds = c.requires.area_holds;
       n_le_word_bits = (omega arith, omega arith);
     }
@@ -31,7 +30,6 @@ unfolding word_bits
 bits-requires-2 c =
     let size = c.alphabet-alphabet.ensures.0 in
     record {
-      indexed = c.requires.indexed;
       area_holds = c.requires.area_holds;
       n_le_word_bits = (omega arith, omega arith);
     }

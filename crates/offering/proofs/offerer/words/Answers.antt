@@ -5,14 +5,12 @@ use Rattle.offering.proofs.offerer.words.Goals as goal
 pub word-first-requires : goal.word-first-requires
 word-first-requires c =
     record {
-      indexed = c.requires.indexed;
       area_holds = c.requires.area_holds;
     }
 
 pub word-second-requires : goal.word-second-requires
 word-second-requires c =
     record {
-      indexed = c.requires.indexed;
       area_holds = c.requires.area_holds;
     }
 

@@ -6,18 +6,17 @@ use Rattle.opening.proofs.opener.open_accepted.Goals as goal
 pub take_all-requires : goal.take_all-requires
 take_all-requires c =
     record {
-      indexed = c.requires.indexed;
-      standing = fresh_stands c.requires.indexed _ _ _ _ (rw c.in-Count.is at c.resolve_last.ensures)
+      standing = fresh_stands c.args.table.now.indexed _ _ _ _ (rw c.in-Ok.is at c.resolve_last.ensures)
           c.fresh-fresh.result c.fresh-fresh.ensures;
     }
 
 -- the slots suffice
-pub returns-in-Count : goal.returns-in-Count
-returns-in-Count c =
-    opened_run c.requires.indexed _ _ _ _ (rw c.in-Count.is at c.resolve_last.ensures)
+pub returns-in-Ok : goal.returns-in-Ok
+returns-in-Ok c =
+    opened_run c.args.table.now.indexed _ _ _ _ (rw c.in-Ok.is at c.resolve_last.ensures)
     c.fresh-fresh.result c.fresh-fresh.ensures _ _ _ _ c.take_all.ensures
 
 -- they do not
-pub returns-in-Exceeded : goal.returns-in-Exceeded
-returns-in-Exceeded c =
-    opened_exceeded c.requires.indexed _ _ _ (rw c.in-Exceeded.is at c.resolve_last.ensures) _
+pub returns-in-Err : goal.returns-in-Err
+returns-in-Err c =
+    opened_exceeded c.args.table.now.indexed _ _ _ (rw c.in-Err.is at c.resolve_last.ensures) _

@@ -8,24 +8,23 @@ pub resolve_set-requires : goal.resolve_set-requires
 resolve_set-requires c =
     let last = c.definition_count-last.ensures in
     record {
-      indexed = c.requires.indexed;
-      resolves_all = last_resolves c.requires.indexed _ _ last.0 last.1 refl;
+      resolves_all = last_resolves c.args.table.now.indexed _ _ last.0 last.1 refl;
     }
 
 -- the slots suffice
-pub returns-in-Count : goal.returns-in-Count
-returns-in-Count c =
+pub returns-in-Ok : goal.returns-in-Ok
+returns-in-Ok c =
     let last = c.definition_count-last.ensures in
     let other = c.clear_all-2.ensures in
-    resolved_count c.requires.indexed _ _ last.0 last.1 refl _ _ c.requires.area1_value _
-    c.clear_all.ensures _ _ c.resolve_set.ensures _ other _ c.in-Count.is
+    resolved_count c.args.table.now.indexed _ _ last.0 last.1 refl _ _ c.requires.area1_value _
+    c.clear_all.ensures _ _ c.resolve_set.ensures _ other _ c.in-Ok.is
 
 -- they do not
-pub returns-in-Exceeded : goal.returns-in-Exceeded
-returns-in-Exceeded c =
+pub returns-in-Err : goal.returns-in-Err
+returns-in-Err c =
     let last = c.definition_count-last.ensures in
     let other = c.clear_all-2.ensures in
-    resolved_exceeded c.requires.indexed _ _ last.0 last.1 refl _ _ c.requires.area1_value _
+    resolved_exceeded c.args.table.now.indexed _ _ last.0 last.1 refl _ _ c.requires.area1_value _
     c.clear_all.ensures _ _ c.resolve_set.ensures _ other
-    c.in-Exceeded.is _
-    c.clear_all-in-Exceeded.ensures (c.resolve_set.auto.area ∙ c.clear_all.auto.words)
+    c.in-Err.is _
+    c.clear_all-in-Err.ensures (c.resolve_set.auto.area ∙ c.clear_all.auto.words)

@@ -1,8 +1,9 @@
 -- `parse::definitions::read_definitions` meets its contract. The loop's invariant is `Defined`: d definitions were
--- read, and what they stored stands in the work area. The measure is how many are left. Assumes nothing.
-use Prim.Native.Nat.{◌-◌}
+-- read, and what they stored stands in the work area. Assumes nothing.
 use native.Mathlib.Omega.{arith}
 use mathlib.Core.Path.{refl, ◌∙◌}
+use Rattle.table.proofs.Passed.{passed}
+use Rattle.table_index.specs.Parse.{DefinitionsRead}
 use Rattle.table_index.specs.Parse.Terms.Definitions.{defined_first, defined_ready, defined_next}
 use Rattle.table_index.specs.Parse.Terms.Definitions.{defined_done, defined_stop}
 use Rattle.parse.proofs.definitions.read_definitions.Goals as goal
@@ -21,28 +22,22 @@ read_definition-requires c =
       );
     }
 
-pub overflow_add-d : goal.overflow_add-d
-overflow_add-d c =
-    omega (arith, c.requires.at_in_bounds.1)
-
 pub loop-d-preserved : goal.loop-d-preserved
 loop-d-preserved c = (
   defined_next _ _ _ _ _ _ _ _ _ _ _ (omega (arith, c.requires.at_in_bounds.1)) c.loop-d.invariant.0
-      (rw c.in-NextTerm.is at c.read_definition.ensures) _ refl,
+      c.in_ok-end.ensures _ refl,
   omega arith,
 )
 
-pub shape_of-work-in-NoTerm : goal.shape_of-work-in-NoTerm
-shape_of-work-in-NoTerm c =
+pub shape_of-work-in_err-end : goal.shape_of-work-in_err-end
+shape_of-work-in_err-end c =
     c.read_definition.auto.work ∙ c.loop-d.invariant.0.same
 
-pub returns-in-NoTerm : goal.returns-in-NoTerm
-returns-in-NoTerm c =
-    let x = rw c.in-NoTerm.is at c.read_definition.ensures in (
-      defined_stop _ _ _ _ _ _ _ _ _ c.loop-d.invariant.0 _ c.loop-d-test.true x.0,
-      x.1 ∙
-          c.loop-d.invariant.0.same,
-    )
+pub returns-in_err-end : goal.returns-in_err-end
+returns-in_err-end c =
+    let x = c.in_err-end.ensures in
+    passed (DefinitionsRead _ _ _ _ _ _) _ _ c.from_residual.ensures.1
+    (defined_stop _ _ _ _ _ _ _ _ _ c.loop-d.invariant.0 _ c.loop-d-test.true x.0, x.1 ∙ c.loop-d.invariant.0.same)
 
 pub shape_of-work : goal.shape_of-work
 shape_of-work c = c.loop-d.invariant.0.same

@@ -6,11 +6,9 @@ use Rattle.picking.proofs.picker.lay_out.Goals as goal
 pub returns-then-state-eq0 : goal.returns-then-state-eq0
 returns-then-state-eq0 c =
     let a = c.args in
-    laid_even _ _ _ a.state a.area0.now a.area1.now _ c.if-state-eq0.true
-    c.lay.ensures
+    laid_even _ _ _ a.state a.area0.now a.area1.now _ c.if-state-eq0.true c.lay.ensures
 
 pub returns-else-state-eq0 : goal.returns-else-state-eq0
 returns-else-state-eq0 c =
     let a = c.args in
-    laid_odd _ _ _ a.state a.area0.now a.area1.now _ c.if-state-eq0.false
-    c.lay-else-state-eq0.ensures
+    laid_odd _ _ _ a.state a.area0.now a.area1.now _ c.if-state-eq0.false c.lay-else-state-eq0.ensures

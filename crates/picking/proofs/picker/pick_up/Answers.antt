@@ -7,15 +7,13 @@ use Rattle.picking.proofs.picker.pick_up.Goals as goal
 -- area 0 is present
 pub returns-then-state-eq0 : goal.returns-then-state-eq0
 unfolding PickedBy
-returns-then-state-eq0 c t regular e cap met l =
+returns-then-state-eq0 c t regular cap met l =
     let a = c.args in
-    picked_even regular a.state a.area0.now a.area1.now l _ _ _ _ _ met e c.pick_area.result
-    _ _ _ _ c.if-state-eq0.true c.pick_area.ensures
+    picked_even regular a.state a.area0.now a.area1.now l _ met _ _ _ c.if-state-eq0.true c.pick_area.ensures
 
 -- area 1 is present
 pub returns : goal.returns
 unfolding PickedBy
-returns c t regular e cap met l =
+returns c t regular cap met l =
     let a = c.args in
-    picked_odd regular a.state a.area0.now a.area1.now l _ _ _ _ _ met e c.pick_area-2.result
-    _ _ _ _ c.if-state-eq0.false c.pick_area-2.ensures
+    picked_odd regular a.state a.area0.now a.area1.now l _ met _ _ _ c.if-state-eq0.false c.pick_area-2.ensures

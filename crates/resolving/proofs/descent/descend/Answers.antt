@@ -13,17 +13,15 @@ use Rattle.resolving.proofs.descent.descend.Goals as goal
 
 pub loop-c-init : goal.loop-c-init
 loop-c-init c =
-    let pre = c.requires in descent_first (lawful pre.indexed) pre.resolves pre.m_lt_memory_bound
+    let pre = c.requires in descent_first (lawful c.args.table.now.indexed) pre.resolves pre.m_lt_memory_bound
 
 pub kind-requires : goal.kind-requires
 kind-requires c = record {
-  indexed = c.requires.indexed;
   n_bound = c.loop-c.invariant.resolves.within;
 }
 
 pub node_at-requires : goal.node_at-requires
 node_at-requires c = record {
-  indexed = c.requires.indexed;
   n_bound = descent_node c.loop-c.invariant _ c.kind.ensures.0;
 }
 
@@ -39,13 +37,12 @@ pub overflow_add-at : goal.overflow_add-at
 overflow_add-at c =
     omega (
       arith,
-      terms_few c.requires.indexed,
+      terms_few c.args.table.now.indexed,
       c.loop-c.invariant.resolves.within,
     )
 
 pub branches-c-requires : goal.branches-c-requires
 branches-c-requires c = record {
-  indexed = c.requires.indexed;
   n_bound = choice_known c.loop-c.invariant _ c.kind.ensures.0 c.in-3.is;
 }
 
@@ -53,7 +50,7 @@ pub overflow_add-at-then-j-c : goal.overflow_add-at-then-j-c
 overflow_add-at-then-j-c c =
     omega (
       arith,
-      terms_few c.requires.indexed,
+      terms_few c.args.table.now.indexed,
       c.loop-c.invariant.resolves.within,
     )
 
@@ -69,7 +66,6 @@ loop-c-preserved-then-j-c c =
 
 pub right-at-requires : goal.right-at-requires
 right-at-requires c = record {
-  indexed = c.requires.indexed;
   n_bound = c.loop-c.invariant.resolves.within;
 }
 
@@ -90,14 +86,12 @@ returns-in-4 c = descent_pair c.loop-c.invariant _ c.kind.ensures.0
 
 pub called-b-requires : goal.called-b-requires
 called-b-requires c = record {
-  indexed = c.requires.indexed;
   n_bound = (descent_called c.loop-c.invariant _ c.kind.ensures.0 c.in-5.is).0;
   n_value = (descent_called c.loop-c.invariant _ c.kind.ensures.0 c.in-5.is).1;
 }
 
 pub body-at-requires : goal.body-at-requires
 body-at-requires c = record {
-  indexed = c.requires.indexed;
   d_in_bounds = call_known c.loop-c.invariant _ c.kind.ensures.0 c.in-5.is
       _ c.called-b.ensures.0;
 }

@@ -6,7 +6,7 @@ use Rattle.resolving.proofs.descent.descend.Given as goal
 
 abbrev pub invariant-loop-c : goal.invariant-loop-c
 invariant-loop-c l =
-    Descent (table_in l.list) l.n (memory_of l.m) l.i l.slot l.b l.at l.memory l.j
+    Descent (table_in l.table.list.now) l.n (memory_of l.m) l.i l.slot l.b l.at l.memory l.j
 
 abbrev pub decreases-loop-c : goal.decreases-loop-c
-decreases-loop-c l = height (table_in l.list) l.b l.at
+decreases-loop-c l = height (table_in l.table.list.now) l.b l.at

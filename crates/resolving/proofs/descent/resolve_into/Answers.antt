@@ -15,7 +15,6 @@ term_into-requires c =
     let lands = c.descend.ensures in
     let q = landed_pair _ _ _ _ _ _ lands _ _ _ _ c.in-Pair.is in
     record {
-      indexed = c.requires.indexed;
       resolves = q.0;
       m_lt_memory_bound = q.1;
     }

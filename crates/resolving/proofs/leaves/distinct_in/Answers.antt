@@ -1,6 +1,5 @@
 -- `resolving::leaves::distinct_in` meets its contract: of the first i residuals k are kept, their indices, their keys
 -- and the slots of the first of them. Assumes nothing.
-use Prim.Native.Nat.{◌-◌}
 use native.Mathlib.Omega.{arith}
 use mathlib.Core.Path.{◌≡◌, refl, ◌∙◌}
 use lib.ListN.{length, length-set}
@@ -33,7 +32,6 @@ pub resolve_at-slot-requires : goal.resolve_at-slot-requires
 resolve_at-slot-requires c =
     let asked = c.requires.resolvable in
     record {
-      indexed = c.requires.indexed;
       resolves = resolves_empty _ _ _ _ _ asked.0 (omega (arith, c.loop-i.invariant.1));
       m_lt_memory_bound = asked.1;
     }
@@ -41,7 +39,6 @@ resolve_at-slot-requires c =
 pub found-requires : goal.found-requires
 found-requires c =
     let k = c.loop-i in record {
-      indexed = c.requires.indexed;
       resolvable = c.requires.resolvable;
       k_in_bounds = (omega arith, omega arith);
       in_bounds = (k.invariant.7, search rules);
@@ -105,5 +102,5 @@ shape_of-slots c = c.loop-i.invariant.4
 pub returns : goal.returns
 returns c =
     let e : c.loop-i.i
-    ≡ length (resolve (table_in c.args.list.now) c.args.n (memory_of c.args.m)) = omega
+    ≡ length (resolve (table_in c.args.table.now.list.now) c.args.n (memory_of c.args.m)) = omega
     (arith, c.loop-i.invariant.1) in rw e at c.loop-i.invariant.11.indices

@@ -11,7 +11,6 @@ pub resolve_at-first-requires : goal.resolve_at-first-requires
 resolve_at-first-requires c =
     let asked = c.requires.resolvable in
     record {
-      indexed = c.requires.indexed;
       resolves = resolves_empty _ _ _ _ _ asked.0 (omega (arith, c.requires.m_len));
       m_lt_memory_bound = asked.1;
     }
@@ -20,7 +19,6 @@ pub resolve_at-second-requires : goal.resolve_at-second-requires
 resolve_at-second-requires c =
     let asked = c.requires.resolvable in
     record {
-      indexed = c.requires.indexed;
       resolves = resolves_empty _ _ _ _ _ asked.0 (omega (arith, c.requires.m_len));
       m_lt_memory_bound = asked.1;
     }

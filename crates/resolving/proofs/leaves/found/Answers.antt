@@ -20,7 +20,7 @@ loop-j-preserved-then-keys-j c =
     let a = c.args in let k = c.loop-j in
     let t : k.j < a.k = c.loop-j-test.true in (
       omega arith,
-      held_off (slot_at (table_in a.list.now) a.n (memory_of a.m)) a.indices.now a.slot.now
+      held_off (slot_at (table_in a.table.now.list.now) a.n (memory_of a.m)) a.indices.now a.slot.now
           (a.at + k.j)
           (a.k - k.j) _
           k.invariant.1 (omega arith)
@@ -32,7 +32,6 @@ loop-j-preserved-then-keys-j c =
 pub same_kept-requires : goal.same_kept-requires
 same_kept-requires c =
     let t = c.loop-j-test.true in let known = c.requires.known in record {
-      indexed = c.requires.indexed;
       resolvable = c.requires.resolvable;
       i_in_bounds = known.index _ t;
       in_bounds = (omega arith, omega arith);
@@ -43,7 +42,7 @@ pub returns-then-same_kept : goal.returns-then-same_kept
 returns-then-same_kept c =
     let a = c.args in let k = c.loop-j in
     let t : k.j < a.k = c.loop-j-test.true in
-    held_here (slot_at (table_in a.list.now) a.n (memory_of a.m)) a.indices.now a.slot.now
+    held_here (slot_at (table_in a.table.now.list.now) a.n (memory_of a.m)) a.indices.now a.slot.now
     (a.at + k.j)
     (a.k - k.j) _
     k.invariant.1 (omega arith) (omega arith) _
@@ -54,7 +53,7 @@ loop-j-preserved c =
     let a = c.args in let k = c.loop-j in
     let t : k.j < a.k = c.loop-j-test.true in (
       omega arith,
-      held_on (slot_at (table_in a.list.now) a.n (memory_of a.m)) a.indices.now a.slot.now
+      held_on (slot_at (table_in a.table.now.list.now) a.n (memory_of a.m)) a.indices.now a.slot.now
           (a.at + k.j)
           (a.k - k.j) _
           k.invariant.1 (omega arith)
@@ -65,6 +64,6 @@ pub returns : goal.returns
 returns c =
     let a = c.args in
     let k = c.loop-j in
-    held_none (slot_at (table_in a.list.now) a.n (memory_of a.m)) a.indices.now a.slot.now
+    held_none (slot_at (table_in a.table.now.list.now) a.n (memory_of a.m)) a.indices.now a.slot.now
     (a.at + k.j)
     (a.k - k.j) _ k.invariant.1 (omega arith)

@@ -8,8 +8,5 @@ use Rattle.resolving.proofs.leaves.found.Given as goal
 
 abbrev pub invariant-loop-j : goal.invariant-loop-j
 invariant-loop-j l =
-    (l.j ≤ l.k) × (is_kept (slot_at (table_in l.list) l.n (memory_of l.m)) (window (l.at + l.j) (l.k - l.j) l.indices) l.slot
-    ≡ is_kept (slot_at (table_in l.list) l.n (memory_of l.m)) (window l.at l.k l.indices) l.slot)
-
-abbrev pub decreases-loop-j : goal.decreases-loop-j
-decreases-loop-j l = l.k - l.j
+    (l.j ≤ l.k) × (is_kept (slot_at (table_in l.table.list.now) l.n (memory_of l.m)) (window (l.at + l.j) (l.k - l.j) l.indices) l.slot
+    ≡ is_kept (slot_at (table_in l.table.list.now) l.n (memory_of l.m)) (window l.at l.k l.indices) l.slot)

@@ -15,7 +15,6 @@ pub resolve_at-s-requires : goal.resolve_at-s-requires
 resolve_at-s-requires c =
     let asked = c.requires.resolvable in
     record {
-      indexed = c.requires.indexed;
       resolves = resolves_empty _ _ _ _ _ asked.0 c.requires.i_in_bounds;
       m_lt_memory_bound = asked.1;
     }

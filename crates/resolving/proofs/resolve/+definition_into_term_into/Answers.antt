@@ -16,39 +16,36 @@ use Rattle.resolving.proofs.resolve.+definition_into_term_into.Goals as goal
 pub definition_into-body-requires : goal.definition_into-body-requires
 definition_into-body-requires t c =
     record {
-      indexed = c.requires.indexed;
       d_in_bounds = c.requires.resolves_definition.known;
     }
 
 pub definition_into-term_into-requires : goal.definition_into-term_into-requires
 definition_into-term_into-requires t c =
-    let q = into_definition _ (lawful c.requires.indexed) _ _ _ c.requires.resolves_definition _
+    let q = into_definition _ (lawful c.args.table.now.indexed) _ _ _ c.requires.resolves_definition _
     c.body.ensures.0 in (
-      omega (arith, (lawful c.requires.indexed).shallow c.body.result q.0.within),
-      (c.requires.indexed, (rw memory_zero q.0, zero_below)),
+      omega (arith, (lawful c.args.table.now.indexed).shallow c.body.result q.0.within),
+      (rw memory_zero q.0, zero_below),
     )
 
 pub definition_into-returns : goal.definition_into-returns
 definition_into-returns t c =
     (rw memory_zero at c.term_into.ensures)
-    ∙ (into_definition _ (lawful c.requires.indexed) _ _ _ c.requires.resolves_definition _
+    ∙ (into_definition _ (lawful c.args.table.now.indexed) _ _ _ c.requires.resolves_definition _
     c.body.ensures.0).1
 
 pub term_into-loop-slot-init : goal.term_into-loop-slot-init
 term_into-loop-slot-init t c =
-    way_first (lawful c.requires.indexed) c.requires.resolves
+    way_first (lawful c.args.table.now.indexed) c.requires.resolves
 
 pub term_into-kind-requires : goal.term_into-kind-requires
 term_into-kind-requires t c =
     record {
-      indexed = c.requires.indexed;
       n_bound = c.loop-slot.invariant.resolves.within;
     }
 
 pub term_into-node_at-requires : goal.term_into-node_at-requires
 term_into-node_at-requires t c =
     record {
-      indexed = c.requires.indexed;
       n_bound = (c.loop-slot.invariant.resolves.within, c.requires.m_lt_memory_bound);
     }
 
@@ -79,18 +76,17 @@ term_into-returns-in-1 t c =
 
 pub term_into-overflow_add-at : goal.term_into-overflow_add-at
 term_into-overflow_add-at t c =
-    omega (arith, c.loop-slot.invariant.resolves.within, terms_few c.requires.indexed)
+    omega (arith, c.loop-slot.invariant.resolves.within, terms_few c.args.table.now.indexed)
 
 pub term_into-branches-c-requires : goal.term_into-branches-c-requires
 term_into-branches-c-requires t c =
     record {
-      indexed = c.requires.indexed;
       n_bound = way_choice c.loop-slot.invariant _ c.kind.ensures.0 c.in-3.is;
     }
 
 pub term_into-overflow_add-at-then-j-c : goal.term_into-overflow_add-at-then-j-c
 term_into-overflow_add-at-then-j-c t c =
-    omega (arith, c.loop-slot.invariant.resolves.within, terms_few c.requires.indexed)
+    omega (arith, c.loop-slot.invariant.resolves.within, terms_few c.args.table.now.indexed)
 
 pub term_into-loop-slot-smaller-then-j-c : goal.term_into-loop-slot-smaller-then-j-c
 term_into-loop-slot-smaller-then-j-c t c =
@@ -105,7 +101,6 @@ term_into-loop-slot-preserved-then-j-c t c =
 pub term_into-right-at-requires : goal.term_into-right-at-requires
 term_into-right-at-requires t c =
     record {
-      indexed = c.requires.indexed;
       n_bound = c.loop-slot.invariant.resolves.within;
     }
 
@@ -124,14 +119,12 @@ term_into-loop-slot-preserved-in-3 t c =
 pub term_into-right-r-requires : goal.term_into-right-r-requires
 term_into-right-r-requires t c =
     record {
-      indexed = c.requires.indexed;
       n_bound = c.loop-slot.invariant.resolves.within;
     }
 
 pub term_into-branches-c-requires-in-4 : goal.term_into-branches-c-requires-in-4
 term_into-branches-c-requires-in-4 t c =
     record {
-      indexed = c.requires.indexed;
       n_bound = way_par c.loop-slot.invariant _ c.kind.ensures.0 c.in-4.is _
           c.right-r.ensures.0;
     }
@@ -139,7 +132,6 @@ term_into-branches-c-requires-in-4 t c =
 pub term_into-node_at-requires-in-4 : goal.term_into-node_at-requires-in-4
 term_into-node_at-requires-in-4 t c =
     record {
-      indexed = c.requires.indexed;
       n_bound = (c.loop-slot.invariant.resolves.within, c.requires.m_lt_memory_bound);
     }
 
@@ -165,7 +157,7 @@ term_into-nonzero_rem-j t c =
 
 pub term_into-overflow_add-at-in-4 : goal.term_into-overflow_add-at-in-4
 term_into-overflow_add-at-in-4 t c =
-    omega (arith, c.loop-slot.invariant.resolves.within, terms_few c.requires.indexed)
+    omega (arith, c.loop-slot.invariant.resolves.within, terms_few c.args.table.now.indexed)
 
 pub term_into-term_into-requires : goal.term_into-term_into-requires
 term_into-term_into-requires t c =
@@ -173,7 +165,7 @@ term_into-term_into-requires t c =
     c.in-4.is _ c.right-r.ensures.0 _
     c.branches-c-in-4.ensures.0 _
     c.node_at-in-4.ensures _ c.push_into-in-4.ensures in
-    (omega (arith, q.0, c.decreases), (c.requires.indexed, (q.1, c.requires.m_lt_memory_bound)))
+    (omega (arith, q.0, c.decreases), (q.1, c.requires.m_lt_memory_bound))
 
 pub term_into-loop-slot-smaller : goal.term_into-loop-slot-smaller
 term_into-loop-slot-smaller t c =
@@ -196,7 +188,6 @@ term_into-loop-slot-preserved t c =
 pub term_into-called-requires : goal.term_into-called-requires
 term_into-called-requires t c =
     record {
-      indexed = c.requires.indexed;
       n_bound = c.loop-slot.invariant.resolves.within;
       n_value = sym c.kind.ensures.0 ∙ c.in-5.is;
     }
@@ -205,7 +196,7 @@ pub term_into-definition_into-requires : goal.term_into-definition_into-requires
 term_into-definition_into-requires t c =
     let q = way_call c.loop-slot.invariant _ c.kind.ensures.0
     c.in-5.is _ c.called.ensures.0 in
-    (omega (arith, q.0, c.decreases), (c.requires.indexed, q.1))
+    (omega (arith, q.0, c.decreases), q.1)
 
 pub term_into-shape_of-slot-in-5 : goal.term_into-shape_of-slot-in-5
 term_into-shape_of-slot-in-5 t c =

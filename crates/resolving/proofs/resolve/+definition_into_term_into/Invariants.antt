@@ -11,11 +11,11 @@ abbrev pub decreases-definition_into : goal.decreases-definition_into
 decreases-definition_into l = l.d * 64 + 40
 
 abbrev pub decreases-term_into : goal.decreases-term_into
-decreases-term_into l = l.bound * 64 + depth_of (term_of (table_in l.list.now) l.n)
+decreases-term_into l = l.bound * 64 + depth_of (term_of (table_in l.table.now.list.now) l.n)
 
 abbrev pub invariant-term_into-loop-slot : goal.invariant-term_into-loop-slot
 invariant-term_into-loop-slot l =
-    ResolvingWay (table_in l.list) l.bound l.n (memory_of l.m) l.i l.initial.slot l.at l.j l.slot
+    ResolvingWay (table_in l.table.list.now) l.bound l.n (memory_of l.m) l.i l.initial.slot l.at l.j l.slot
 
 abbrev pub decreases-term_into-loop-slot : goal.decreases-term_into-loop-slot
-decreases-term_into-loop-slot l = depth_of (term_of (table_in l.list) l.at)
+decreases-term_into-loop-slot l = depth_of (term_of (table_in l.table.list.now) l.at)

@@ -13,8 +13,7 @@ unfolding kind_at
 holds-requires c =
     let pre = c.requires in
     let term = c.term_of-n.ensures in
-    let law = lawful pre.indexed in record {
-      indexed = pre.indexed;
+    let law = lawful c.args.table.now.indexed in record {
       n_bound = rw term pre.known_word.within;
       fact = rw term pre.fact;
       v_bound = (omega (arith, law.events_least), pre.e_bound);
@@ -32,7 +31,6 @@ unfolding kind_at
 holds-requires-2 c =
     let pre = c.requires in
     let term = c.term_of-n.ensures in record {
-      indexed = pre.indexed;
       n_bound = rw term pre.known_word.within;
       fact = rw term pre.fact;
       v_bound = (rw c.digit.ensures.0 (pre.known_word.digits _), pre.e_bound);

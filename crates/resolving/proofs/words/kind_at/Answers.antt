@@ -5,7 +5,6 @@ use Rattle.resolving.proofs.words.kind_at.Goals as goal
 
 pub kind-requires : goal.kind-requires
 kind-requires c = record {
-  indexed = c.requires.indexed;
   n_bound = rw c.term_of.ensures c.requires.w_bound;
 }
 

@@ -6,7 +6,7 @@ use Rattle.resolving.proofs.words.node_at.Goals as goal
 
 pub node-requires : goal.node-requires
 node-requires c =
-    (omega (arith, c.requires.n_bound.0, terms_few c.requires.indexed), c.requires.n_bound.1)
+    (omega (arith, c.requires.n_bound.0, terms_few c.args.table.now.indexed), c.requires.n_bound.1)
 
 pub returns : goal.returns
 unfolding keep

@@ -1,22 +1,29 @@
 -- `feeder::resume` meets its contract, by Feed's answer. Assumes nothing.
+use native.Mathlib.Omega.{arith}
+use Rattle.std.specs.Prelude.{◌≡◌, Err}
+use Rattle.state.specs.declared.answer.Declined.TheVariants.{Refused, Stopped}
 use Rattle.resuming.specs.Answers.Pieces.{piece_given, piece_refused, piece_stopped}
 use Rattle.resuming.proofs.feeder.resume.Goals as goal
 
-pub returns-in-Given : goal.returns-in-Given
-returns-in-Given c =
+pub returns-in-Ok : goal.returns-in-Ok
+returns-in-Ok c =
     let args = c.args in
     piece_given args.list.now args.state args.area0.now args.area1.now args.events.now
-    args.work.now _ _ _ _ c.feed.ensures _ c.in-Given.is
+    args.work.now _ _ _ _ c.feed.ensures _ c.in-Ok.is
 
-pub returns-in-Refused : goal.returns-in-Refused
-returns-in-Refused c =
+pub returns-in-Err-Refused : goal.returns-in-Err-Refused
+returns-in-Err-Refused c =
+    let x = c.in-Err-Refused in
+    let e : c.feed.result ≡ Err (Refused x.refusal) = grind arith in
     let args = c.args in
     piece_refused args.list.now args.state args.area0.now args.area1.now args.events.now
-    args.work.now _ _ _ _ c.feed.ensures _ c.in-Refused.is c.refused.result
+    args.work.now _ _ _ _ c.feed.ensures _ e c.refused.result
     c.refused.ensures
 
-pub returns-in-Stopped : goal.returns-in-Stopped
-returns-in-Stopped c =
+pub returns-in-Err-Stopped : goal.returns-in-Err-Stopped
+returns-in-Err-Stopped c =
+    let x = c.in-Err-Stopped in
+    let e : c.feed.result ≡ Err (Stopped x.refusal x.last) = grind arith in
     let args = c.args in
     piece_stopped args.list.now args.state args.area0.now args.area1.now args.events.now
-    args.work.now _ _ _ _ c.feed.ensures _ _ c.in-Stopped.is
+    args.work.now _ _ _ _ c.feed.ensures _ _ e

@@ -1,5 +1,5 @@
 -- The invariants and measures of `starts.resolve_set`.
-use Prim.Native.Nat.{◌-◌, ◌*◌, ◌≤◌}
+use Prim.Native.Nat.{◌*◌, ◌≤◌}
 use mathlib.Core.Path.{◌≡◌}
 use lib.ListN.{length, drop}
 use Rattle.table_index.specs.Index.{table_in}
@@ -11,9 +11,6 @@ use Rattle.set_step.proofs.starts.resolve_set.Given as goal
 
 abbrev pub invariant-loop-i : goal.invariant-loop-i
 invariant-loop-i l =
-    (l.i ≤ l.n) × (l.n ≡ length (resolve_def (table_in l.list) (body_count (table_in l.list)) l.d)) × (length l.area ≡ length l.initial.area) ×
-    (l.c * 16 ≤ length l.area) × (put_all l.area l.c (drop l.i (initial (table_in l.list) l.d)) ≡ put_all l.initial.area 0 (initial (table_in
-    l.list) l.d))
-
-abbrev pub decreases-loop-i : goal.decreases-loop-i
-decreases-loop-i l = l.n - l.i
+    (l.i ≤ l.n) × (l.n ≡ length (resolve_def (table_in l.table.list.now) (body_count (table_in l.table.list.now)) l.d)) × (length l.area ≡ length l.initial.area) ×
+    (l.c * 16 ≤ length l.area) × (put_all l.area l.c (drop l.i (initial (table_in l.table.list.now) l.d)) ≡ put_all l.initial.area 0 (initial (table_in
+    l.table.list.now) l.d))

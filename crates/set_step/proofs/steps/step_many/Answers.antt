@@ -6,7 +6,6 @@ use Rattle.set_step.proofs.steps.step_many.Goals as goal
 pub prepare-requires : goal.prepare-requires
 prepare-requires c =
     record {
-      indexed = c.requires.indexed;
       loaded = loaded_sound c.requires.steps_one c.load.new.store c.load.auto.store
           c.load.ensures;
     }
@@ -14,7 +13,6 @@ prepare-requires c =
 pub walk-requires : goal.walk-requires
 walk-requires c =
     record {
-      indexed = c.requires.indexed;
       ready = c.prepare.ensures.0.ready;
       place = start_place c.requires.steps_one c.load.new.store c.load.auto.store c.load.ensures _ c.prepare.ensures.0;
     }

@@ -9,7 +9,6 @@ use Rattle.set_step.proofs.steps.step_one.Goals as goal
 pub way_of-requires : goal.way_of-requires
 way_of-requires c =
     record {
-      indexed = c.requires.indexed;
       e_bound = (c.requires.steps_one.event, slot_rooted c.requires.steps_one _ refl);
     }
 
@@ -20,7 +19,6 @@ overflow_add-marks c =
 pub rebuild-requires : goal.rebuild-requires
 rebuild-requires c =
     record {
-      indexed = c.requires.indexed;
       rebuilds = lone_rebuilds c.requires.steps_one _ refl _ c.way_of.ensures _ c.in-Moving.is c.if-moves.true;
     }
 
@@ -33,7 +31,6 @@ returns-then-moves c = (
 pub repeats-requires : goal.repeats-requires
 repeats-requires c =
     record {
-      indexed = c.requires.indexed;
       looks = several_looks c.requires.steps_one _ refl _ c.way_of.ensures _ c.in-Moving.is;
       store_len = c.requires.steps_one.leaves.size;
     }
@@ -46,7 +43,6 @@ returns-then-repeats c =
 pub step_moves-requires : goal.step_moves-requires
 step_moves-requires c =
     record {
-      indexed = c.requires.indexed;
       steps_moves = several_asks c.requires.steps_one _ refl _ c.way_of.ensures _ c.in-Moving.is;
     }
 

@@ -1,13 +1,10 @@
 -- `set_step::steps::step_set` meets its contract: the results of the first i residuals are held. Assumes nothing.
 use native.Mathlib.Omega.{arith}
+use Rattle.std.proofs.lemmas.Result.{err_from_is_err_and}
 use mathlib.Core.Path.{refl, sym, ◌∙◌}
-use Prim.Native.Nat.{◌-◌}
 use Rattle.resolving.specs.Lawful.{lawful}
 use Rattle.set_step.specs.Stepped.Laws.{step_asks, gather_first, gather_next, gather_exceeded, gather_end}
 use Rattle.set_step.proofs.steps.step_set.Goals as goal
-
-pub definition_count-bound-requires : goal.definition_count-bound-requires
-definition_count-bound-requires c = c.requires.indexed
 
 pub loop-i-init : goal.loop-i-init
 loop-i-init c = (
@@ -20,8 +17,7 @@ loop-i-init c = (
 
 pub step_one-requires : goal.step_one-requires
 step_one-requires c = record {
-  indexed = c.requires.indexed;
-  steps_one = step_asks _ (lawful c.requires.indexed) _ _
+  steps_one = step_asks _ (lawful c.args.table.now.indexed) _ _
       _ _ _ c.requires.source c.definition_count-bound.ensures.0 c.loop-i-test.true _
       c.loop-i.invariant.1 _ _ c.loop-i.invariant.3;
 }
@@ -29,7 +25,7 @@ step_one-requires c = record {
 pub loop-i-preserved : goal.loop-i-preserved
 loop-i-preserved c =
     let q = gather_next c.loop-i.invariant.4 c.loop-i-test.true _ _ c.step_one.ensures.0 _
-    c.in-Count.is in (
+    c.in_ok-c.was in (
       omega (
         arith,
         c.loop-i-test.true,
@@ -41,19 +37,21 @@ loop-i-preserved c =
       q.0,
     )
 
-pub shape_of-store-in-Exceeded : goal.shape_of-store-in-Exceeded
-shape_of-store-in-Exceeded c =
+pub shape_of-store-in_err-c : goal.shape_of-store-in_err-c
+shape_of-store-in_err-c c =
     c.step_one.auto.store
     ∙ c.loop-i.invariant.1.size
     ∙ sym c.requires.store_of.size
 
-pub returns-in-Exceeded : goal.returns-in-Exceeded
-returns-in-Exceeded c = (
-  gather_exceeded c.loop-i.invariant.4
-      c.loop-i-test.true _ _
-      c.step_one.ensures.0 c.in-Exceeded.is,
-  c.step_one.ensures.1,
-)
+pub returns-in_err-c : goal.returns-in_err-c
+returns-in_err-c c =
+    let p = err_from_is_err_and c.from_residual.result c.from_residual.ensures.1 in
+    rw p.1 (
+      gather_exceeded c.loop-i.invariant.4
+          c.loop-i-test.true _ _
+          c.step_one.ensures.0 c.in_err-c.was,
+      c.step_one.ensures.1,
+    )
 
 pub shape_of-store : goal.shape_of-store
 shape_of-store c =

@@ -1,6 +1,6 @@
 -- The invariants and measures of `steps.step_set`.
 use mathlib.Core.Path.{◌≡◌}
-use Prim.Native.Nat.{◌-◌, ◌*◌, ◌≤◌}
+use Prim.Native.Nat.{◌*◌, ◌≤◌}
 use lib.ListN.{length}
 use Rattle.table_index.specs.Index.{table_in}
 use Rattle.leaf_memo.specs.Memo.{StoreOf}
@@ -9,8 +9,5 @@ use Rattle.set_step.proofs.steps.step_set.Given as goal
 
 abbrev pub invariant-loop-i : goal.invariant-loop-i
 invariant-loop-i l =
-    (l.i ≤ l.n) × StoreOf (table_in l.list) l.store × (length l.dst ≡ length l.initial.dst) × (l.c * 16 ≤ length l.dst)
-    × Gathering (table_in l.list) l.e l.src l.n l.initial.dst l.dst l.c l.i
-
-abbrev pub decreases-loop-i : goal.decreases-loop-i
-decreases-loop-i l = l.n - l.i
+    (l.i ≤ l.n) × StoreOf (table_in l.table.list.now) l.store × (length l.dst ≡ length l.initial.dst) × (l.c * 16 ≤ length l.dst)
+    × Gathering (table_in l.table.list.now) l.e l.src l.n l.initial.dst l.dst l.c l.i

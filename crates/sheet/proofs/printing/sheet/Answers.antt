@@ -1,25 +1,17 @@
 -- `printing::sheet` meets its contract: one law for each outcome; what is written is `write`'s. Assumes nothing.
-use native.Mathlib.Omega.{arith}
-use mathlib.Core.Path.{sym, ◌∙◌}
 use Rattle.sheet_spec.proofs.Sheets.Laws.{out_bad, out_over, out_short, out_room}
 use Rattle.sheet.proofs.printing.sheet.Goals as goal
 
-pub returns-then-out-count : goal.returns-then-out-count
-returns-then-out-count c =
-    rw c.refused-then-out-count.ensures
-    (out_short _ _ _ _ (sym c.in-Lots.is ∙ c.judge.ensures) _ c.in-Within.is
-    (omega arith))
+pub returns-in-Err : goal.returns-in-Err
+returns-in-Err c = rw c.refused.ensures (out_bad _ _ _ c.in-Err.ensures)
+
+pub returns-in_default : goal.returns-in_default
+returns-in_default c = rw c.refused-in_default.ensures (out_over _ _ _ c.in-Ok.ensures c.in_default.is)
+
+pub returns-then-out-judged : goal.returns-then-out-judged
+returns-then-out-judged c =
+    rw c.refused-then-out-judged.ensures
+    (out_short _ _ _ c.in-Ok.ensures _ c.in-Some.is c.if-out-judged.true)
 
 pub write-requires : goal.write-requires
-write-requires c =
-    out_room _ _ _ _ (sym c.in-Lots.is ∙ c.judge.ensures) _ c.in-Within.is
-    (omega arith)
-
-pub returns-in-Bad : goal.returns-in-Bad
-returns-in-Bad c =
-    rw c.refused.ensures (out_bad _ _ _ (sym c.in-Bad.is ∙ c.judge.ensures))
-
-pub returns-in-Over : goal.returns-in-Over
-returns-in-Over c =
-    rw c.refused-in-Over.ensures
-    (out_over _ _ _ _ (sym c.in-Lots.is ∙ c.judge.ensures) c.in-Over.is)
+write-requires c = out_room _ _ _ c.in-Ok.ensures _ c.in-Some.is c.if-out-judged.false

@@ -1,6 +1,5 @@
 -- `writing::write` meets its contract: a line for each record, then the last line. The invariant is `Writing`; the
 -- measure is what is left of the book. Assumes nothing.
-use Prim.Native.Nat.{◌-◌}
 use native.Mathlib.Omega.{arith}
 use mathlib.Core.Path.{sym, ◌∙◌}
 use Rattle.sheet_spec.proofs.Sheets.Writing.{write_first, write_room, write_size, write_read}
@@ -28,7 +27,7 @@ slice_bounds-lot_line-end c = omega (arith, write_room _ _ _ _ _ _ c.loop-at.inv
 
 pub lot_line-requires : goal.lot_line-requires
 lot_line-requires c =
-    let r = (sym c.in-Record.is ∙ c.lot_at.ensures) in record {
+    let r = (sym c.in-Some.is ∙ c.lot_at.ensures) in record {
       line_len = write_size _ _ _ _ _ _ c.loop-at.invariant;
       number_bound = (write_lot _ _ _ _ _ _ c.loop-at.invariant _ _ r, write_place _ _ _ _ _ _ c.loop-at.invariant _ _ r);
     }
@@ -36,13 +35,13 @@ lot_line-requires c =
 pub loop-at-smaller : goal.loop-at-smaller
 loop-at-smaller c =
     let less = write_less _ _ _ _ _ _ c.loop-at.invariant _ _
-    (sym c.in-Record.is ∙ c.lot_at.ensures) in
+    (sym c.in-Some.is ∙ c.lot_at.ensures) in
     omega (arith, less.0, less.1)
 
 pub loop-at-preserved : goal.loop-at-preserved
 loop-at-preserved c =
-    write_next _ _ _ _ _ _ c.loop-at.invariant _ _ (sym c.in-Record.is ∙ c.lot_at.ensures) _
-    (omega (arith, c.type_inv))
+    write_next _ _ _ _ _ _ c.loop-at.invariant _ _ (sym c.in-Some.is ∙ c.lot_at.ensures) _
+    (omega (arith, rw c.in-Some.is at c.lot_at.type_inv))
     c.lot_line.ensures
 
 pub overflow_add-e-2 : goal.overflow_add-e-2

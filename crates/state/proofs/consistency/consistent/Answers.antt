@@ -14,7 +14,7 @@ pub returns-then-not-record_fits : goal.returns-then-not-record_fits
 returns-then-not-record_fits c =
     let if1 = c.if-not-record_fits in
     let record_fits_lem = c.record_fits in
-    record_unfit (table_in c.args.list.now) c.args.state
+    record_unfit (table_in c.args.table.now.list.now) c.args.state
     c.args.area0.now c.args.area1.now
     (sym record_fits_lem.ensures ∙ if1.true)
 
@@ -25,7 +25,6 @@ areas_fit-requires c =
     let room = record_room (state_of c.args.state) (length c.args.area0.now / 16)
     (sym record_fits_lem.ensures ∙ if1.false) in
     record {
-      indexed = c.requires.indexed;
       count_in_bounds = omega arith;
     }
 
@@ -35,28 +34,27 @@ returns-then-state-eq0 c =
     let if2 = c.if-state-eq0 in
     let if1 = c.if-not-record_fits in
     let record_fits_lem = c.record_fits in
-    areas_even (table_in c.args.list.now) c.args.state
+    areas_even (table_in c.args.table.now.list.now) c.args.state
     c.args.area0.now c.args.area1.now _
     (sym record_fits_lem.ensures ∙ if1.false) if2.true areas-fit.ensures
 
-pub areas_fit-requires-2 : goal.areas_fit-requires-2
-areas_fit-requires-2 c =
+pub areas_fit-requires-else-state-eq0 : goal.areas_fit-requires-else-state-eq0
+areas_fit-requires-else-state-eq0 c =
     let if1 = c.if-not-record_fits in
     let record_fits_lem = c.record_fits in
     let room = record_room (state_of c.args.state) (length c.args.area0.now / 16)
     (sym record_fits_lem.ensures ∙ if1.false) in
     let same = c.requires.area0_len in
     record {
-      indexed = c.requires.indexed;
       count_in_bounds = omega arith;
     }
 
-pub returns : goal.returns
-returns c =
-    let areas-fit2 = c.areas_fit-2 in
+pub returns-else-state-eq0 : goal.returns-else-state-eq0
+returns-else-state-eq0 c =
+    let areas-fit2 = c.areas_fit-else-state-eq0 in
     let if2 = c.if-state-eq0 in
     let if1 = c.if-not-record_fits in
     let record_fits_lem = c.record_fits in
-    areas_odd (table_in c.args.list.now) c.args.state
+    areas_odd (table_in c.args.table.now.list.now) c.args.state
     c.args.area0.now c.args.area1.now _
     (sym record_fits_lem.ensures ∙ if1.false) if2.false areas-fit2.ensures

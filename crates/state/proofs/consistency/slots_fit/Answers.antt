@@ -1,5 +1,5 @@
 -- `state::consistency::slots_fit` meets its contract. The invariant: the slots from the i-th on are valid exactly where
--- all are. The measure is what is left of the count. Assumes nothing.
+-- all are. Assumes nothing.
 use native.Mathlib.Omega.{arith}
 use Prim.Native.Nat.{◌+◌, ◌*◌}
 use mathlib.Core.Path.{refl, ap, sym, ◌∙◌}
@@ -12,7 +12,7 @@ use Rattle.state.proofs.consistency.slots_fit.Goals as goal
 
 pub loop-i-init : goal.loop-i-init
 loop-i-init c =
-    let t = table_in c.args.list.now in
+    let t = table_in c.args.table.now.list.now in
     (omega arith, ap (every (valid_slot t)) (slots_first _ _))
 
 pub slot_fits-requires : goal.slot_fits-requires
@@ -20,7 +20,6 @@ slot_fits-requires c =
     let turn = c.loop-i in
     let i = turn.i in
     record {
-      indexed = c.requires.indexed;
       slot_len = part_length (i * 16) (i * 16 + 16) _ refl (omega arith);
     }
 
@@ -30,7 +29,7 @@ returns-then-not-slot_fits c =
     let slot-fits = c.slot_fits in
     let loop-test = c.loop-i-test in
     let turn = c.loop-i in
-    let t = table_in c.args.list.now in
+    let t = table_in c.args.table.now.list.now in
     every_not c.args.area.now c.args.count turn.i (valid_slot t) loop-test.true
     (sym slot-fits.ensures ∙ if1.true)
     ∙ turn.invariant.1
@@ -41,7 +40,7 @@ loop-i-preserved c =
     let slot-fits = c.slot_fits in
     let loop-test = c.loop-i-test in
     let turn = c.loop-i in
-    let t = table_in c.args.list.now in
+    let t = table_in c.args.table.now.list.now in
     let e = every_next c.args.area.now c.args.count turn.i (valid_slot t) loop-test.true
     (sym slot-fits.ensures ∙ if1.false) in
     (omega arith, e ∙ turn.invariant.1)
@@ -50,6 +49,6 @@ pub returns : goal.returns
 returns c =
     let loop-test = c.loop-i-test in
     let turn = c.loop-i in
-    let t = table_in c.args.list.now in
+    let t = table_in c.args.table.now.list.now in
     every_done c.args.area.now c.args.count turn.i (valid_slot t) loop-test.false
     ∙ turn.invariant.1

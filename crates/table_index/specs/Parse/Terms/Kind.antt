@@ -14,7 +14,8 @@ use Rattle.table.specs.declared.answer.Refusal.{Refusal}
 use Rattle.table.specs.declared.terms.Spot.{Spot}
 use Rattle.table.specs.declared.terms.Head.{Head}
 use Rattle.table.specs.declared.terms.TermEnd.{TermEnd}
-use Rattle.table.specs.declared.terms.TermEnd.TheVariants.{NextTerm, NoTerm}
+use Rattle.std.specs.declared.result.Result.{Result}
+use Rattle.std.specs.declared.result.Result.TheVariants.{Ok, Err}
 use Rattle.table.specs.Table.{Term, stop, fail, call, SetDef}
 use Rattle.table.specs.Tokens.{tokens_at}
 use Rattle.table.specs.Parser.{Parser, got, number, pure, and_then}
@@ -32,9 +33,9 @@ use Rattle.table_index.specs.Parse.Terms.Stored.{stored_in, stored_one}
 
 module _ {A : Type 0} (p : Parser A) (f : A → Parser Term) (sets : List SetDef) (l : List ℕ) (s : Spot) (n i from : ℕ)
     (w w' : List ℕ) where
-  pub read_then : (r : TermEnd) (a : A) (mid : ℕ) → p (tokens_at l from) ≡ got a (tokens_at l mid)
+  pub read_then : (r : Result TermEnd Refusal) (a : A) (mid : ℕ) → p (tokens_at l from) ≡ got a (tokens_at l mid)
       → TermReadBy (f a) sets l s n i mid w w' r → TermReadBy (and_then p f) sets l s n i from w w' r
-  read_then (NextTerm j m) a mid e h =
+  read_then (Ok _) a mid e h =
       record {
         term = h.term;
         parsed = then_got p f (tokens_at l from) e h.parsed;
@@ -43,10 +44,10 @@ module _ {A : Type 0} (p : Parser A) (f : A → Parser Term) (sets : List SetDef
         stored = h.stored;
         within = h.within;
       }
-  read_then (NoTerm r) a mid e h = (then_got p f (tokens_at l from) e h.0, h.1)
+  read_then (Err r) a mid e h = (then_got p f (tokens_at l from) e h.0, h.1)
 
   pub read_then_stop : (r : Refusal) → Refuses (p (tokens_at l from)) r → length w' ≡ length w
-      → TermReadBy (and_then p f) sets l s n i from w w' (NoTerm r)
+      → TermReadBy (and_then p f) sets l s n i from w w' (Err r)
   read_then_stop r e h = (then_stop p f (tokens_at l from) e, h)
 
 -- ---- a term, by its kind
@@ -89,7 +90,7 @@ kind_test : (k m : ℕ) → k < 6 → m < 1024 → (ltb k 6 && ltb m 1024) ≡ t
 kind_test k m a b = rw (lt-ltb k 6 a, lt-ltb m 1024 b) refl
 
 module _ (sets : List SetDef) (l : List ℕ) (s : Spot) (n i : ℕ) (w : List ℕ) where
-  pub term_kind : (deep deep' k : ℕ) (w' : List ℕ) (r : TermEnd) → i < length l → deep ≡ suc deep' → n < 1024
+  pub term_kind : (deep deep' k : ℕ) (w' : List ℕ) (r : Result TermEnd Refusal) → i < length l → deep ≡ suc deep' → n < 1024
       → get_or l i 0 ≡ k → k < 6
       → TermReadBy (term_of_kind sets n (λ m. term_with sets deep' m) k) sets l s n i (i + 1) w w' r
       → TermRead sets l s deep n i w w' r
@@ -98,11 +99,11 @@ module _ (sets : List SetDef) (l : List ℕ) (s : Spot) (n i : ℕ) (w : List �
       kind_got : number (λ k. ltb k 6 && ltb n 1024) (tokens_at l i) ≡ got k (tokens_at l (i + 1))
       kind_got = rw (← e) (number_got _ l i a (kind_test (get_or l i 0) n (omega arith) few))
 
-      go : (r : TermEnd)
+      go : (r : Result TermEnd Refusal)
           → TermReadBy (and_then (number (λ k. ltb k 6 && ltb n 1024)) (term_of_kind sets n (λ m. term_with sets deep' m)))
           sets l s n i i w w' r
           → TermRead sets l s (suc deep') n i w w' r
-      go (NextTerm j m) x =
+      go (Ok e) x =
           record {
             term = x.term;
             parsed = unfold term_with in x.parsed;
@@ -111,7 +112,7 @@ module _ (sets : List SetDef) (l : List ℕ) (s : Spot) (n i : ℕ) (w : List �
             stored = x.stored;
             within = x.within;
           }
-      go (NoTerm r) x = (unfold term_with in x.0, x.1)
+      go (Err r) x = (unfold term_with in x.0, x.1)
 
 -- ---- a term's own word
 
@@ -159,16 +160,16 @@ module _ (sets : List SetDef) (l : List ℕ) (h : Head) (i n from next : ℕ) (w
         within = small;
       }
 
-  leaf_read : (q : Parser Term) (p : Term) (r : TermEnd) → q (tokens_at l from) ≡ got p (tokens_at l next)
+  leaf_read : (q : Parser Term) (p : Term) (r : Result TermEnd Refusal) → q (tokens_at l from) ≡ got p (tokens_at l next)
       → nodes h.spot i p ≡ node h.spot i p ∷ []
       → packed h.spot h.kind h.parameter (n + 1) h.target ≡ word_of sets n (node h.spot i p)
       → LeafRead h n next w w' r → TermReadBy q sets l h.spot n i from w w' r
   leaf_read q p r parsed' only word x =
-      subst (λ (r : TermEnd). TermReadBy q sets l h.spot n i from w w' r) (sym x.answer)
+      subst (λ (r : Result TermEnd Refusal). TermReadBy q sets l h.spot n i from w w' r) (sym x.answer)
       (leaf_found q p parsed' only word x.stored)
 
 module _ (sets : List SetDef) (l : List ℕ) (s : Spot) (n i : ℕ) (w w' : List ℕ) (few : n < 1024)
-    (long : length w ≡ 8192) (inside : i < length l) (r : TermEnd) where
+    (long : length w ≡ 8192) (inside : i < length l) (r : Result TermEnd Refusal) where
   pub term_stop : (deep : ℕ) → (deep ≡ 0 → ⊥) → get_or l i 0 ≡ 0
       → LeafRead (head_at 0 0 0 s) n (i + 1) w w' r → TermRead sets l s deep n i w w' r
   unfolding term_of_kind pure nodes kind_of ref_of left_size target_of

@@ -9,7 +9,8 @@ use lib.Dec.{leb}
 use Rattle.std.proofs.lemmas.Bool.{lt-leb}
 use Rattle.table.specs.declared.answer.Refusal.{Refusal}
 use Rattle.table.specs.declared.terms.TermEnd.{TermEnd}
-use Rattle.table.specs.declared.terms.TermEnd.TheVariants.{NextTerm, NoTerm}
+use Rattle.std.specs.declared.result.Result.{Result}
+use Rattle.std.specs.declared.result.Result.TheVariants.{Ok, Err}
 use Rattle.table.specs.Table.{SetDef}
 use Rattle.table.specs.Tokens.{tokens_at}
 use Rattle.table.specs.Parser.{got, number, pure}
@@ -78,16 +79,16 @@ module _ (d n v : ℕ) (w w₁ : List ℕ) (long : length w ≡ 8192) (small : d
     level_got : number (λ l. lib.Dec.leb l 7) (tokens_at l i) ≡ got v (tokens_at l (i + 1))
     level_got = rw (← is) (number_got _ l i inside (le-leb (get_or l i 0) 7 (omega arith)))
 
-    pub definition_read : (res : TermEnd) → TermRead sets l (body_spot d) 32 n (i + 1) w₁ w' res
+    pub definition_read : (res : Result TermEnd Refusal) → TermRead sets l (body_spot d) 32 n (i + 1) w₁ w' res
         → DefinitionRead sets l d n i w w' res
     unfolding definition definition_numbers pure
-    definition_read (NextTerm j m) x =
+    definition_read (Ok e) x =
         let t = x.stored in
         let c = x.counted in
         let b = x.few in
         let z = add-one i in
-        let p = follows_place l (term_numbers x.term) (i + 1) j
-        (term_sound sets 32 n (tokens_at l (i + 1)) (tokens_at l j) x.term x.parsed).follows in
+        let p = follows_place l (term_numbers x.term) (i + 1) e.next
+        (term_sound sets 32 n (tokens_at l (i + 1)) (tokens_at l e.next) x.term x.parsed).follows in
         record {
           value = record { level = v; body = x.term };
           parsed = then_got _ _ _ level_got (then_got _ _ _ x.parsed refl);
@@ -103,4 +104,4 @@ module _ (d n v : ℕ) (w w₁ : List ℕ) (long : length w ≡ 8192) (small : d
           ends = omega arith;
           within = x.within;
         }
-    definition_read (NoTerm r) x = (then_got _ _ _ level_got (then_stop _ _ _ x.0), x.1 ∙ marks_same)
+    definition_read (Err r) x = (then_got _ _ _ level_got (then_stop _ _ _ x.0), x.1 ∙ marks_same)

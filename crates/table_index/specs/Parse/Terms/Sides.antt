@@ -14,7 +14,8 @@ use Rattle.table.specs.declared.answer.Refusal.{Refusal}
 use Rattle.table.specs.declared.terms.Spot.{Spot}
 use Rattle.table.specs.declared.terms.Head.{Head}
 use Rattle.table.specs.declared.terms.TermEnd.{TermEnd}
-use Rattle.table.specs.declared.terms.TermEnd.TheVariants.{NextTerm, NoTerm}
+use Rattle.std.specs.declared.result.Result.{Result}
+use Rattle.std.specs.declared.result.Result.TheVariants.{Ok, Err}
 use Rattle.table.specs.Table.{SetRef, Term, prefix, choice, par, SetDef, size}
 use Rattle.table.specs.Tokens.{tokens_at}
 use Rattle.table.specs.Parser.{pure}
@@ -135,10 +136,10 @@ module _ (sets : List SetDef) (l : List ℕ) (h : Head) (i : ℕ) (inner : Spot)
       joint_size either y p q = refl
       joint_size (beside r) y p q = refl
 
-      pub sides_read : (res : TermEnd) → TermRead sets l inner deep m j w₂ w₃ res → (g : Joint) → TwoSided g
+      pub sides_read : (res : Result TermEnd Refusal) → TermRead sets l inner deep m j w₂ w₃ res → (g : Joint) → TwoSided g
           → HeadOf sets h i inner from g → TermReadBy (sides_of sets deep n g) sets l h.spot n i from w w₃ res
       unfolding sides_of pure
-      sides_read (NextTerm j' m') t g y o =
+      sides_read (Ok _) t g y o =
           let c = x.counted in
           let z : m ≡ suc n + size x.term = omega arith in
           let c' = t.counted in
@@ -152,7 +153,7 @@ module _ (sets : List SetDef) (l : List ℕ) (h : Head) (i : ℕ) (inner : Spot)
             stored = sides_term g y o t.term (omega arith) t.stored;
             within = t.within;
           }
-      sides_read (NoTerm f) t g y o =
+      sides_read (Err f) t g y o =
           let c = x.counted in
           let z : m ≡ suc n + size x.term = omega arith in (
             then_got _ _ _ (rw next at x.parsed) (then_stop _ _ _ (rw z at t.0)),
@@ -163,7 +164,7 @@ module _ (sets : List SetDef) (l : List ℕ) (h : Head) (i : ℕ) (inner : Spot)
 
 module _ (sets : List SetDef) (l : List ℕ) (s : Spot) (n i deep : ℕ) (w w' : List ℕ) (few : n < 1024)
     (some : deep ≡ 0 → ⊥) (inside : i < length l) where
-  pub term_choice : (at : ℕ) (inner : Spot) (res : TermEnd) → get_or l i 0 ≡ 3 → at ≡ i + 1 → inner ≡ side_spot s
+  pub term_choice : (at : ℕ) (inner : Spot) (res : Result TermEnd Refusal) → get_or l i 0 ≡ 3 → at ≡ i + 1 → inner ≡ side_spot s
       → ((g : Joint) → TwoSided g → HeadOf sets (head_at 3 0 0 s) i inner at g
       → TermReadBy (sides_of sets (deep - 1) n g) sets l s n i at w w' res)
       → TermRead sets l s deep n i w w' res
@@ -179,13 +180,13 @@ module _ (sets : List SetDef) (l : List ℕ) (s : Spot) (n i deep : ℕ) (w w' :
         → Refuses (term_with sets deep n (tokens_at l i)) r
     unfolding term_of_kind
     term_no_ref r (inl k) h =
-        (term_kind sets l s n i w deep (deep - 1) 2 w (NoTerm r) inside (omega arith) few k (omega arith)
+        (term_kind sets l s n i w deep (deep - 1) 2 w (Err r) inside (omega arith) few k (omega arith)
         (rw (← e) (read_then_stop _ _ sets l s n i at w w r h refl))).0
     term_no_ref r (inr k) h =
-        (term_kind sets l s n i w deep (deep - 1) 4 w (NoTerm r) inside (omega arith) few k (omega arith)
+        (term_kind sets l s n i w deep (deep - 1) 4 w (Err r) inside (omega arith) few k (omega arith)
         (rw (← e) (read_then_stop _ _ sets l s n i at w w r h refl))).0
 
-    module _ (t p j : ℕ) (f : ReferenceFound sets l at t p j) (res : TermEnd) where
+    module _ (t p j : ℕ) (f : ReferenceFound sets l at t p j) (res : Result TermEnd Refusal) where
       ref_end : j ≡ suc i + length (ref_numbers f.reference)
       ref_end = let z = ref_place sets l at t p j f in omega arith
 

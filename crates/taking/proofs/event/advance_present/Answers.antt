@@ -8,11 +8,10 @@ use Rattle.taking.proofs.event.advance_present.Goals as goal
 pub advance-requires : goal.advance-requires
 advance-requires c =
     let args = c.args in
-    let holding = holding_even _ (regular _ (indexed_rules c.requires.indexed)) args.state args.area0.now
+    let holding = holding_even _ (regular _ (indexed_rules c.args.table.now.indexed)) args.state args.area0.now
     args.area1.now
     c.requires.standing c.if-taken-eq0.true in
     record {
-      indexed = c.requires.indexed;
       holding = holding;
       store_of = c.requires.store_of;
     }
@@ -21,7 +20,7 @@ advance-requires c =
 pub returns-then-taken-eq0 : goal.returns-then-taken-eq0
 returns-then-taken-eq0 c =
     let args = c.args in (
-      moved_even _ (regular _ (indexed_rules c.requires.indexed)) args.state args.area0.now args.area1.now
+      moved_even _ (regular _ (indexed_rules c.args.table.now.indexed)) args.state args.area0.now args.area1.now
           c.requires.standing c.if-taken-eq0.true _ _ _ _ c.advance.ensures.0,
       c.advance.ensures.1,
     )
@@ -29,11 +28,10 @@ returns-then-taken-eq0 c =
 pub advance-requires-2 : goal.advance-requires-2
 advance-requires-2 c =
     let args = c.args in
-    let holding = holding_odd _ (regular _ (indexed_rules c.requires.indexed)) args.state args.area0.now
+    let holding = holding_odd _ (regular _ (indexed_rules c.args.table.now.indexed)) args.state args.area0.now
     args.area1.now
     c.requires.standing c.if-taken-eq0.false in
     record {
-      indexed = c.requires.indexed;
       holding = holding;
       store_of = c.requires.store_of;
     }
@@ -42,7 +40,7 @@ advance-requires-2 c =
 pub returns : goal.returns
 returns c =
     let args = c.args in (
-      moved_odd _ (regular _ (indexed_rules c.requires.indexed)) args.state args.area0.now args.area1.now
+      moved_odd _ (regular _ (indexed_rules c.args.table.now.indexed)) args.state args.area0.now args.area1.now
           c.requires.standing c.if-taken-eq0.false _ _ _ _ c.advance-2.ensures.0,
       c.advance-2.ensures.1,
     )

@@ -11,7 +11,7 @@ use Rattle.taking.proofs.event.next_set.Goals as goal
 pub returns-then-alphabet-event : goal.returns-then-alphabet-event
 returns-then-alphabet-event c =
     let args = c.args in (
-      next_unknown (table_in args.list.now) args.e args.taken args.source.now args.count
+      next_unknown (table_in args.table.now.list.now) args.e args.taken args.source.now args.count
           args.destination.now
           c.requires.empty.0 (omega (arith, c.alphabet.ensures.0)),
       c.requires.empty.1,
@@ -21,9 +21,9 @@ returns-then-alphabet-event c =
 pub returns-then-taken-eq18446744073709551615 : goal.returns-then-taken-eq18446744073709551615
 returns-then-taken-eq18446744073709551615 c =
     let args = c.args in
-    let known : args.e < (table_in args.list.now).alphabet =
+    let known : args.e < (table_in args.table.now.list.now).alphabet =
     omega (arith, c.alphabet.ensures.0, c.if-alphabet-event.false) in (
-      next_full (table_in args.list.now) args.e args.taken args.source.now args.count
+      next_full (table_in args.table.now.list.now) args.e args.taken args.source.now args.count
           args.destination.now
           c.requires.empty.0 known c.if-taken-eq18446744073709551615.true,
       c.requires.empty.1,
@@ -32,36 +32,35 @@ returns-then-taken-eq18446744073709551615 c =
 pub step_set-requires : goal.step_set-requires
 step_set-requires c =
     let args = c.args in
-    let known : args.e < (table_in args.list.now).alphabet =
+    let known : args.e < (table_in args.table.now.list.now).alphabet =
     omega (arith, c.alphabet.ensures.0, c.if-alphabet-event.false) in record {
-      indexed = c.requires.indexed;
-      source = holds_source _ (indexed_rules c.requires.indexed) _ known _ _ c.requires.area_holds;
+      source = holds_source _ (indexed_rules c.args.table.now.indexed) _ known _ _ c.requires.area_holds;
       store_of = c.requires.empty.1;
     }
 
 -- the residuals have room
-pub returns-in-Count : goal.returns-in-Count
-returns-in-Count c =
+pub returns-in-Ok : goal.returns-in-Ok
+returns-in-Ok c =
     let args = c.args in
-    let known : args.e < (table_in args.list.now).alphabet =
+    let known : args.e < (table_in args.table.now.list.now).alphabet =
     omega (arith, c.alphabet.ensures.0, c.if-alphabet-event.false) in (
-      next_count (table_in args.list.now) args.e args.taken args.source.now args.count
-          args.destination.now c.requires.empty.0 (indexed_rules c.requires.indexed) c.requires.area_holds known
+      next_count (table_in args.table.now.list.now) args.e args.taken args.source.now args.count
+          args.destination.now c.requires.empty.0 (indexed_rules c.args.table.now.indexed) c.requires.area_holds known
           c.if-taken-eq18446744073709551615.false _ _
-          c.step_set.ensures.0 _ c.in-Count.is,
+          c.step_set.ensures.0 _ c.in-Ok.is,
       c.step_set.ensures.1,
     )
 
 -- they have none
-pub returns-in-Exceeded : goal.returns-in-Exceeded
-returns-in-Exceeded c =
+pub returns-in-Err : goal.returns-in-Err
+returns-in-Err c =
     let args = c.args in
-    let known : args.e < (table_in args.list.now).alphabet =
+    let known : args.e < (table_in args.table.now.list.now).alphabet =
     omega (arith, c.alphabet.ensures.0, c.if-alphabet-event.false) in (
-      next_exceeded (table_in args.list.now) args.e args.taken args.source.now args.count
-          args.destination.now c.requires.empty.0 (indexed_rules c.requires.indexed) c.requires.area_holds known
+      next_exceeded (table_in args.table.now.list.now) args.e args.taken args.source.now args.count
+          args.destination.now c.requires.empty.0 (indexed_rules c.args.table.now.indexed) c.requires.area_holds known
           c.if-taken-eq18446744073709551615.false _ _
-          c.step_set.ensures.0 c.in-Exceeded.is _ c.clear_all.ensures
+          c.step_set.ensures.0 c.in-Err.is _ c.clear_all.ensures
           c.step_set.auto.dst,
       c.step_set.ensures.1,
     )

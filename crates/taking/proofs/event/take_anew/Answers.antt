@@ -4,7 +4,6 @@ use Rattle.taking.proofs.event.take_anew.Goals as goal
 pub take_event-requires : goal.take_event-requires
 take_event-requires c =
     record {
-      indexed = c.requires.indexed;
       standing = c.requires.standing;
       store_of = c.forget.ensures _;
     }

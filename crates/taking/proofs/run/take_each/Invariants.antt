@@ -1,5 +1,6 @@
 -- The invariants and measures of `run.take_each`.
-use Prim.Native.Nat.{◌-◌, ◌^◌, ◌<◌, ◌≤◌}
+use Rattle.std.specs.Prelude.{◌⊎◌}
+use Prim.Native.Nat.{◌^◌, ◌<◌, ◌≤◌}
 use mathlib.Core.Path.{◌≡◌}
 use lib.ListN.{length}
 use Rattle.table_index.specs.Index.{table_in}
@@ -11,8 +12,6 @@ use Rattle.taking.proofs.run.take_each.Given as goal
 abbrev pub invariant-loop-i : goal.invariant-loop-i
 invariant-loop-i l =
     (l.i ≤ length l.events) × (length l.events < 2 ^ 64) × (length l.area0 ≡ length l.initial.area0) × (length l.area1 ≡ length l.initial.area1)
-    × StoreOf (table_in l.list) l.store
-    × ReachedAt (table_in l.list) (monitor_of l.initial.reached l.initial.area0 l.initial.area1) l.events l.from (monitor_of l.reached l.area0 l.area1) l.i
-
-abbrev pub decreases-loop-i : goal.decreases-loop-i
-decreases-loop-i l = l.to - l.i
+    × StoreOf (table_in l.table.list.now) l.store
+    × ReachedAt (table_in l.table.list.now) (monitor_of l.initial.reached l.initial.area0 l.initial.area1) l.events l.from (monitor_of l.reached l.area0 l.area1) l.i
+    × (l.from ≤ l.i) × ((l.i ≤ l.from) ⊎ (l.i ≤ l.to))

@@ -12,7 +12,7 @@ returns-then-in_force c =
     let f = sym c.in_force.ensures ∙ c.if-in_force.true in
     rw f
     (c.gap_begins.ensures
-    ∙ ap (begins (gaps_from 0 w) (args.last % week)) c.minutes_since-minutes.ensures)
+    ∙ ap (begins (gaps_from 0 w) (args.last % week)) c.saturating_sub-minutes.ensures)
 
 pub returns : goal.returns
 unfolding changes
@@ -20,4 +20,4 @@ returns c =
     let args = c.args in
     let w = args.windows.now in
     let f = sym c.in_force.ensures ∙ c.if-in_force.false in
-    rw f (c.window_begins.ensures ∙ ap (begins w (args.last % week)) c.minutes_since-minutes.ensures)
+    rw f (c.window_begins.ensures ∙ ap (begins w (args.last % week)) c.saturating_sub-minutes.ensures)

@@ -1,6 +1,5 @@
 -- `timetable::change::gap_begins` meets its contract. The invariant: the gaps from `end` and the windows from i on say
 -- what all of them say. The measure is what is left of the list. Assumes nothing.
-use Prim.Native.Nat.{◌-◌}
 use native.Mathlib.Omega.{arith}
 use mathlib.Core.Path.{refl, sym, ◌∙◌}
 use Rattle.timetable_spec.specs.Timetable.{begins_by, begins}

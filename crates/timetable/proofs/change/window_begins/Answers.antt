@@ -1,41 +1,31 @@
--- `timetable::change::window_begins` meets its contract. The invariant: the windows from i on say what all of them say.
--- The measure is what is left of the list. Assumes nothing.
-use Prim.Native.Nat.{◌-◌}
+-- `timetable::change::window_begins` meets its contract. Assumes nothing.
 use native.Mathlib.Omega.{arith}
-use mathlib.Core.Path.{refl, sym, ◌∙◌}
+use mathlib.Core.Path.{◌∙◌}
 use Rattle.timetable_spec.specs.Timetable.{begins_by, begins}
-use Rattle.timetable_spec.proofs.Timetable.Pairs.{some_next, some_found, some_done}
+use Rattle.timetable_spec.proofs.Timetable.Pairs.{pair_found, pair_next, pair_none}
 use Rattle.timetable.proofs.change.window_begins.Goals as goal
-
-pub loop-i-init : goal.loop-i-init
-loop-i-init c = (omega arith, refl)
 
 pub returns-then-begins_by : goal.returns-then-begins_by
 unfolding begins
 returns-then-begins_by c =
-    let k = c.loop-i in
-    let w = c.args.windows.now in
-    sym (some_found (λ a b. begins_by a b _ _) w k.i (omega arith)
-    (sym c.begins_by.ensures ∙ c.if-begins_by.true))
-    ∙ k.invariant.1
+    let step = c.in-Some.ensures.steps in
+    let i = c.loop-pair.invariant in
+    pair_found (λ a b. begins_by a b _ _) _ _ _ step.1.0 (step.1.1 ∙ i.2) c.if-begins_by.ensures ∙ i.3
 
-pub loop-i-smaller : goal.loop-i-smaller
-loop-i-smaller c = omega arith
-
-pub loop-i-preserved : goal.loop-i-preserved
+pub loop-pair-preserved : goal.loop-pair-preserved
 unfolding begins
-loop-i-preserved c =
-    let k = c.loop-i in
-    let w = c.args.windows.now in (
-      omega arith,
-      sym (some_next (λ a b. begins_by a b _ _) w k.i (omega arith)
-          (sym c.begins_by.ensures ∙ c.if-begins_by.false))
-          ∙ k.invariant.1,
+loop-pair-preserved c =
+    let step = c.in-Some.ensures.steps in
+    let i = c.loop-pair.invariant in (
+      omega (arith, step.0, i.2),
+      tt,
+      step.0 ∙ i.2,
+      pair_next (λ a b. begins_by a b _ _) _ _ _ step.1.0 (step.1.1 ∙ i.2) c.if-begins_by.ensures ∙ i.3,
     )
 
 pub returns : goal.returns
 unfolding begins
 returns c =
-    let k = c.loop-i in
-    let w = c.args.windows.now in
-    sym (some_done (λ a b. begins_by a b _ _) w k.i (omega arith)) ∙ k.invariant.1
+    let none = c.in-None.ensures.steps.1.0 in
+    let i = c.loop-pair.invariant in
+    pair_none (λ a b. begins_by a b _ _) _ (omega (arith, none, i.2)) ∙ i.3

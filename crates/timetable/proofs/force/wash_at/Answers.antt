@@ -1,41 +1,31 @@
--- `timetable::force::wash_at` meets its contract. The invariant: the windows from i on say what all of them say. The
--- measure is what is left of the list. Assumes nothing.
-use Prim.Native.Nat.{◌-◌}
+-- `timetable::force::wash_at` meets its contract. Assumes nothing.
 use native.Mathlib.Omega.{arith}
-use mathlib.Core.Path.{refl, sym, ◌∙◌}
+use mathlib.Core.Path.{◌∙◌}
 use Rattle.timetable_spec.specs.Timetable.{holds, wash_at}
-use Rattle.timetable_spec.proofs.Timetable.Pairs.{some_next, some_found, some_done}
+use Rattle.timetable_spec.proofs.Timetable.Pairs.{pair_found, pair_next, pair_none}
 use Rattle.timetable.proofs.force.wash_at.Goals as goal
 
-pub loop-i-init : goal.loop-i-init
-loop-i-init c = (omega arith, refl)
-
-pub returns-then-window_holds : goal.returns-then-window_holds
+pub returns-then-holds : goal.returns-then-holds
 unfolding wash_at
-returns-then-window_holds c =
-    let k = c.loop-i in
-    let w = c.args.windows.now in
-    sym (some_found (λ a b. holds a b _) w k.i (omega arith)
-    (sym c.window_holds.ensures ∙ c.if-window_holds.true))
-    ∙ k.invariant.1
+returns-then-holds c =
+    let step = c.in-Some.ensures.steps in
+    let i = c.loop-pair.invariant in
+    pair_found (λ a b. holds a b _) _ _ _ step.1.0 (step.1.1 ∙ i.2) c.if-holds.ensures ∙ i.3
 
-pub loop-i-smaller : goal.loop-i-smaller
-loop-i-smaller c = omega arith
-
-pub loop-i-preserved : goal.loop-i-preserved
+pub loop-pair-preserved : goal.loop-pair-preserved
 unfolding wash_at
-loop-i-preserved c =
-    let k = c.loop-i in
-    let w = c.args.windows.now in (
-      omega arith,
-      sym (some_next (λ a b. holds a b _) w k.i (omega arith)
-          (sym c.window_holds.ensures ∙ c.if-window_holds.false))
-          ∙ k.invariant.1,
+loop-pair-preserved c =
+    let step = c.in-Some.ensures.steps in
+    let i = c.loop-pair.invariant in (
+      omega (arith, step.0, i.2),
+      tt,
+      step.0 ∙ i.2,
+      pair_next (λ a b. holds a b _) _ _ _ step.1.0 (step.1.1 ∙ i.2) c.if-holds.ensures ∙ i.3,
     )
 
 pub returns : goal.returns
 unfolding wash_at
 returns c =
-    let k = c.loop-i in
-    let w = c.args.windows.now in
-    sym (some_done (λ a b. holds a b _) w k.i (omega arith)) ∙ k.invariant.1
+    let none = c.in-None.ensures.steps.1.0 in
+    let i = c.loop-pair.invariant in
+    pair_none (λ a b. holds a b _) _ (omega (arith, none, i.2)) ∙ i.3

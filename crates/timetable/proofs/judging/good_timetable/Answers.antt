@@ -1,6 +1,5 @@
 -- `timetable::judging::good_timetable` meets its contract. The invariant: the windows from i on, which are to begin at
 -- `floor` or later, say what all of them say. The measure is what is left of the list. Assumes nothing.
-use Prim.Native.Nat.{◌-◌}
 use native.Mathlib.Omega.{arith}
 use mathlib.Core.Path.{refl, sym, ◌∙◌}
 use Rattle.timetable_spec.specs.Timetable.{good_timetable}
@@ -19,15 +18,15 @@ loop-i-preserved c =
     let k = c.loop-i in
     let w = c.args.windows.now in (
       omega arith,
-      sym (good_next w k.floor k.i (omega arith) (sym c.good_window.ensures ∙ c.if-good_window.true))
+      sym (good_next w k.floor k.i (omega arith) (sym c.good.ensures ∙ c.if-not-good.false))
           ∙ k.invariant.1,
     )
 
-pub returns-else-good_window : goal.returns-else-good_window
-returns-else-good_window c =
+pub returns-then-not-good : goal.returns-then-not-good
+returns-then-not-good c =
     let k = c.loop-i in
     let w = c.args.windows.now in
-    sym (good_bad w k.floor k.i (omega arith) (sym c.good_window.ensures ∙ c.if-good_window.false)) ∙ k.invariant.1
+    sym (good_bad w k.floor k.i (omega arith) (sym c.good.ensures ∙ c.if-not-good.true)) ∙ k.invariant.1
 
 pub returns : goal.returns
 returns c =

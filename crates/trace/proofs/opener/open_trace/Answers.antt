@@ -9,21 +9,21 @@ pub slice_bounds-open_list-end : goal.slice_bounds-open_list-end
 slice_bounds-open_list-end c =
     let args = c.args in
     let numbers = said_numbers args.input.now args.list.now args.area0.now args.area1.now
-    args.work.now _ _ _ c.read_table.ensures _ _ c.in-Numbers.is in
+    args.work.now _ _ _ c.read_table.ensures _ c.in-Ok.is in
     omega (arith, numbers_few _ _ _ _ _ _ _ _ _ numbers)
 
-pub slice_bounds-open_list-end-in-Numbers : goal.slice_bounds-open_list-end-in-Numbers
-slice_bounds-open_list-end-in-Numbers c =
+pub slice_bounds-open_list-end-in-Ok : goal.slice_bounds-open_list-end-in-Ok
+slice_bounds-open_list-end-in-Ok c =
     let args = c.args in
     let numbers = said_numbers args.input.now args.list.now args.area0.now args.area1.now
-    args.work.now _ _ _ c.read_table.ensures _ _ c.in-Numbers.is in
+    args.work.now _ _ _ c.read_table.ensures _ c.in-Ok.is in
     sym (numbers_few _ _ _ _ _ _ _ _ _ numbers).1
 
 pub open_list-requires : goal.open_list-requires
 open_list-requires c =
     let args = c.args in
     let numbers = said_numbers args.input.now args.list.now args.area0.now args.area1.now
-    args.work.now _ _ _ c.read_table.ensures _ _ c.in-Numbers.is in
+    args.work.now _ _ _ c.read_table.ensures _ c.in-Ok.is in
     let (a, b, w) = numbers_lengths _ _ _ _ _ _ _ _ _ numbers in
     record {
       area0_len = (a, b);
@@ -31,16 +31,16 @@ open_list-requires c =
     }
 
 -- the table is read
-pub returns-in-Numbers : goal.returns-in-Numbers
-returns-in-Numbers c =
+pub returns-in-Ok : goal.returns-in-Ok
+returns-in-Ok c =
     let args = c.args in
     front_numbers args.input.now args.list.now args.area0.now args.area1.now args.work.now
-    _ _ _ c.read_table.ensures _ _ c.in-Numbers.is c.open_list.result _ _ _
+    _ _ _ c.read_table.ensures _ c.in-Ok.is c.open_list.result _ _ _
     c.open_list.ensures
 
 -- it is refused
-pub returns-in-Refused : goal.returns-in-Refused
-returns-in-Refused c =
+pub returns-in-Err : goal.returns-in-Err
+returns-in-Err c =
     let args = c.args in
     front_declined args.input.now args.list.now args.area0.now args.area1.now args.work.now
-    _ _ _ c.read_table.ensures _ c.in-Refused.is _ _ _ _
+    _ _ _ c.read_table.ensures _ c.in-Err.is _ _ _ _

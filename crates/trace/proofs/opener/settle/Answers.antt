@@ -10,31 +10,29 @@ use Rattle.trace.proofs.opener.settle.Goals as goal
 pub resolve_last-requires : goal.resolve_last-requires
 resolve_last-requires c =
     record {
-      indexed = c.requires.indexed;
       area1_value = areas_measured_lem _ _ c.requires.area0_len.0 c.requires.area0_len.1;
     }
 
 pub offered-permitted-requires : goal.offered-permitted-requires
 offered-permitted-requires c =
-    let x = settled_tracing c.requires.indexed _ _ _ c.requires.area0_len.0 _
-    (rw c.in-Count.is at c.resolve_last.ensures) c.fresh-state.result
+    let x = settled_tracing c.args.table.now.indexed _ _ _ c.requires.area0_len.0 _
+    (rw c.in-Ok.is at c.resolve_last.ensures) c.fresh-state.result
     c.fresh-state.ensures in
     record {
-      indexed = c.requires.indexed;
       area1_value = tracing_measured _ _ _ x;
       area1_value_2 = tracing_consistent _ _ _ x;
     }
 
 -- the slots suffice
-pub returns-in-Count : goal.returns-in-Count
-returns-in-Count c =
-    let starts = settled_starts c.requires.indexed _ _ _ c.requires.area0_len.0 _
-    (rw c.in-Count.is at c.resolve_last.ensures) c.fresh-state.result
+pub returns-in-Ok : goal.returns-in-Ok
+returns-in-Ok c =
+    let starts = settled_starts c.args.table.now.indexed _ _ _ c.requires.area0_len.0 _
+    (rw c.in-Ok.is at c.resolve_last.ensures) c.fresh-state.result
     c.fresh-state.ensures _ c.offered-permitted.ensures in
     (search rules, refl, starts)
 
 -- they do not
-pub returns-in-Exceeded : goal.returns-in-Exceeded
-returns-in-Exceeded c =
-    settled_exceeds c.requires.indexed _ _ _ c.requires.area0_len.0
-    (rw c.in-Exceeded.is at c.resolve_last.ensures)
+pub returns-in-Err : goal.returns-in-Err
+returns-in-Err c =
+    settled_exceeds c.args.table.now.indexed _ _ _ c.requires.area0_len.0
+    (rw c.in-Err.is at c.resolve_last.ensures)

@@ -1,7 +1,8 @@
 -- `reader::read_front` meets its contract: what stands is a front that got no more than it needed. The measure is what
 -- is left of the buffer. Assumes nothing.
 use native.Mathlib.Omega.{arith}
-use mathlib.Core.Path.{sym, ◌∙◌}
+use mathlib.Core.Path.{sym, ◌∙◌, ap}
+use Rattle.std.specs.Prelude.{Ok}
 use lib.Seq.{length-take-le}
 use Rattle.trace_front.specs.Wanted.Laws.{wanted_decided}
 use Rattle.trace_front.specs.Front.Laws.{held_none, held_room, read_long, read_none, read_short}
@@ -48,8 +49,8 @@ pub overflow_add-n : goal.overflow_add-n
 overflow_add-n c =
     let g = read_room c.loop-n.front c.arrive.new.buffer c.loop-n.n
     c.wanted-want.result c.loop-n.invariant.1 c.loop-n.invariant.0 c.wanted-want.ensures
-    c.front-1.given.0 c.arrive.result c.in-Bytes.more c.arrive.ensures
-    c.in-Bytes.is in
+    c.front-1.given.0 c.arrive.result c.in-Continue.more c.arrive.ensures
+    (c.in_ok-more.was ∙ ap Ok c.in-Continue.is) in
     omega arith
 
 pub loop-n-smaller : goal.loop-n-smaller
@@ -57,12 +58,12 @@ loop-n-smaller c =
     let z = c.if-want-eq0.false in
     let g = read_room c.loop-n.front c.arrive.new.buffer c.loop-n.n
     c.wanted-want.result c.loop-n.invariant.1 c.loop-n.invariant.0 c.wanted-want.ensures
-    c.front-1.given.0 c.arrive.result c.in-Bytes.more c.arrive.ensures
-    c.in-Bytes.is in
+    c.front-1.given.0 c.arrive.result c.in-Continue.more c.arrive.ensures
+    (c.in_ok-more.was ∙ ap Ok c.in-Continue.is) in
     let k = read_some c.loop-n.front c.arrive.new.buffer c.loop-n.n
     c.wanted-want.result c.loop-n.invariant.1 c.loop-n.invariant.0 c.wanted-want.ensures
-    c.front-1.given.0 c.arrive.result c.in-Bytes.more c.arrive.ensures
-    c.in-Bytes.is (omega arith) in
+    c.front-1.given.0 c.arrive.result c.in-Continue.more c.arrive.ensures
+    (c.in_ok-more.was ∙ ap Ok c.in-Continue.is) (omega arith) in
     omega arith
 
 pub loop-n-preserved : goal.loop-n-preserved
@@ -71,11 +72,11 @@ loop-n-preserved c = (
       c.loop-n.invariant.1 c.loop-n.invariant.0 c.wanted-want.ensures c.front-1.given.0,
   read_more c.loop-n.front c.arrive.new.buffer c.loop-n.n c.wanted-want.result
       c.loop-n.invariant.1 c.loop-n.invariant.0 c.wanted-want.ensures c.front-1.given.0
-      c.arrive.result c.in-Bytes.more c.arrive.ensures c.in-Bytes.is,
+      c.arrive.result c.in-Continue.more c.arrive.ensures (c.in_ok-more.was ∙ ap Ok c.in-Continue.is),
 )
 
-pub returns-in-Ended : goal.returns-in-Ended
-returns-in-Ended c = (
+pub returns-in-Break : goal.returns-in-Break
+returns-in-Break c = (
   read_none c.loop-n.front c.arrive.new.buffer c.loop-n.n c.wanted-want.result
       c.loop-n.invariant.1 c.loop-n.invariant.0 c.wanted-want.ensures c.front-1.given.0,
   read_short c.loop-n.front c.arrive.new.buffer c.loop-n.n c.wanted-want.result

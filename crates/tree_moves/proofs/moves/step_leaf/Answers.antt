@@ -1,7 +1,7 @@
 -- `tree_moves::moves::step_leaf` meets its contract: the first i results of the leaf are held, and what is left gives
 -- what was left at the start; the slot is as it was. Assumes nothing.
-use Prim.Native.Nat.{◌-◌}
 use native.Mathlib.Omega.{arith}
+use Rattle.std.proofs.lemmas.Result.{err_from_is_err_and}
 use mathlib.Core.Path.{refl, ap, ◌∙◌}
 use lib.ListN.{length}
 use Rattle.index.specs.Facts.{terms_few}
@@ -20,7 +20,7 @@ bounds-src-p c =
 
 pub overflow_add-t : goal.overflow_add-t
 overflow_add-t c =
-    omega (arith, c.term_of-t.ensures, c.requires.steps_leaf.active.within, terms_few c.requires.indexed)
+    omega (arith, c.term_of-t.ensures, c.requires.steps_leaf.active.within, terms_few c.args.table.now.indexed)
 
 pub remember-m-requires : goal.remember-m-requires
 remember-m-requires c =
@@ -29,7 +29,6 @@ remember-m-requires c =
 pub branches-b-requires : goal.branches-b-requires
 branches-b-requires c =
     record {
-      indexed = c.requires.indexed;
       n_bound = leaf_known c.requires.steps_leaf _ _ _ c.term_of-t.ensures c.memory_of.ensures.0 c.remember-m.ensures.0;
     }
 
@@ -44,7 +43,6 @@ loop-i-init c =
 pub resolve_into-requires : goal.resolve_into-requires
 resolve_into-requires c =
     record {
-      indexed = c.requires.indexed;
       resolves = rw c.loop-i.invariant.3 (leaf_resolves c.requires.steps_leaf _ _ _ c.term_of-t.ensures c.memory_of.ensures.0 c.remember-m.ensures.0 _ c.branches-b.ensures.0 _ c.loop-i-test.true);
       m_lt_memory_bound = c.remember-m.ensures.1;
     }
@@ -60,7 +58,6 @@ overflow_sub-n c =
 pub rebuild-requires : goal.rebuild-requires
 rebuild-requires c =
     record {
-      indexed = c.requires.indexed;
       rebuilds = leaf_rebuilds c.requires.steps_leaf _ _ _ c.term_of-t.ensures c.memory_of.ensures.0 c.remember-m.ensures.0 _ c.branches-b.ensures.0 _
           c.loop-i-test.true _ (rw c.loop-i.invariant.3 at c.resolve_into.ensures);
     }
@@ -79,20 +76,12 @@ pop_to-requires c =
     c.remember-m.ensures.0 _ c.branches-b.ensures.0 _ c.loop-i-test.true _
     (rw c.loop-i.invariant.3 at c.resolve_into.ensures) _ c.rebuild.ensures
 
-pub overflow_add-i : goal.overflow_add-i
-overflow_add-i c =
-    omega (arith, c.loop-i-test.true, c.branches-b.ensures.1)
-
-pub loop-i-smaller : goal.loop-i-smaller
-loop-i-smaller c =
-    omega (arith, c.loop-i-test.true)
-
 pub loop-i-preserved : goal.loop-i-preserved
 loop-i-preserved c =
     let o = (rw c.loop-i.invariant.3 at c.resolve_into.ensures) in
     let q = leaf_next c.requires.steps_leaf _ _ _ c.term_of-t.ensures c.memory_of.ensures.0
     c.remember-m.ensures.0 _ c.branches-b.ensures.0 _ c.loop-i-test.true _ o
-    _ c.rebuild.ensures _ _ _ _ c.put-held.ensures _ c.in-Count.is in
+    _ c.rebuild.ensures _ _ _ _ c.put-held.ensures _ c.in_ok-c.was in
     let back = leaf_back c.requires.steps_leaf _ _ _ c.term_of-t.ensures c.memory_of.ensures.0 c.remember-m.ensures.0 _ c.branches-b.ensures.0 _ c.loop-i-test.true
     _ o _ c.rebuild.ensures _ refl in (
       c.put-held.auto.area ∙ c.loop-i.invariant.0,
@@ -102,21 +91,22 @@ loop-i-preserved c =
           back,
     )
 
-pub shape_of-slot-in-Exceeded : goal.shape_of-slot-in-Exceeded
-shape_of-slot-in-Exceeded c =
+pub shape_of-slot-in_err-c : goal.shape_of-slot-in_err-c
+shape_of-slot-in_err-c c =
     ap length (c.pop_to.ensures ∙ leaf_back c.requires.steps_leaf _ _ _ c.term_of-t.ensures
     c.memory_of.ensures.0 c.remember-m.ensures.0 _ c.branches-b.ensures.0
     _ c.loop-i-test.true _ (rw c.loop-i.invariant.3 at c.resolve_into.ensures) _
     c.rebuild.ensures _ refl)
 
-pub returns-in-Exceeded : goal.returns-in-Exceeded
-returns-in-Exceeded c =
+pub returns-in_err-c : goal.returns-in_err-c
+returns-in_err-c c =
     let o = (rw c.loop-i.invariant.3 at c.resolve_into.ensures) in
-    let full = leaf_exceeded c.requires.steps_leaf _ _ _ c.term_of-t.ensures c.memory_of.ensures.0 c.remember-m.ensures.0 _ c.branches-b.ensures.0 _ c.loop-i-test.true _ o _ c.rebuild.ensures _ _ _ _ c.put-held.ensures c.in-Exceeded.is
+    let full = leaf_exceeded c.requires.steps_leaf _ _ _ c.term_of-t.ensures c.memory_of.ensures.0 c.remember-m.ensures.0 _ c.branches-b.ensures.0 _ c.loop-i-test.true _ o _ c.rebuild.ensures _ _ _ _ c.put-held.ensures c.in_err-c.was
     in
     let back = leaf_back c.requires.steps_leaf _ _ _ c.term_of-t.ensures c.memory_of.ensures.0 c.remember-m.ensures.0 _ c.branches-b.ensures.0 _ c.loop-i-test.true
     _ o _ c.rebuild.ensures _ refl in
-    (record { same = full ∙ c.loop-i.invariant.2; fits = omega arith }, c.pop_to.ensures ∙ back)
+    let p = err_from_is_err_and c.from_residual.result c.from_residual.ensures.1 in
+    rw p.1 (record { same = full ∙ c.loop-i.invariant.2; fits = omega arith }, c.pop_to.ensures ∙ back)
 
 pub returns : goal.returns
 returns c = (

@@ -25,13 +25,12 @@ overflow_add-term_of c =
       c.term_of.ensures,
       (c.requires.carries.single c.if-marks-eq0.false).active.within,
       terms_few
-          c.requires.indexed,
+          c.args.table.now.indexed,
     )
 
 pub resolve_into-requires : goal.resolve_into-requires
 resolve_into-requires c =
     record {
-      indexed = c.requires.indexed;
       resolves = carry_resolves c.requires.carries c.if-marks-eq0.false _ _ _ c.term_of.ensures
           c.memory_of.ensures.0 c.remember-m.ensures.0;
       m_lt_memory_bound = c.remember-m.ensures.1;

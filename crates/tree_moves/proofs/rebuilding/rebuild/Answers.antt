@@ -2,16 +2,14 @@
 -- there on are left; the nodes that are left have room. Assumes nothing.
 use native.Mathlib.Omega.{arith}
 use mathlib.Core.Path.{refl, ◌∙◌}
-use Prim.Native.Nat.{◌-◌}
-use lib.ListN.{length-set}
 use Rattle.index.specs.Facts.{terms_few}
-use Rattle.resolving.specs.ResidualWords.{pushed}
 use Rattle.resolving.specs.ResidualWords.Descent.{landed_nowhere, landed_leaf, landed_pair}
 use Rattle.resolving.specs.Lawful.{event_small}
 use Rattle.tree_ways.specs.Only.Following.{carry_resolves, carry_moved}
 use Rattle.tree_ways.specs.Only.Rebuilding.{rebuild_first, rebuild_room, rebuild_keep}
 use Rattle.tree_ways.specs.Only.Rebuilding.{rebuild_carries, rebuild_carry, rebuild_last}
 use Rattle.tree_moves.proofs.rebuilding.rebuild.Goals as goal
+use Rattle.tree_moves.proofs.rebuilding.rebuild.Goals.{in-Leaf, in-Pair}
 
 pub loop-j-init : goal.loop-j-init
 loop-j-init c =
@@ -29,19 +27,12 @@ pub bounds-area-p : goal.bounds-area-p
 bounds-area-p c =
     omega (arith, c.requires.rebuilds.inside, c.loop-j-test.true)
 
-pub overflow_add-j : goal.overflow_add-j
-overflow_add-j c = omega (arith, c.loop-j-test.true)
-
-pub loop-j-smaller-then-m-eq0 : goal.loop-j-smaller-then-m-eq0
-loop-j-smaller-then-m-eq0 c = omega (arith, c.loop-j-test.true)
-
 pub loop-j-preserved-then-m-eq0 : goal.loop-j-preserved-then-m-eq0
-unfolding pushed
 loop-j-preserved-then-m-eq0 c =
     let next = rebuild_keep c.requires.rebuilds _ _ _ c.loop-j-test.true c.loop-j.invariant.3 _ refl
     c.if-m-eq0.true in
     let space = rebuild_room c.requires.rebuilds _ _ _ (omega (arith, c.loop-j-test.true)) next in
-    (omega (arith, c.loop-j-test.true), space.0, space.1, next)
+    rw c.push_into.ensures (omega (arith, c.loop-j-test.true), space.0, space.1, next)
 
 pub overflow_add-t : goal.overflow_add-t
 overflow_add-t c =
@@ -51,7 +42,7 @@ overflow_add-t c =
       arith,
       c.term_of-t.ensures,
       (carries.single c.if-m-eq0.false).active.within,
-      terms_few c.requires.indexed,
+      terms_few c.args.table.now.indexed,
     )
 
 pub remember-x-requires : goal.remember-x-requires
@@ -62,7 +53,6 @@ pub descend-requires : goal.descend-requires
 descend-requires c =
     let carries = rebuild_carries c.requires.rebuilds _ _ _ c.loop-j-test.true c.loop-j.invariant.3
     _ refl in record {
-      indexed = c.requires.indexed;
       resolves = carry_resolves carries c.if-m-eq0.false _ _ _ c.term_of-t.ensures
           c.memory_of.ensures.0 c.remember-x.ensures.0;
       m_lt_memory_bound = c.remember-x.ensures.1;
@@ -71,55 +61,32 @@ descend-requires c =
 pub returns-in-Nothing : goal.returns-in-Nothing
 returns-in-Nothing c = landed_nowhere _ _ _ _ _ _ c.descend.ensures c.in-Nothing.is
 
-pub bounds-slot-0-in-Leaf-2 : goal.bounds-slot-0-in-Leaf-2
-bounds-slot-0-in-Leaf-2 c =
-    simp length-set (omega (arith, c.loop-j.invariant.1))
-
-pub overflow_add-j-in-Leaf : goal.overflow_add-j-in-Leaf
-overflow_add-j-in-Leaf c =
-    omega (arith, c.loop-j-test.true)
-
-pub loop-j-smaller-in-Leaf : goal.loop-j-smaller-in-Leaf
-loop-j-smaller-in-Leaf c =
-    omega (arith, c.loop-j-test.true)
-
-pub loop-j-preserved-in-Leaf : goal.loop-j-preserved-in-Leaf
-unfolding pushed
-loop-j-preserved-in-Leaf c =
-    let carries = rebuild_carries c.requires.rebuilds _ _ _ c.loop-j-test.true c.loop-j.invariant.3
-    _ refl in
-    let here = landed_leaf _ _ _ _ _ _ c.descend.ensures _ c.in-Leaf.is in
-    let next = rebuild_carry c.requires.rebuilds _ _ _ c.loop-j-test.true c.loop-j.invariant.3 _
-    refl _ (carry_moved carries c.if-m-eq0.false _ _ _ c.term_of-t.ensures c.memory_of.ensures.0 c.remember-x.ensures.0 _ here.1) in
-    let space = rebuild_room c.requires.rebuilds _ _ _ (omega (arith, c.loop-j-test.true)) next in
-    (omega (arith, c.loop-j-test.true), space.0, space.1, next)
-
 pub term_into-requires : goal.term_into-requires
 term_into-requires c =
     let q = landed_pair _ _ _ _ _ _ c.descend.ensures _ _ _ _ c.in-Pair.is in
     record {
-      indexed = c.requires.indexed;
       resolves = q.0;
       m_lt_memory_bound = q.1;
     }
-
-pub overflow_add-j-in-Pair : goal.overflow_add-j-in-Pair
-overflow_add-j-in-Pair c =
-    omega (arith, c.loop-j-test.true)
-
-pub loop-j-smaller : goal.loop-j-smaller
-loop-j-smaller c =
-    omega (arith, c.loop-j-test.true)
 
 pub loop-j-preserved : goal.loop-j-preserved
 loop-j-preserved c =
     let carries = rebuild_carries c.requires.rebuilds _ _ _ c.loop-j-test.true c.loop-j.invariant.3
     _ refl in
-    let here = landed_pair _ _ _ _ _ _ c.descend.ensures _ _ _ _ c.in-Pair.is in
-    let next = rebuild_carry c.requires.rebuilds _ _ _ c.loop-j-test.true c.loop-j.invariant.3 _
-    refl _ (carry_moved carries c.if-m-eq0.false _ _ _ c.term_of-t.ensures c.memory_of.ensures.0 c.remember-x.ensures.0 _ (c.term_into.ensures ∙ here.2)) in
-    let space = rebuild_room c.requires.rebuilds _ _ _ (omega (arith, c.loop-j-test.true)) next in
-    (omega (arith, c.loop-j-test.true), space.0, space.1, next)
+    elim c.match-descend.branch [
+      | in-Leaf w ↦
+          let here = landed_leaf _ _ _ _ _ _ c.descend.ensures _ w.in-Leaf.is in
+          let next = rebuild_carry c.requires.rebuilds _ _ _ c.loop-j-test.true c.loop-j.invariant.3 _
+          refl _ (carry_moved carries c.if-m-eq0.false _ _ _ c.term_of-t.ensures c.memory_of.ensures.0 c.remember-x.ensures.0 _ here.1) in
+          let space = rebuild_room c.requires.rebuilds _ _ _ (omega (arith, c.loop-j-test.true)) next in
+          rw (w.slot-is, w.push_into-in-Leaf.ensures) (omega (arith, c.loop-j-test.true), space.0, space.1, next)
+      | in-Pair w ↦
+          let here = landed_pair _ _ _ _ _ _ c.descend.ensures _ _ _ _ w.in-Pair.is in
+          let next = rebuild_carry c.requires.rebuilds _ _ _ c.loop-j-test.true c.loop-j.invariant.3 _
+          refl _ (carry_moved carries c.if-m-eq0.false _ _ _ c.term_of-t.ensures c.memory_of.ensures.0 c.remember-x.ensures.0 _ (w.term_into.ensures ∙ here.2)) in
+          let space = rebuild_room c.requires.rebuilds _ _ _ (omega (arith, c.loop-j-test.true)) next in
+          rw w.slot-is (omega (arith, c.loop-j-test.true), space.0, space.1, next)
+    ]
 
 pub returns : goal.returns
 returns c =

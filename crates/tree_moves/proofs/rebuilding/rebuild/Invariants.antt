@@ -8,8 +8,5 @@ use Rattle.tree_moves.proofs.rebuilding.rebuild.Given as goal
 
 abbrev pub invariant-loop-j : goal.invariant-loop-j
 invariant-loop-j l =
-    (l.j ≤ l.n) × (length l.slot ≡ 16) × (get_or l.slot 0 0 + (l.n - l.j) ≤ 15) × Rebuilding (table_in l.list) l.e l.area l.p l.n l.marks l.initial.slot
+    (l.j ≤ l.n) × (length l.slot ≡ 16) × (get_or l.slot 0 0 + (l.n - l.j) ≤ 15) × Rebuilding (table_in l.table.list.now) l.e l.area l.p l.n l.marks l.initial.slot
     l.slot l.m l.j
-
-abbrev pub decreases-loop-j : goal.decreases-loop-j
-decreases-loop-j l = l.n - l.j

@@ -2,8 +2,8 @@
 -- `Course/Places.antt`, `Course/Pairs.antt` or `Course/Leaves.antt` per way out. A leaf's loop: the slot is as it was,
 -- and what is left of its results gives what was left at the start. The measure is the nodes left; for the same node a
 -- walk stands above a pair and a leaf, and those above a node that is kept. Assumes nothing.
-use Prim.Native.Nat.{◌-◌}
 use native.Mathlib.Omega.{arith}
+use Rattle.std.proofs.lemmas.Result.{err_from_is_err_and}
 use mathlib.Core.Path.{refl, sym, ap, ◌∙◌}
 use mathlib.Core.Logic.{inr}
 use lib.ListN.{length}
@@ -41,7 +41,6 @@ walk-bounds-store-k t c =
 pub walk-is_pair-pair-requires : goal.walk-is_pair-pair-requires
 walk-is_pair-pair-requires t c =
     record {
-      indexed = c.requires.indexed;
       w_bound = (known c.requires.ready _ _ _ _ _ c.requires.place c.if-n-k.false).within;
     }
 
@@ -57,17 +56,14 @@ pub walk-walk_kept-requires : goal.walk-walk_kept-requires
 walk-walk_kept-requires t c = (
   omega (arith, c.decreases, c.requires.ready.few, c.if-n-k.false),
   (
-    c.requires.indexed,
+    c.requires.ready,
     (
-      c.requires.ready,
-      (
-        c.requires.place.clean,
-        next_place c.requires.ready _ _ _ _ _ c.requires.place c.if-n-k.false _ _ _
-            (omega arith) c.requires.place.held
-            (next_kept c.requires.ready _ _ _ _ _ c.requires.place c.if-n-k.false
-            (kind_yes _ _ 4 c.is_pair-pair.ensures
-            c.if-pair.true)),
-      ),
+      c.requires.place.clean,
+      next_place c.requires.ready _ _ _ _ _ c.requires.place c.if-n-k.false _ _ _
+          (omega arith) c.requires.place.held
+          (next_kept c.requires.ready _ _ _ _ _ c.requires.place c.if-n-k.false
+          (kind_yes _ _ 4 c.is_pair-pair.ensures
+          c.if-pair.true)),
     ),
   ),
 )
@@ -84,17 +80,14 @@ pub walk-walk_kept-requires-then-modes-eq0 : goal.walk-walk_kept-requires-then-m
 walk-walk_kept-requires-then-modes-eq0 t c = (
   omega (arith, c.decreases, c.requires.ready.few, c.if-n-k.false),
   (
-    c.requires.indexed,
+    c.requires.ready,
     (
-      c.requires.ready,
-      (
-        c.requires.place.clean,
-        next_place c.requires.ready _ _ _ _ _ c.requires.place c.if-n-k.false _ _ _
-            (omega arith) c.requires.place.held
-            (next_leaf c.requires.ready _ _ _ _ _ c.requires.place c.if-n-k.false
-            (kind_no _ _ 4 c.is_pair-pair.ensures
-            c.if-pair.false)),
-      ),
+      c.requires.place.clean,
+      next_place c.requires.ready _ _ _ _ _ c.requires.place c.if-n-k.false _ _ _
+          (omega arith) c.requires.place.held
+          (next_leaf c.requires.ready _ _ _ _ _ c.requires.place c.if-n-k.false
+          (kind_no _ _ 4 c.is_pair-pair.ensures
+          c.if-pair.false)),
     ),
   ),
 )
@@ -111,14 +104,11 @@ pub walk-walk_pair-requires : goal.walk-walk_pair-requires
 walk-walk_pair-requires t c = (
   omega (arith, c.decreases, c.requires.ready.few, c.if-n-k.false),
   (
-    c.requires.indexed,
+    c.requires.ready,
     (
-      c.requires.ready,
-      (
-        odd_place _ _ _ _ _ _ _ _ c.if-modes-eq0.false c.requires.place,
-        c.if-n-k.false,
-        kind_yes _ _ 4 c.is_pair-pair.ensures c.if-pair-2.true,
-      ),
+      odd_place _ _ _ _ _ _ _ _ c.if-modes-eq0.false c.requires.place,
+      c.if-n-k.false,
+      kind_yes _ _ 4 c.is_pair-pair.ensures c.if-pair-2.true,
     ),
   ),
 )
@@ -133,14 +123,11 @@ pub walk-walk_leaf-requires : goal.walk-walk_leaf-requires
 walk-walk_leaf-requires t c = (
   omega (arith, c.decreases, c.requires.ready.few, c.if-n-k.false),
   (
-    c.requires.indexed,
+    c.requires.ready,
     (
-      c.requires.ready,
-      (
-        odd_place _ _ _ _ _ _ _ _ c.if-modes-eq0.false c.requires.place,
-        c.if-n-k.false,
-        kind_no _ _ 4 c.is_pair-pair.ensures c.if-pair-2.false,
-      ),
+      odd_place _ _ _ _ _ _ _ _ c.if-modes-eq0.false c.requires.place,
+      c.if-n-k.false,
+      kind_no _ _ 4 c.is_pair-pair.ensures c.if-pair-2.false,
     ),
   ),
 )
@@ -175,12 +162,9 @@ pub walk_kept-walk-held-requires : goal.walk_kept-walk-held-requires
 walk_kept-walk-held-requires t c = (
   omega (arith, c.decreases, c.requires.ready.few, c.requires.clean.1.last),
   (
-    c.requires.indexed,
-    (
-      c.requires.ready,
-      kept_place _ _ _ _ _ _ _ _ c.requires.clean.0 c.requires.clean.1 _
-          c.push_into.ensures,
-    ),
+    c.requires.ready,
+    kept_place _ _ _ _ _ _ _ _ c.requires.clean.0 c.requires.clean.1 _
+        c.push_into.ensures,
   ),
 )
 
@@ -277,13 +261,12 @@ walk_leaf-overflow_add-t t c =
       arith,
       c.term_of-t.ensures,
       (known c.requires.ready _ _ _ _ _ c.requires.place.0 c.requires.place.1).within,
-      terms_few c.requires.indexed,
+      terms_few c.args.table.now.indexed,
     )
 
 pub walk_leaf-resolve_into-requires : goal.walk_leaf-resolve_into-requires
 walk_leaf-resolve_into-requires t c =
     record {
-      indexed = c.requires.indexed;
       resolves = go_resolves c.requires.ready _ _ _ _ _ c.requires.place.0 c.requires.place.1
           c.requires.place.2 _ _ c.loop-j-test.true refl _ _ _
           c.term_of-t.ensures c.memory_of.ensures.0 c.remember-m.ensures.0 _
@@ -299,14 +282,11 @@ pub walk_leaf-walk-held-requires : goal.walk_leaf-walk-held-requires
 walk_leaf-walk-held-requires t c = (
   omega (arith, c.decreases, c.requires.ready.few, c.requires.place.1),
   (
-    c.requires.indexed,
-    (
-      c.requires.ready,
-      go_place c.requires.ready _ _ _ _ _ c.requires.place.0 c.requires.place.1
-          c.requires.place.2 _ _ c.loop-j-test.true refl _ _ _ c.term_of-t.ensures
-          c.memory_of.ensures.0 c.remember-m.ensures.0 _ c.loop-j.invariant.0 _
-          c.resolve_into.ensures _ _ c.loop-j.invariant.3,
-    ),
+    c.requires.ready,
+    go_place c.requires.ready _ _ _ _ _ c.requires.place.0 c.requires.place.1
+        c.requires.place.2 _ _ c.loop-j-test.true refl _ _ _ c.term_of-t.ensures
+        c.memory_of.ensures.0 c.remember-m.ensures.0 _ c.loop-j.invariant.0 _
+        c.resolve_into.ensures _ _ c.loop-j.invariant.3,
   ),
 )
 
@@ -319,23 +299,12 @@ walk_leaf-pop_to-requires t c =
     c.resolve_into.ensures c.loop-j.area c.loop-j.c c.loop-j.invariant.3) _
     c.walk-held.ensures.1
 
-pub walk_leaf-overflow_add-j : goal.walk_leaf-overflow_add-j
-walk_leaf-overflow_add-j t c =
-    omega (
-      arith,
-      c.requires.ready.size,
-      c.requires.ready.few,
-      c.requires.place.1,
-      leaf_few c.requires.ready _ _ _ _ _ c.requires.place.0 c.requires.place.1
-          c.requires.place.2 _ _ c.loop-j-test.true refl,
-    )
-
 pub walk_leaf-loop-j-preserved : goal.walk_leaf-loop-j-preserved
 walk_leaf-loop-j-preserved t c =
     let q = go_next c.requires.ready _ _ _ _ _ c.requires.place.0 c.requires.place.1
     c.requires.place.2 _ _ c.loop-j-test.true refl _ _ _ c.term_of-t.ensures
     c.memory_of.ensures.0 c.remember-m.ensures.0 _ c.loop-j.invariant.0 _
-    c.resolve_into.ensures _ _ _ _ c.walk-held.ensures.0 _ c.in-Count.is in (
+    c.resolve_into.ensures _ _ _ _ c.walk-held.ensures.0 _ c.in_ok-c.was in (
       go_back c.requires.ready _ _ _ _ _ c.requires.place.0 c.requires.place.1
           c.requires.place.2 _ _ c.loop-j-test.true refl _ _ _ c.term_of-t.ensures
           c.memory_of.ensures.0 c.remember-m.ensures.0 _ c.loop-j.invariant.0 _
@@ -346,8 +315,8 @@ walk_leaf-loop-j-preserved t c =
       q.0 ∙ c.loop-j.invariant.4,
     )
 
-pub walk_leaf-shape_of-slot-in-Exceeded : goal.walk_leaf-shape_of-slot-in-Exceeded
-walk_leaf-shape_of-slot-in-Exceeded t c =
+pub walk_leaf-shape_of-slot-in_err-c : goal.walk_leaf-shape_of-slot-in_err-c
+walk_leaf-shape_of-slot-in_err-c t c =
     ap length
     (go_back c.requires.ready _ _ _ _ _ c.requires.place.0 c.requires.place.1
     c.requires.place.2 _ _ c.loop-j-test.true refl _ _ _ c.term_of-t.ensures
@@ -355,23 +324,25 @@ walk_leaf-shape_of-slot-in-Exceeded t c =
     c.resolve_into.ensures _ _ c.walk-held.ensures.1
     c.pop_to.ensures)
 
-pub walk_leaf-returns-in-Exceeded : goal.walk_leaf-returns-in-Exceeded
-walk_leaf-returns-in-Exceeded t c = (
-  record {
-    same = go_exceeded c.requires.ready _ _ _ _ _ c.requires.place.0 c.requires.place.1
-        c.requires.place.2 _ _ c.loop-j-test.true refl _ _ _ c.term_of-t.ensures
-        c.memory_of.ensures.0 c.remember-m.ensures.0 _ c.loop-j.invariant.0 _
-        c.resolve_into.ensures _ _ _ _ c.walk-held.ensures.0 c.in-Exceeded.is ∙
-        c.loop-j.invariant.4 ∙ leaf_start c.requires.ready _ _ _ _ _ c.requires.place.0
-        c.requires.place.1 c.requires.place.2;
-    fits = omega arith;
-  },
-  go_back c.requires.ready _ _ _ _ _ c.requires.place.0 c.requires.place.1
-      c.requires.place.2 _ _ c.loop-j-test.true refl _ _ _ c.term_of-t.ensures
-      c.memory_of.ensures.0 c.remember-m.ensures.0 _ c.loop-j.invariant.0 _
-      c.resolve_into.ensures _ _ c.walk-held.ensures.1
-      c.pop_to.ensures,
-)
+pub walk_leaf-returns-in_err-c : goal.walk_leaf-returns-in_err-c
+walk_leaf-returns-in_err-c t c =
+    let p = err_from_is_err_and c.from_residual.result c.from_residual.ensures.1 in
+    rw p.1 (
+      record {
+        same = go_exceeded c.requires.ready _ _ _ _ _ c.requires.place.0 c.requires.place.1
+            c.requires.place.2 _ _ c.loop-j-test.true refl _ _ _ c.term_of-t.ensures
+            c.memory_of.ensures.0 c.remember-m.ensures.0 _ c.loop-j.invariant.0 _
+            c.resolve_into.ensures _ _ _ _ c.walk-held.ensures.0 c.in_err-c.was ∙
+            c.loop-j.invariant.4 ∙ leaf_start c.requires.ready _ _ _ _ _ c.requires.place.0
+            c.requires.place.1 c.requires.place.2;
+        fits = omega arith;
+      },
+      go_back c.requires.ready _ _ _ _ _ c.requires.place.0 c.requires.place.1
+          c.requires.place.2 _ _ c.loop-j-test.true refl _ _ _ c.term_of-t.ensures
+          c.memory_of.ensures.0 c.remember-m.ensures.0 _ c.loop-j.invariant.0 _
+          c.resolve_into.ensures _ _ c.walk-held.ensures.1
+          c.pop_to.ensures,
+    )
 
 pub walk_leaf-returns : goal.walk_leaf-returns
 walk_leaf-returns t c = (
@@ -419,7 +390,6 @@ walk_pair-overflow_mul-kept t c =
 pub walk_pair-holds_at-requires : goal.walk_pair-holds_at-requires
 walk_pair-holds_at-requires t c =
     record {
-      indexed = c.requires.indexed;
       known_word = known c.requires.ready _ _ _ _ _ c.requires.place.0 c.requires.place.1;
       fact = inr c.requires.place.2;
       e_bound = c.requires.ready.event;
@@ -433,13 +403,10 @@ pub walk_pair-walk_kept-requires : goal.walk_pair-walk_kept-requires
 walk_pair-walk_kept-requires t c = (
   omega (arith, c.decreases, c.requires.ready.few, c.requires.place.1),
   (
-    c.requires.indexed,
-    (
-      c.requires.ready,
-      pair_place c.requires.ready _ _ _ _ _ c.requires.place.0 c.requires.place.1
-          c.requires.place.2 c.if-store-k-eq0.false _ _ _ _ (omega arith) (omega arith) (refl)
-          c.requires.place.0.held,
-    ),
+    c.requires.ready,
+    pair_place c.requires.ready _ _ _ _ _ c.requires.place.0 c.requires.place.1
+        c.requires.place.2 c.if-store-k-eq0.false _ _ _ _ (omega arith) (omega arith) (refl)
+        c.requires.place.0.held,
   ),
 )
 
@@ -459,50 +426,46 @@ pub walk_pair-walk_kept-requires-2 : goal.walk_pair-walk_kept-requires-2
 walk_pair-walk_kept-requires-2 t c = (
   omega (arith, c.decreases, c.requires.ready.few, c.requires.place.1),
   (
-    c.requires.indexed,
-    (
-      c.requires.ready,
-      pair_place c.requires.ready _ _ _ _ _ c.requires.place.0 c.requires.place.1
-          c.requires.place.2 c.if-store-k-eq0.false _ _ _ _ (omega arith) (omega arith) (refl)
-          c.requires.place.0.held,
-    ),
+    c.requires.ready,
+    pair_place c.requires.ready _ _ _ _ _ c.requires.place.0 c.requires.place.1
+        c.requires.place.2 c.if-store-k-eq0.false _ _ _ _ (omega arith) (omega arith) (refl)
+        c.requires.place.0.held,
   ),
 )
 
-pub walk_pair-overflow_add-kept-in-Count : goal.walk_pair-overflow_add-kept-in-Count
-walk_pair-overflow_add-kept-in-Count t c =
+pub walk_pair-overflow_add-kept-3 : goal.walk_pair-overflow_add-kept-3
+walk_pair-overflow_add-kept-3 t c =
     omega (arith, bits_fit c.requires.ready _ _ _ _ _ c.requires.place.0 c.requires.place.1)
 
-pub walk_pair-walk_kept-requires-in-Count : goal.walk_pair-walk_kept-requires-in-Count
-walk_pair-walk_kept-requires-in-Count t c = (
+pub walk_pair-walk_kept-requires-3 : goal.walk_pair-walk_kept-requires-3
+walk_pair-walk_kept-requires-3 t c = (
   omega (arith, c.decreases, c.requires.ready.few, c.requires.place.1),
   (
-    c.requires.indexed,
-    (
-      c.requires.ready,
-      pair_place c.requires.ready _ _ _ _ _ c.requires.place.0 c.requires.place.1
-          c.requires.place.2 c.if-store-k-eq0.false _ _ _ _ (omega arith) (omega arith)
-          c.walk_kept-2.ensures.1
-          (pair_room c.requires.ready _ _ _ _ _ c.requires.place.0 c.requires.place.1
-          c.requires.place.2 (sym c.holds_at.ensures ∙ c.if-holds_at.false) _ _
-          c.walk_kept-2.ensures.0 _ c.in-Count.is),
-    ),
+    c.requires.ready,
+    pair_place c.requires.ready _ _ _ _ _ c.requires.place.0 c.requires.place.1
+        c.requires.place.2 c.if-store-k-eq0.false _ _ _ _ (omega arith) (omega arith)
+        c.walk_kept-2.ensures.1
+        (pair_room c.requires.ready _ _ _ _ _ c.requires.place.0 c.requires.place.1
+        c.requires.place.2 (sym c.holds_at.ensures ∙ c.if-holds_at.false) _ _
+        c.walk_kept-2.ensures.0 _ c.in_ok-c.was),
   ),
 )
 
-pub walk_pair-returns-in-Count : goal.walk_pair-returns-in-Count
-walk_pair-returns-in-Count t c = (
+pub walk_pair-returns : goal.walk_pair-returns
+walk_pair-returns t c = (
   pair_then c.requires.ready _ _ _ _ _ c.requires.place.0 c.requires.place.1
       c.requires.place.2 (sym c.holds_at.ensures ∙ c.if-holds_at.false) _ _
-      c.walk_kept-2.ensures.0 _ c.in-Count.is _ c.walk_kept-2.ensures.1 _ _
-      c.walk_kept-in-Count.ensures.0,
-  c.walk_kept-in-Count.ensures.1 ∙ c.walk_kept-2.ensures.1,
+      c.walk_kept-2.ensures.0 _ c.in_ok-c.was _ c.walk_kept-2.ensures.1 _ _
+      c.walk_kept-3.ensures.0,
+  c.walk_kept-3.ensures.1 ∙ c.walk_kept-2.ensures.1,
 )
 
-pub walk_pair-returns-in-Exceeded : goal.walk_pair-returns-in-Exceeded
-walk_pair-returns-in-Exceeded t c = (
-  pair_exceeded c.requires.ready _ _ _ _ _ c.requires.place.0 c.requires.place.1
-      c.requires.place.2 (sym c.holds_at.ensures ∙ c.if-holds_at.false) _ _
-      c.walk_kept-2.ensures.0 c.in-Exceeded.is,
-  c.walk_kept-2.ensures.1,
-)
+pub walk_pair-returns-in_err-c : goal.walk_pair-returns-in_err-c
+walk_pair-returns-in_err-c t c =
+    let p = err_from_is_err_and c.from_residual.result c.from_residual.ensures.1 in
+    rw p.1 (
+      pair_exceeded c.requires.ready _ _ _ _ _ c.requires.place.0 c.requires.place.1
+          c.requires.place.2 (sym c.holds_at.ensures ∙ c.if-holds_at.false) _ _
+          c.walk_kept-2.ensures.0 c.in_err-c.was,
+      c.walk_kept-2.ensures.1,
+    )

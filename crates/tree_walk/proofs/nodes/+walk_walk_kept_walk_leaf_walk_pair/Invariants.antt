@@ -18,11 +18,8 @@ decreases-walk_leaf l = (16 - l.k) * 3 + 1
 abbrev pub invariant-walk_leaf-loop-j : goal.invariant-walk_leaf-loop-j
 invariant-walk_leaf-loop-j l =
     (l.slot ≡ l.initial.slot) × (l.j ≤ l.f) × (length l.area ≡ length l.initial.area) × (l.c * 16 ≤ length l.area)
-    × (leaf_rest (table_in l.list) l.e l.store l.k l.rest l.initial.slot l.area l.c l.j ≡ leaf_rest (table_in l.list) l.e l.store l.k l.rest l.initial.slot l.initial.area l.count
+    × (leaf_rest (table_in l.table.list.now) l.e l.store l.k l.rest l.initial.slot l.area l.c l.j ≡ leaf_rest (table_in l.table.list.now) l.e l.store l.k l.rest l.initial.slot l.initial.area l.count
     0)
-
-abbrev pub decreases-walk_leaf-loop-j : goal.decreases-walk_leaf-loop-j
-decreases-walk_leaf-loop-j l = l.f - l.j
 
 abbrev pub decreases-walk_pair : goal.decreases-walk_pair
 decreases-walk_pair l = (16 - l.k) * 3 + 1

@@ -16,7 +16,6 @@ holds_at-requires c =
     let asked = c.requires in
     let kind = sym c.kind_at.ensures ∙ c.in-2.is in
     record {
-      indexed = asked.indexed;
       known_word = asked.known_word;
       fact = inl kind;
       e_bound = asked.e_bound.0;
@@ -25,7 +24,7 @@ holds_at-requires c =
 pub overflow_add-term_of : goal.overflow_add-term_of
 overflow_add-term_of c =
     let asked = c.requires in
-    omega (arith, c.term_of.ensures, asked.known_word.within, terms_few asked.indexed)
+    omega (arith, c.term_of.ensures, asked.known_word.within, terms_few c.args.table.now.indexed)
 
 pub branches-requires : goal.branches-requires
 unfolding kind_at
@@ -33,7 +32,6 @@ branches-requires c =
     let asked = c.requires in
     let kind = sym c.kind_at.ensures ∙ c.in-2.is in
     record {
-      indexed = asked.indexed;
       n_bound = rw c.term_of.ensures (follower_in _ _ asked.known_word.within kind);
     }
 

@@ -41,7 +41,6 @@ is_pair-requires c =
     let asked = c.requires in
     let some = c.loop-j-test.true in
     record {
-      indexed = asked.indexed;
       w_bound = (codes_known asked.e_bound.1 turn some).within;
     }
 
@@ -50,7 +49,6 @@ holds_at-held-requires c =
     let turn = c.loop-j.invariant in
     let asked = c.requires in
     let some = c.loop-j-test.true in record {
-      indexed = asked.indexed;
       known_word = codes_known asked.e_bound.1 turn some;
       fact = inr (kind_yes _ _ 4 c.is_pair.ensures c.if-is_pair.true);
       e_bound = asked.e_bound.0;
@@ -173,7 +171,6 @@ leaf_code-requires c =
     let asked = c.requires in
     let some = c.loop-j-test.true in
     record {
-      indexed = asked.indexed;
       known_word = codes_known asked.e_bound.1 turn some;
       e_bound = (asked.e_bound.0, (codes_inside asked.e_bound.1 turn some).1);
     }

@@ -14,7 +14,6 @@ pub leaf_code-requires : goal.leaf_code-requires
 leaf_code-requires c =
     let asked = c.requires in
     record {
-      indexed = asked.indexed;
       known_word = tree_known _ asked.e_bound.1.short.at;
       e_bound = (asked.e_bound.0, omega arith);
     }

@@ -22,7 +22,6 @@ overflow_add-next t c = omega (arith, tree_in _ c.requires.e_bound.1)
 pub kind_at-requires : goal.kind_at-requires
 kind_at-requires t c =
     record {
-      indexed = c.requires.indexed;
       w_bound = (tree_known _ c.requires.e_bound.1).within;
     }
 
@@ -30,7 +29,6 @@ kind_at-requires t c =
 pub leaf_takes-moves-requires : goal.leaf_takes-moves-requires
 leaf_takes-moves-requires t c =
     record {
-      indexed = c.requires.indexed;
       known_word = (tree_known _ c.requires.e_bound.1, (sym c.kind_at.ensures ∙ c.in-2.is));
       e_bound = c.requires.e_bound.0;
     }
@@ -40,11 +38,8 @@ pub takes_at-a-requires : goal.takes_at-a-requires
 takes_at-a-requires t c = (
   omega (arith, c.decreases, tree_in _ c.requires.e_bound.1),
   (
-    c.requires.indexed,
-    (
-      c.requires.e_bound.0,
-      tree_left _ c.requires.e_bound.1 (sym c.kind_at.ensures ∙ c.in-4.is),
-    ),
+    c.requires.e_bound.0,
+    tree_left _ c.requires.e_bound.1 (sym c.kind_at.ensures ∙ c.in-4.is),
   ),
 )
 
@@ -53,13 +48,12 @@ takes_at-b-requires t c =
     let g = tree_right _ c.requires.e_bound.1 (sym c.kind_at.ensures ∙ c.in-4.is)
     c.args.e _ c.takes_at-a.ensures in (
       omega (arith, c.decreases, tree_in _ c.requires.e_bound.1, g.1),
-      (c.requires.indexed, (c.requires.e_bound.0, g.0)),
+      (c.requires.e_bound.0, g.0),
     )
 
 pub holds_at-requires : goal.holds_at-requires
 holds_at-requires t c =
     record {
-      indexed = c.requires.indexed;
       known_word = tree_known _ c.requires.e_bound.1;
       fact = inr (sym c.kind_at.ensures ∙ c.in-4.is);
       e_bound = c.requires.e_bound.0;
@@ -71,7 +65,7 @@ pair_takes-moves-requires t c = tt
 pub returns-in-2 : goal.returns-in-2
 returns-in-2 t c =
     takes_prefix _ c.requires.e_bound.1 _ (sym c.kind_at.ensures ∙ c.in-2.is)
-    (lawful c.requires.indexed) _ c.leaf_takes-moves.ensures _ refl
+    (lawful c.args.table.now.indexed) _ c.leaf_takes-moves.ensures _ refl
 
 pub returns-in-4 : goal.returns-in-4
 returns-in-4 t c =

@@ -11,7 +11,6 @@ use Rattle.tree_ways.proofs.takes.leaf_takes.Goals as goal
 
 pub holds_at-requires : goal.holds_at-requires
 holds_at-requires c = record {
-  indexed = c.requires.indexed;
   known_word = c.requires.known_word.0;
   fact = inl c.requires.known_word.1;
   e_bound = c.requires.e_bound;
@@ -23,13 +22,12 @@ overflow_add-term_of c =
       arith,
       c.term_of.ensures,
       c.requires.known_word.0.within,
-      terms_few c.requires.indexed,
+      terms_few c.args.table.now.indexed,
     )
 
 pub branches-requires : goal.branches-requires
 unfolding kind_at
 branches-requires c = record {
-  indexed = c.requires.indexed;
   n_bound = rw c.term_of.ensures (follower_in _ _ c.requires.known_word.0.within
       c.requires.known_word.1);
 }

@@ -6,7 +6,6 @@ use Rattle.trying.proofs.trier.run_on_copy.Goals as goal
 pub take_all-requires : goal.take_all-requires
 take_all-requires c =
     record {
-      indexed = c.requires.indexed;
       standing = copy_stands _ c.args.state _ _ _ _ c.copy_words.ensures
           c.copy_words-2.ensures c.requires.standing;
     }

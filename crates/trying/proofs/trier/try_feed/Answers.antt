@@ -18,33 +18,38 @@ returns-then-further1-area1 c =
     let args = c.args in
     try_second args.list.now args.state _ _ _ _ _ _ c.if-further0-area0.false c.if-further1-area1.true
 
+pub invariant_of-table : goal.invariant_of-table
+invariant_of-table c =
+    let args = c.args in
+    let m = monitor_of args.state args.area0.now args.area1.now in
+    record { indexed = (feed_enters args.list.now m args.work.now _ _ c.enter_on.ensures c.in-Ok.is).0 }
+
 pub run_on_copy-answer-requires : goal.run_on_copy-answer-requires
 run_on_copy-answer-requires c =
     let args = c.args in
     let m = monitor_of args.state args.area0.now args.area1.now in
     let entered =
     feed_enters args.list.now m args.work.now _ _ c.enter_on.ensures
-    c.in-Accepted.is in
+    c.in-Ok.is in
     record {
-      indexed = entered.0;
       standing = entered.1;
       further0_len = c.if-further0-area0.false;
       further1_len = c.if-further1-area1.false;
     }
 
 -- it is entered
-pub returns-in-Accepted : goal.returns-in-Accepted
-returns-in-Accepted c =
+pub returns-in-Ok : goal.returns-in-Ok
+returns-in-Ok c =
     let args = c.args in
     try_fed args.list.now args.state args.area0.now args.area1.now args.further0.now
     args.further1.now args.events.now args.work.now _ _ c.enter_on.ensures c.if-further0-area0.false
-    c.if-further1-area1.false c.in-Accepted.is _ _ _ _ c.run_on_copy-answer.ensures
+    c.if-further1-area1.false c.in-Ok.is _ _ _ _ c.run_on_copy-answer.ensures
     c.clear_all.ensures (omega arith)
 
 -- it is refused
-pub returns-in-Declined : goal.returns-in-Declined
-returns-in-Declined c =
+pub returns-in-Err : goal.returns-in-Err
+returns-in-Err c =
     let args = c.args in
     try_declined args.list.now args.state args.area0.now args.area1.now args.further0.now
     args.further1.now args.events.now args.work.now _ _ c.enter_on.ensures c.if-further0-area0.false
-    c.if-further1-area1.false _ c.in-Declined.is
+    c.if-further1-area1.false _ c.in-Err.is

@@ -2,15 +2,16 @@
 use Rattle.course_spec.specs.Course.Laws.{turn_went, turn_unsaid, turn_stopped}
 use Rattle.turning.proofs.event.turn.Goals as goal
 
-pub returns-in-Written : goal.returns-in-Written
-returns-in-Written c =
-    turn_went _ _ _ _ _ _ _ _ c.trace_event.ensures _ _ c.in-Went.is _
-    c.say.ensures.spoken _ c.in-Written.is
-
-pub returns-in-Failed : goal.returns-in-Failed
-returns-in-Failed c = turn_unsaid _ _ _ _ _ _ _ _
-
-pub returns-in-Stopped : goal.returns-in-Stopped
-returns-in-Stopped c =
-    turn_stopped _ _ _ _ _ _ _ _ c.trace_event.ensures _ _ c.in-Stopped.is _
+-- it is refused
+pub returns-in-Err : goal.returns-in-Err
+returns-in-Err c =
+    turn_stopped _ _ _ _ _ _ _ _ c.trace_event.ensures _ c.in-Err.is _
     c.say_refusal.ensures
+
+pub returns-in-Ok-say : goal.returns-in-Ok-say
+returns-in-Ok-say c =
+    turn_went _ _ _ _ _ _ _ _ c.trace_event.ensures _ c.in-Ok.is _
+    c.say.ensures.spoken _ c.in-Ok-say.is
+
+pub returns-in-Err-say : goal.returns-in-Err-say
+returns-in-Err-say c = turn_unsaid _ _ _ _ _ _ _ _

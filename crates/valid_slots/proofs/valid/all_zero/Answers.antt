@@ -1,5 +1,5 @@
 -- `valid_slots::valid::all_zero` meets its contract. The invariant: the words from i on are zero exactly where those
--- from `from` on are. The measure is what is left of the length. Assumes nothing.
+-- from `from` on are. Assumes nothing.
 use mathlib.Core.Path.{◌∙◌}
 use Rattle.valid_slots.proofs.valid.ZeroTurn.{zero_next, zero_not, zero_done}
 use Rattle.valid_slots.proofs.valid.all_zero.Goals as goal

@@ -1,9 +1,15 @@
 -- `valid_slots::valid::plant` meets its contract: the kind of the word's term says which law gives the forest. Assumes
 -- nothing.
-use mathlib.Core.Path.{sym, ◌∙◌}
-use Rattle.valid_slots.specs.declared.valid.Forest.TheVariants.{Broken}
+use mathlib.Core.Path.{ap, sym, ◌∙◌}
+use Rattle.std.specs.Prelude.{None}
+use Rattle.valid_slots.specs.Walk.{with_leaf, paired}
 use Rattle.valid_slots.specs.Walk.Laws.{term_known, planted_unfit, planted_leaf, planted_par, planted_none}
+use Rattle.valid_slots.specs.Walk.Spelling.{broken_stays}
 use Rattle.valid_slots.proofs.valid.plant.Goals as goal
+
+-- no trees were spelled
+pub returns-in_err-trees : goal.returns-in_err-trees
+returns-in_err-trees c = rw (c.from_residual.ensures, c.in_err-trees.was) (sym (broken_stays _ _))
 
 pub returns-then-not-word_fits : goal.returns-then-not-word_fits
 returns-then-not-word_fits c = planted_unfit _ _ _ (sym c.word_fits.ensures ∙ c.if-not-word_fits.true)
@@ -15,7 +21,6 @@ kind-kind-requires c =
     let word-fits = c.word_fits in
     let fits = sym word-fits.ensures ∙ if1.false in
     record {
-      indexed = c.requires.indexed;
       n_bound = term_known _ _ _ term_of.ensures fits;
     }
 
@@ -26,7 +31,6 @@ reach-requires c =
     let word-fits = c.word_fits in
     let fits = sym word-fits.ensures ∙ if1.false in
     record {
-      indexed = c.requires.indexed;
       n_bound = term_known _ _ _ term_of.ensures fits;
     }
 
@@ -41,7 +45,7 @@ returns-in-0 c =
     let word-fits = c.word_fits in
     let fits = sym word-fits.ensures ∙ if1.false in
     planted_leaf _ _ _ _ _ _ fits term_of.ensures kind.ensures.0 arm.is _
-    reach.ensures.0 leaf.ensures
+    reach.ensures.0 (leaf.ensures ∙ ap (with_leaf reach.result) (sym c.in_ok-trees.was))
 
 pub returns-in-4 : goal.returns-in-4
 returns-in-4 c =
@@ -52,7 +56,8 @@ returns-in-4 c =
     let if1 = c.if-not-word_fits in
     let word-fits = c.word_fits in
     let fits = sym word-fits.ensures ∙ if1.false in
-    planted_par _ _ _ _ _ _ fits term_of.ensures kind.ensures.0 arm.is join.ensures
+    planted_par _ _ _ _ _ _ fits term_of.ensures kind.ensures.0 arm.is
+    (join.ensures ∙ ap paired (sym c.in_ok-trees.was))
 
 pub returns-in_default : goal.returns-in_default
 returns-in_default c =
@@ -62,5 +67,5 @@ returns-in_default c =
     let if1 = c.if-not-word_fits in
     let word-fits = c.word_fits in
     let fits = sym word-fits.ensures ∙ if1.false in
-    planted_none _ _ _ _ _ Broken fits term_of.ensures kind.ensures.0 arm.in_default-own.rest.0.1
+    planted_none _ _ _ _ _ None fits term_of.ensures kind.ensures.0 arm.in_default-own.rest.0.1
     arm.in_default-own.rest.1

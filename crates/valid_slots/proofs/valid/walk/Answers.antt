@@ -19,7 +19,6 @@ plant-forest-requires c =
     let loop-test = c.loop-i-test in
     let turn = c.loop-i in
     record {
-      indexed = c.requires.indexed;
       few = head_few _ _ _ c.requires.slot_len.0 c.requires.slot_len.1 _ _ loop-test.true turn.invariant;
     }
 
@@ -28,7 +27,7 @@ loop-i-preserved c =
     let plant = c.plant-forest in
     let loop-test = c.loop-i-test in
     let turn = c.loop-i in
-    head_next _ _ _ c.requires.slot_len.0 c.requires.slot_len.1 (reach_few c.requires.indexed) _ _ _
+    head_next _ _ _ c.requires.slot_len.0 c.requires.slot_len.1 (reach_few c.args.table.now.indexed) _ _ _
     loop-test.true turn.invariant plant.ensures
 
 pub returns : goal.returns

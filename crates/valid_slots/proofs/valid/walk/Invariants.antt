@@ -4,7 +4,7 @@ use Rattle.valid_slots.proofs.valid.WalkTurn.{Head}
 use Rattle.valid_slots.proofs.valid.walk.Given as goal
 
 abbrev pub invariant-loop-i : goal.invariant-loop-i
-invariant-loop-i l = Head (table_in l.list) l.slot l.n l.forest l.i
+invariant-loop-i l = Head (table_in l.table.list.now) l.slot l.n l.forest l.i
 
 abbrev pub decreases-loop-i : goal.decreases-loop-i
 decreases-loop-i l = l.i

@@ -7,7 +7,7 @@ use Rattle.wash_entering.proofs.entry.enter_timed.Goals as goal
 pub enter_wash-requires : goal.enter_wash-requires
 enter_wash-requires c =
     let args = c.args in
-    let told = c.in-Accepted.is in
+    let told = c.in-Ok.is in
     let long = timed_long args.everyday.now args.wash.now args.windows.now args.state
     args.area0.now args.area1.now args.events args.minutes
     args.work.now _ c.lent_fit.ensures _ _ c.enter.ensures told in record {
@@ -22,18 +22,18 @@ enter_wash-requires c =
           args.work.now _ c.lent_fit.ensures _ _ c.enter.ensures told;
     }
 
-pub returns-in-Accepted : goal.returns-in-Accepted
-returns-in-Accepted c =
+pub returns-in-Ok : goal.returns-in-Ok
+returns-in-Ok c =
     let args = c.args in
     timed_accepted args.everyday.now args.wash.now args.windows.now args.state args.area0.now
     args.area1.now args.events args.minutes
     args.work.now _ c.lent_fit.ensures _ _ c.enter.ensures
-    c.in-Accepted.is _ _ c.enter_wash.ensures
+    c.in-Ok.is _ _ c.enter_wash.ensures
 
-pub returns-in-Declined : goal.returns-in-Declined
-returns-in-Declined c =
+pub returns-in-Err : goal.returns-in-Err
+returns-in-Err c =
     let args = c.args in
     timed_declined args.everyday.now args.wash.now args.windows.now args.state args.area0.now
     args.area1.now args.events args.minutes
     args.work.now _ c.lent_fit.ensures _ _ c.enter.ensures _
-    c.in-Declined.is
+    c.in-Err.is

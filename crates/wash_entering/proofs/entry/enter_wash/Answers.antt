@@ -6,22 +6,22 @@ use Rattle.wash_entering.proofs.entry.enter_wash.Goals as goal
 
 pub schedule-requires : goal.schedule-requires
 schedule-requires c =
-    let index = (entered_open _ _ _ _ c.enter.ensures c.in-Accepted.is).1 in
+    let index = (entered_open _ _ _ _ c.enter.ensures c.in-Ok.is).1 in
     record {
       list_accepted = (c.requires.list_accepted.0, index);
       area1_value = (c.requires.area1_value, omega (arith, c.requires.list_accepted.1));
     }
 
-pub returns-in-Accepted : goal.returns-in-Accepted
-returns-in-Accepted c =
+pub returns-in-Ok : goal.returns-in-Ok
+returns-in-Ok c =
     let args = c.args in
     wash_accepted args.everyday.now args.wash.now args.windows.now args.state args.area0.now
     args.area1.now args.work.now c.requires.list_accepted.1 _ _ c.enter.ensures
-    c.in-Accepted.is _ _ c.schedule.ensures
+    c.in-Ok.is _ _ c.schedule.ensures
 
-pub returns-in-Declined : goal.returns-in-Declined
-returns-in-Declined c =
+pub returns-in-Err : goal.returns-in-Err
+returns-in-Err c =
     let args = c.args in
     wash_declined args.everyday.now args.wash.now args.windows.now args.state args.area0.now
     args.area1.now args.work.now c.requires.list_accepted.1 _ _ c.enter.ensures _
-    c.in-Declined.is
+    c.in-Err.is

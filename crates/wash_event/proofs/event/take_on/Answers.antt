@@ -30,13 +30,17 @@ returns-then-due c =
     on_due _ _ _ _ _ _ _ _ _ _ _ _ c.in-Started.is c.if-due.true
     c.take_fresh-then-due.ensures
 
+pub invariant_of-table : goal.invariant_of-table
+invariant_of-table c =
+    let args = c.args in
+    record { indexed = (ready_stands args.list.now args.work.now args.due args.state args.area0.now args.area1.now c.requires.on_ready _ _ c.in-Started.is c.if-due.false).0 }
+
 pub take_anew-requires : goal.take_anew-requires
 take_anew-requires c =
     let args = c.args in
     let stands = ready_stands args.list.now args.work.now args.due args.state args.area0.now
     args.area1.now c.requires.on_ready _ _ c.in-Started.is c.if-due.false in
     record {
-      indexed = stands.0;
       standing = stands.1;
       store_len = c.requires.store_len;
     }

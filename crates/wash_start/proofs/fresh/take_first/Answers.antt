@@ -18,7 +18,6 @@ take_settled-requires c =
       measured_most o c.requires.other_value,
     )) in
     record {
-      indexed = c.requires.indexed;
       other_value = part;
       store_len = c.requires.store_len;
     }

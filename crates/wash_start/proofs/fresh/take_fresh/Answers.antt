@@ -5,7 +5,6 @@ use Rattle.wash_start.proofs.fresh.take_fresh.Goals as goal
 pub start_in_other-requires : goal.start_in_other-requires
 start_in_other-requires c =
     record {
-      indexed = c.stand.ensures;
       area1_value = (
         c.requires.area1_value,
         free_other _ _ _ c.requires.free
@@ -21,7 +20,6 @@ returns-then-even c =
 pub start_in_first-requires : goal.start_in_first-requires
 start_in_first-requires c =
     record {
-      indexed = c.stand.ensures;
       area1_value = (
         c.requires.area1_value,
         free_first _ _ _ c.requires.free

@@ -7,21 +7,20 @@ use Rattle.wash_start.proofs.fresh.take_settled.Goals as goal
 pub take_anew-requires : goal.take_anew-requires
 take_anew-requires c =
     record {
-      indexed = c.requires.indexed;
-      standing = fresh_stands c.requires.indexed _ _ _ _
-          (rw c.in-Count.is at c.resolve_last.ensures) c.fresh-fresh.result
+      standing = fresh_stands c.args.table.now.indexed _ _ _ _
+          (rw c.in-Ok.is at c.resolve_last.ensures) c.fresh-fresh.result
           c.fresh-fresh.ensures;
       store_len = c.requires.store_len;
     }
 
-pub returns-in-Count : goal.returns-in-Count
-returns-in-Count c =
-    settled_first c.requires.indexed _ _ c.requires.other_value _ _ _
-    (rw c.in-Count.is at c.resolve_last.ensures) c.fresh-fresh.result
+pub returns-in-Ok : goal.returns-in-Ok
+returns-in-Ok c =
+    settled_first c.args.table.now.indexed _ _ c.requires.other_value _ _ _
+    (rw c.in-Ok.is at c.resolve_last.ensures) c.fresh-fresh.result
     c.fresh-fresh.ensures _ _ c.take_anew.new.area0 _
     c.take_anew.ensures
 
-pub returns-in-Exceeded : goal.returns-in-Exceeded
-returns-in-Exceeded c =
-    settled_crowded c.requires.indexed _ _ c.requires.other_value _ _
-    (rw c.in-Exceeded.is at c.resolve_last.ensures) _
+pub returns-in-Err : goal.returns-in-Err
+returns-in-Err c =
+    settled_crowded c.args.table.now.indexed _ _ c.requires.other_value _ _
+    (rw c.in-Err.is at c.resolve_last.ensures) _

@@ -1,7 +1,6 @@
 -- `washing::feeder::take_all_timed` meets its contract. The invariant: lengths are kept, and `Head`: what the call
--- comes to is what the events left come to, from the monitor reached. The measure is what is left of the events.
+-- comes to is what the events left come to, from the monitor reached.
 -- Assumes nothing.
-use Prim.Native.Nat.{◌-◌}
 use native.Mathlib.Omega.{arith}
 use mathlib.Core.Path.{refl, sym, ◌∙◌}
 use borrow.Author.Rules.{rules}
@@ -27,9 +26,6 @@ take_timed-requires c =
       store_len = c.loop-i.invariant.5;
     }
 
-pub loop-i-smaller : goal.loop-i-smaller
-loop-i-smaller c = omega arith
-
 pub loop-i-preserved : goal.loop-i-preserved
 loop-i-preserved c = (
   omega arith,
@@ -40,16 +36,16 @@ loop-i-preserved c = (
   c.take_timed.auto.store ∙ c.loop-i.invariant.5,
   head_next _ _ _ _ _ _ c.requires.events_len c.loop-i.reached _ _ _ _ c.loop-i.invariant.6
       c.loop-i-test.true _ _ _ _ c.take_timed.ensures _
-      c.in-Went.is (measured_kept _ _ _ _ c.loop-i.invariant.6.ready.measured
+      c.in-Ok.is (measured_kept _ _ _ _ c.loop-i.invariant.6.ready.measured
       c.take_timed.auto.area0
       c.take_timed.auto.area1)
       (c.take_timed.auto.work ∙ c.loop-i.invariant.6.ready.long),
 )
 
-pub returns-in-Stopped : goal.returns-in-Stopped
-returns-in-Stopped c =
+pub returns-in-Err : goal.returns-in-Err
+returns-in-Err c =
     head_stopped _ _ _ _ _ _ c.requires.events_len c.loop-i.reached _ _ _ _ c.loop-i.invariant.6
-    c.loop-i-test.true _ _ _ _ c.take_timed.ensures _ c.in-Stopped.is
+    c.loop-i-test.true _ _ _ _ c.take_timed.ensures _ c.in-Err.is
 
 pub returns : goal.returns
 returns c =

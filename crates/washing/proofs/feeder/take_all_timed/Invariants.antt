@@ -1,5 +1,5 @@
--- The invariants and measures of `feeder.take_all_timed`.
-use Prim.Native.Nat.{◌-◌, ◌^◌, ◌<◌, ◌≤◌}
+-- The invariants of `feeder.take_all_timed`.
+use Prim.Native.Nat.{◌^◌, ◌<◌, ◌≤◌}
 use mathlib.Core.Path.{◌≡◌}
 use lib.ListN.{length}
 use Rattle.tree_walk.specs.Layout.{store_words}
@@ -12,7 +12,3 @@ invariant-loop-i l =
     (l.i ≤ length l.events) × (length l.events < 2 ^ 64) × (length l.area0 ≡ length l.initial.area0) × (length l.area1 ≡ length l.initial.area1)
     × (length l.work ≡ length l.initial.work) × (length l.store ≡ store_words)
     × Head l.everyday l.wash l.windows (timed_monitor_of l.initial.reached l.initial.area0 l.initial.area1) l.events l.minutes l.reached l.area0 l.area1 l.work l.i
-
-abbrev pub decreases-loop-i : goal.decreases-loop-i
-decreases-loop-i l =
-    length l.events - l.i

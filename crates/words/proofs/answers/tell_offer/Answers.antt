@@ -2,8 +2,8 @@
 use Rattle.words_spec.proofs.Calls.Laws.{tell_offers, tell_declined}
 use Rattle.words.proofs.answers.tell_offer.Goals as goal
 
-pub returns-in-Offers : goal.returns-in-Offers
-returns-in-Offers c = tell_offers _ _ c.in-Offers.is
+pub returns-in-Ok : goal.returns-in-Ok
+returns-in-Ok c = tell_offers _ _ c.in-Ok.is
 
-pub returns-in-Refused : goal.returns-in-Refused
-returns-in-Refused c = tell_declined _ _ c.in-Refused.is
+pub returns-in-Err : goal.returns-in-Err
+returns-in-Err c = tell_declined _ _ c.in-Err.is

@@ -4,5 +4,5 @@ use Rattle.words.proofs.record.load.Goals as goal
 
 pub returns : goal.returns
 returns c =
-    let verdict-in = c.verdict_in-verdict in
+    let verdict-in = c.verdict_in in
     loaded verdict-in.result _ verdict-in.ensures

@@ -4,8 +4,8 @@ use Rattle.words.proofs.record.store.Goals as goal
 
 pub returns-in-Running : goal.returns-in-Running
 returns-in-Running c =
-    words_running _ _ c.in-Running.is c.put.ensures
+    words_running _ _ c.in-Running.is c.copy_from_slice.ensures.after
 
 pub returns-in-Failed : goal.returns-in-Failed
 returns-in-Failed c =
-    words_failed _ _ _ c.in-Failed.is c.put-in-Failed.ensures
+    words_failed _ _ _ c.in-Failed.is c.copy_from_slice-in-Failed.ensures.after

@@ -2,8 +2,8 @@
 use Rattle.words_spec.proofs.Tables.Laws.{tell_count, tell_refused}
 use Rattle.words.proofs.tables.tell_table.Goals as goal
 
-pub returns-in-Count : goal.returns-in-Count
-returns-in-Count c = tell_count _ _ c.in-Count.is
+pub returns-in-Ok : goal.returns-in-Ok
+returns-in-Ok c = tell_count _ _ c.in-Ok.is
 
-pub returns-in-Refused : goal.returns-in-Refused
-returns-in-Refused c = tell_refused _ _ c.in-Refused.is
+pub returns-in-Err : goal.returns-in-Err
+returns-in-Err c = tell_refused _ _ c.in-Err.is

@@ -1,5 +1,4 @@
--- `state::record::State::hold` meets its contract, by whether a residual is held, and whether they are more than ever
--- before. Assumes nothing.
+-- `state::record::State::hold` meets its contract, by whether a residual is held. Assumes nothing.
 use native.Mathlib.Omega.{arith}
 use Rattle.state.specs.Record.Laws.{none_held, some_held}
 use Rattle.state.proofs.record.State.hold.Goals as goal
@@ -7,9 +6,5 @@ use Rattle.state.proofs.record.State.hold.Goals as goal
 pub returns-then-count-eq0 : goal.returns-then-count-eq0
 returns-then-count-eq0 c = none_held _ _ _ c.if-count-eq0.true c.fail.ensures
 
--- more than ever before, and not
-pub returns-then-self-count : goal.returns-then-self-count
-returns-then-self-count c = some_held c.args.self _ _ c.if-count-eq0.false (omega arith)
-
-pub returns-else-self-count : goal.returns-else-self-count
-returns-else-self-count c = some_held c.args.self _ _ c.if-count-eq0.false (omega arith)
+pub returns : goal.returns
+returns c = some_held c.args.self _ _ c.if-count-eq0.false (omega (arith, c.max.ensures))

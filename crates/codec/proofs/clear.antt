@@ -1,2 +1,0 @@
--- The lemmas of `clear.rt`. Assumes nothing.
-pub mod Tail

@@ -1,8 +1,0 @@
--- `monitor_test::trial::try_trial` is safe and ends. Assumes nothing.
-use mathlib.Core.Path.{sym}
-use borrow.Author.Rules.{rules}
-use lib.Seq.{length-take-le}
-use Rattle.monitor_test.proofs.trial.try_trial.Goals as goal
-
-pub slice_bounds-trial_numbers-end-2 : goal.slice_bounds-trial_numbers-end-2
-slice_bounds-trial_numbers-end-2 c = sym (length-take-le _ _ (search rules))
