@@ -5,7 +5,7 @@ use crate::fault::Fault;
 use crate::tally::{Outcome, Tally};
 use std::fs::File;
 use std::io;
-use std::io::{BufRead, BufReader, ErrorKind};
+use std::io::{BufRead, BufReader, ErrorKind, Read};
 
 // The longest line, in bytes and without its line feed; one that is longer is malformed.
 const LONGEST: usize = 65535;
@@ -42,7 +42,8 @@ fn take_line<R: Print, T: Trial>(
     Ok(())
 }
 
-// The lines up to the file's end, or to one that is malformed; whether every read was good.
+// The lines up to the file's end, or to one that is malformed; whether every read was good. Of a line no more is read
+// than the longest and its line feed need.
 fn take_lines<T: Trial, B: BufRead>(
     rt: &HostRuntime,
     path: &str,
@@ -53,7 +54,8 @@ fn take_lines<T: Trial, B: BufRead>(
     let mut line = Vec::new(rt.alloc());
     for _ in 0..u64::MAX {
         line.clear();
-        match reader.read_until(b'\n', &mut line) {
+        let mut bounded = reader.by_ref().take(LONGEST as u64 + 1);
+        match bounded.read_until(b'\n', &mut line) {
             Ok(0) => break,
             Ok(_) => take_line(rt, tally, trial, line.strip_suffix(b"\n").unwrap_or(&line))?,
             Err(error) => {
