@@ -4,16 +4,20 @@
 --     new_group, case_counted    a group; a group with one case more
 --     standing_after             how all came out, after one case more
 --     line_more .. refused       the steps of a tally; one line more that is no comment
+--     taken, told                the tally after a line was tried, and what is handed on
 --     ok_at                      whether `ok` is said at the end
 --     Line, after                a line of a file; the tally after some
 --     Due, AllDue                what may come of a line of a group; of all lines
 -- Assumes nothing.
 use Rattle.std.specs.Prelude.{ℕ, ◌+◌, Bool, true, false, cond, List, [], ◌∷◌, ltb, Option, Some, None, unwrap_or}
+use Rattle.std.specs.Prelude.{Result, Ok, Err}
 use Rattle.std.specs.Bool.{beq}
 use Rattle.cases.specs.declared.tally.Tally.{Tally}
 use Rattle.cases.specs.declared.tally.Group.{Group}
 use Rattle.cases.specs.declared.tally.Standing.{Standing}
 use Rattle.cases.specs.declared.tally.Standing.TheVariants.{AsDue, Amiss, Malformed}
+use Rattle.cases.specs.declared.fault.Fault.{Fault}
+use Rattle.cases.specs.declared.fault.Fault.TheVariants.{Malformed as BadLine, OutOfMemory}
 use Rattle.cases.specs.declared.tally.Outcome.{Outcome}
 use Rattle.cases.specs.declared.tally.Outcome.TheVariants.{Part, Right, Wrong}
 
@@ -84,6 +88,18 @@ counted_in Wrong (Some g) t = judged true g t
 
 unfoldable pub counted : Outcome → Tally → Tally
 counted o t = counted_in o t.group (line_more t)
+
+-- a line that was tried: its outcome is counted, and without one it is malformed; where memory ended nothing is counted
+abbrev pub taken : Result Outcome Fault → Tally → Tally
+taken (Ok o) t = counted o t
+taken (Err BadLine) t = refused t
+taken (Err OutOfMemory) t = t
+
+-- what is handed on of it: that memory ended, and nothing else
+abbrev pub told : Result Outcome Fault → Result Unit Fault
+told (Ok o) = Ok tt
+told (Err BadLine) = Ok tt
+told (Err OutOfMemory) = Err OutOfMemory
 
 -- ---- a file
 

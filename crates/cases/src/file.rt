@@ -34,12 +34,9 @@ fn take_line<R: Print, T: Trial>(
     if line.starts_with(b"#") {
         return tally.take_comment(rt, line);
     }
-    match outcome(trial, line) {
-        Ok(outcome) => tally.count(outcome),
-        Err(Fault::Malformed) => tally.refuse(),
-        Err(Fault::OutOfMemory) => return Err(io::Error::from(ErrorKind::OutOfMemory)),
-    }
-    Ok(())
+    tally
+        .take(outcome(trial, line))
+        .map_err(|_| io::Error::from(ErrorKind::OutOfMemory))
 }
 
 // The lines up to the file's end, or to one that is malformed; whether every read was good. Of a line no more is read

@@ -8,8 +8,9 @@
 // `specs/Tally.antt`.
 ghost use Rattle.std.specs.Prelude.{◌≡◌};
 ghost use Rattle.cases.specs.Tally.{outcome_of, one_more, standing_after, case_counted, new_group};
-ghost use Rattle.cases.specs.Tally.{judged, opened, counted, line_more, refused, ok_at};
+ghost use Rattle.cases.specs.Tally.{judged, opened, counted, line_more, refused, taken, told, ok_at};
 
+use crate::fault::Fault;
 use std::io::Write;
 use std::{fmt, io};
 
@@ -161,6 +162,19 @@ impl Tally {
     {
         self.next_line();
         self.standing = Standing::Malformed;
+    }
+
+    // What came of a line that is no comment. Where memory ended nothing is counted, and that is handed on.
+    pub fn take(&mut self, tried: Result<Outcome, Fault>) -> Result<(), Fault>
+        ensures counted { self.new ≡ taken tried self.old }
+        ensures told { result ≡ told tried }
+    {
+        match tried {
+            Ok(outcome) => self.count(outcome),
+            Err(Fault::Malformed) => self.refuse(),
+            Err(Fault::OutOfMemory) => return Err(Fault::OutOfMemory),
+        }
+        Ok(())
     }
 
     fn open(&mut self, wrong: bool)

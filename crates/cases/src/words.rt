@@ -4,7 +4,7 @@
 //     numbers      as many as are asked for
 //     read_list    a list of them, put into a buffer
 //     length       a number as a length
-ghost use Rattle.std.specs.Prelude.{◌≡◌, ◌<◌, ◌≤◌, IfErr, IfOk};
+ghost use Rattle.std.specs.Prelude.{◌≡◌, ◌<◌, ◌≤◌, IfErr, IfOk, vec_len};
 
 use crate::fault::Fault;
 use std::alloc::AllocError;
@@ -58,6 +58,7 @@ pub fn numbers<const N: usize>(text: &str) -> Result<[u64; N], Fault> {
 pub fn read_list<T: FromStr + Drop>(text: &str, most: usize, list: &mut Vec<T>) -> Result<(), Fault>
 where
     T::Err: Drop,
+    ensures { vec_len list.new ≤ most }
 {
     list.clear();
     for word in words(text)? {
