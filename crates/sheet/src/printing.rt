@@ -5,17 +5,18 @@ ghost use Rattle.sheet_spec.specs.Sheet.{sheet_outcome as said, sheet_of};
 use crate::line::LINE;
 use crate::writing::write;
 use lot_book::judge;
+use sheet_spec::Sheet;
 use table::Refusal;
 
 // Nothing is written, and why.
-fn refused(number: u8, place: usize) -> Result<usize, Refusal>
+fn refused(number: u8, place: usize) -> Sheet
     ensures { result ≡ Err (record { number = number; place = place }) }
 {
     Err(Refusal { number, place })
 }
 
 // The sheet of a book, at the front of the output; what is after it is kept. A refusal writes nothing.
-pub fn sheet(book: &[u8], out: &mut [u8]) -> Result<usize, Refusal>
+pub fn sheet(book: &[u8], out: &mut [u8]) -> Sheet
     ensures { said result out.new ≡ sheet_of book.now out.old }
 {
     let judged = match judge(book) {

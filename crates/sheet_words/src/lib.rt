@@ -4,10 +4,10 @@
 
 ghost use Rattle.sheet_words.specs.Call.{SheetTold};
 
-use table::Refusal;
+use sheet::Sheet;
 
 // The number to return; the count or the place goes into value.
-pub fn tell_sheet(answer: Result<usize, Refusal>, value: &mut u64) -> u32
+pub fn tell_sheet(answer: Sheet, value: &mut u64) -> u32
     ensures { SheetTold answer result value.new }
 {
     match answer {
