@@ -41,6 +41,14 @@ pub struct Failure {
     error: io::Error,
 }
 
+impl Failure {
+    pub fn error(&self) -> io::Error
+        ensures { result ≡ self.now.error }
+    {
+        self.error
+    }
+}
+
 // The message that the input could not be read.
 impl Display for Failure {
     fn fmt<W: fmt::Write>(&self, f: &mut fmt::Formatter<W>) -> fmt::Result {

@@ -63,6 +63,14 @@ pub struct Unsaid {
     error: Error,
 }
 
+impl Unsaid {
+    pub fn error(self) -> Error
+        ensures { result ≡ self.error }
+    {
+        self.error
+    }
+}
+
 // The message that it could not.
 impl Display for Unsaid {
     fn fmt<W: fmt::Write>(&self, f: &mut fmt::Formatter<W>) -> fmt::Result {
