@@ -1,4 +1,5 @@
 -- One event along a transition that is known: `follow`.
+--     within_next                      the set that follows is kept
 --     followed_first, followed_next    the promise holds at first, and after one event more
 -- Assumes nothing.
 use Prim.Native.Nat.{ℕ, suc, ◌+◌, ◌*◌, ◌≤◌, ◌<◌}
@@ -12,13 +13,19 @@ use Rattle.state.specs.Record.{state_of, succeeding}
 use Rattle.state.specs.Record.Laws.{succeeding_counts}
 use Rattle.met_sets.specs.declared.run.Followed.{Followed}
 use Rattle.met_sets.specs.Sets.{count_at}
-use Rattle.met_sets.specs.Runs.{SetReached, FollowedBy}
+use Rattle.met_sets.specs.Runs.{SetReached, KeptSet, FollowedBy}
 use Rattle.met_sets.specs.Runs.Laws.{follows_next}
 
 abbrev pub at : State → ℕ → ℕ → Followed
 at s n i = record { state = s; set = n; place = i }
 
 module _ (A : ℕ) (starts next es : List ℕ) where
+  module _ (n e l : ℕ) (w : KeptSet A starts next n) (h : e < A) (known : get_or next (n * A + e) 0 ≡ suc l) where
+    pub within_next : KeptSet A starts next l
+    within_next =
+        let y = w.shape.known n e w.inside h in
+        record { sets = w.sets; count = w.count; shape = w.shape; inside = omega arith }
+
   module _ (s : State) (n j to : ℕ) where
     pub followed_first : j ≤ to → FollowedBy A starts next es s n j to (at s n j)
     followed_first h =

@@ -2,6 +2,7 @@
 -- engines have, of the sets that one call meets).
 --     count_at, slots_at  how many slots a set has; its slots: "An area holds slots ascending by first differing word"
 --     Shape               the starts ascend within the room; a transition known is to a set kept
+--     Outline             the same, but of no set the sizes alone
 --     SetStands           the slots of a set are within the words
 --     Stored              a set is the slots of proper residuals, at most so many
 --     Leads               a set follows another after an event
@@ -43,6 +44,18 @@ pub record Shape (A k : ℕ) (sets starts next : List ℕ) : Type 0 where
   pub rows : k * A ≤ 2560
   pub ascend : (i : ℕ) → i < k → get_or starts i 0 ≤ get_or starts (suc i) 0
   pub room : (i : ℕ) → i ≤ k → get_or starts i 0 ≤ 104
+  pub known : (i e : ℕ) → i < k → e < A → get_or next (i * A + e) 0 ≤ k
+
+-- the same, but where there is no set it asks for the sizes alone
+pub record Outline (A k : ℕ) (sets starts next : List ℕ) : Type 0 where
+  pub set_words : length sets ≡ 1664
+  pub start_places : length starts ≡ 64
+  pub next_bytes : length next ≡ 2560
+  pub small : A ≤ alphabet_most
+  pub few : k ≤ 63
+  pub rows : k * A ≤ 2560
+  pub ascend : (i : ℕ) → i < k → get_or starts i 0 ≤ get_or starts (suc i) 0
+  pub room : 0 < k → (i : ℕ) → i ≤ k → get_or starts i 0 ≤ 104
   pub known : (i e : ℕ) → i < k → e < A → get_or next (i * A + e) 0 ≤ k
 
 -- set i stands within the words

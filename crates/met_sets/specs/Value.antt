@@ -8,14 +8,14 @@ use Rattle.std.specs.Prelude.{ℕ, suc, ◌+◌, ◌*◌, ◌≡◌, List, set}
 use Rattle.table.specs.Table.{Table}
 use Rattle.met_sets.specs.declared.sets.MetSets.{MetSets}
 use Rattle.met_sets.specs.Sets.{Met, KeptBy}
-use Rattle.met_sets.specs.Sets.Laws.{shape_forgotten}
+use Rattle.met_sets.specs.Sets.Laws.{outline_forgotten}
 
 pub record MetIn (t : Table) (cap : ℕ) (s : MetSets) : Type 0 where
   pub alphabet_is : t.alphabet ≡ s.alphabet
   pub met : Met t cap s.count s.sets s.starts s.next
 
 abbrev pub forgotten : MetSets → MetSets
-forgotten s = record s { count = 0; starts = set s.starts 0 0; shape = shape_forgotten s.shape }
+forgotten s = record s { count = 0; starts = set s.starts 0 0; outline = outline_forgotten s.outline }
 
 -- after event e set i is followed by set j, and nothing else is changed
 pub record LinkedBy (s : MetSets) (i e j : ℕ) (s' : MetSets) : Type 0 where

@@ -5,7 +5,8 @@
 mod run;
 mod sets;
 
-pub use run::Followed;
+pub use run::{Followed, follow};
 pub use sets::{
-    MOST_SETS, MOST_SLOTS, MetSets, ROW_BYTES, SET_WORDS, SLOT_WORDS, STARTS, count_of, link,
+    MOST_SETS, MOST_SLOTS, MetSets, ROW_BYTES, SET_WORDS, SLOT_WORDS, STARTS, count_of, has_room,
+    link,
 };

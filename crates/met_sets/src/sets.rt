@@ -2,8 +2,8 @@
 ghost use Rattle.std.specs.Prelude.{◌≡◌, true, suc, ◌+◌, ◌*◌, ◌≤◌, ◌<◌, length, get_or, set, IfSome};
 ghost use Rattle.table.specs.Rows.{alphabet_most};
 ghost use Rattle.monitor_spec.specs.State.{chunks};
-ghost use Rattle.met_sets.specs.Sets.{count_at, slots_at, Shape};
-ghost use Rattle.met_sets.specs.Sets.Laws.{Shape-prop};
+ghost use Rattle.met_sets.specs.Sets.{count_at, slots_at, Outline};
+ghost use Rattle.met_sets.specs.Sets.Laws.{Outline-prop};
 
 // The words of a slot.
 pub const SLOT_WORDS: usize = 16;
@@ -29,7 +29,7 @@ pub struct MetSets {
     pub sets: [u64; SET_WORDS],
     pub starts: [usize; STARTS],
     pub next: [u8; ROW_BYTES],
-    pub ghost shape: { Shape alphabet count sets starts next } by { Shape-prop alphabet count sets starts next },
+    pub ghost outline: { Outline alphabet count sets starts next } by { Outline-prop alphabet count sets starts next },
 }
 
 // How many slots set i has, by the places where it begins and ends.
@@ -39,6 +39,14 @@ pub fn count_of(starts: &[usize], i: usize) -> usize
     ensures { result ≡ count_at starts.now i }
 {
     starts[i + 1] - starts[i]
+}
+
+// Whether one set more has room, of so many slots, where k are kept and the next one begins at a slot.
+pub fn has_room(alphabet: usize, k: usize, start: usize, count: usize) -> bool
+    requires { (k * alphabet ≤ 2560) × (start ≤ 104) }
+    ensures { result ≡ true → (k < 63) × (start + count ≤ 104) × (suc k * alphabet ≤ 2560) }
+{
+    k < MOST_SETS && count <= MOST_SLOTS - start && alphabet <= ROW_BYTES - k * alphabet
 }
 
 // After event e set i is followed by set j, in rows of transitions.
@@ -113,9 +121,9 @@ impl MetSets {
         ensures { result ≡ true → (self.now.count < 63) × (get_or self.now.starts self.now.count 0 + count ≤ 104)
             × (suc self.now.count * self.now.alphabet ≤ 2560) }
     {
-        self.count < MOST_SETS
-            && count <= MOST_SLOTS - self.starts[self.count]
-            && self.alphabet <= ROW_BYTES - self.count * self.alphabet
+        // where there is no set, a start may be any number
+        let start = self.starts[self.count];
+        start <= MOST_SLOTS && has_room(self.alphabet, self.count, start, count)
     }
 
     // After event e set i is followed by set j.

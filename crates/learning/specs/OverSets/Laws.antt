@@ -121,7 +121,7 @@ module _ {t : Table} (regular : Regular t) {m : Monitor} {es : List ℕ} {i : �
 
 none_in : (t : Table) (cap : ℕ) (v : MetSets) → t.alphabet ≡ v.alphabet → MetIn t cap (forgotten v)
 none_in t cap v e =
-    let s = v.shape in
+    let s = v.outline in
     record {
       alphabet_is = e;
       met = met_none t cap v.sets (set v.starts 0 0) v.next (omega (arith, s.small)) s.set_words

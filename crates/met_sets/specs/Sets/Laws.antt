@@ -1,9 +1,10 @@
 -- Sets kept: within the room; none, and one transition more.
---     Shape-prop                      the sizes and bounds have one proof at most
+--     Outline-prop                    the sizes and bounds have one proof at most
+--     outline_shape, shape_some       a shape is an outline; where there is a set, an outline is a shape
 --     row_inside, row_fits            the row of a set is within the bytes
 --     shape_stands, words_inside      the slots of a set are within the words
 --     found_slots                     a set that has the words of an area
---     shape_none, first_start, shape_forgotten, met_none    no set
+--     shape_none, first_start, outline_none, outline_forgotten, met_none    no set
 --     link_inside, met_linked         a transition more
 -- One set more is in `Added.antt`. Assumes nothing.
 use Rattle.std.specs.Prelude.{ℕ, suc, ◌+◌, ◌*◌, ◌≤◌, ◌<◌, ◌≡◌, List, length, get_or, set, take, drop}
@@ -14,13 +15,42 @@ use Rattle.std.proofs.Math.ListN.{length-drop}
 use Rattle.std.proofs.Props.{props}
 use Rattle.table.specs.Table.{Table}
 use Rattle.monitor_spec.specs.State.{chunks}
-use Rattle.met_sets.specs.Sets.{count_at, slots_at, Shape, SetStands, Leads, Met}
+use Rattle.met_sets.specs.Sets.{count_at, slots_at, Shape, Outline, SetStands, Leads, Met}
 use Rattle.met_sets.specs.Sets.Words.{chunks_same}
 
--- ---- a proposition
+-- ---- sizes and bounds
 
-pub Shape-prop : (A k : ℕ) (sets starts next : List ℕ) → IsProp (Shape A k sets starts next)
-Shape-prop A k sets starts next = Prim.hlevel props
+pub Outline-prop : (A k : ℕ) (sets starts next : List ℕ) → IsProp (Outline A k sets starts next)
+Outline-prop A k sets starts next = Prim.hlevel props
+
+pub outline_shape : {A k : ℕ} {sets starts next : List ℕ} → Shape A k sets starts next → Outline A k sets starts next
+outline_shape s =
+    record {
+      set_words = s.set_words;
+      start_places = s.start_places;
+      next_bytes = s.next_bytes;
+      small = s.small;
+      few = s.few;
+      rows = s.rows;
+      ascend = s.ascend;
+      room = λ h. s.room;
+      known = s.known;
+    }
+
+pub shape_some : {A k : ℕ} {sets starts next : List ℕ} → Outline A k sets starts next → 0 < k
+    → Shape A k sets starts next
+shape_some s h =
+    record {
+      set_words = s.set_words;
+      start_places = s.start_places;
+      next_bytes = s.next_bytes;
+      small = s.small;
+      few = s.few;
+      rows = s.rows;
+      ascend = s.ascend;
+      room = s.room h;
+      known = s.known;
+    }
 
 -- ---- within the room
 
@@ -76,11 +106,26 @@ shape_none A sets starts next a x y z r =
 pub first_start : (starts : List ℕ) → length starts ≡ 64 → get_or (set starts 0 0) 0 0 ≤ 104
 first_start starts h = let e = get_or-set_same starts 0 0 0 (omega arith) in omega arith
 
-pub shape_forgotten : {A k : ℕ} {sets starts next : List ℕ} → Shape A k sets starts next
-    → Shape A 0 sets (set starts 0 0) next
-shape_forgotten {A} {k} {sets} {starts} {next} s =
-    shape_none A sets (set starts 0 0) next s.small s.set_words (length-set starts 0 0 ∙ s.start_places) s.next_bytes
-    (first_start starts s.start_places)
+-- arrays of the sizes are an outline of no set, whatever they hold
+pub outline_none : (A : ℕ) (sets starts next : List ℕ) → A ≤ 128 → length sets ≡ 1664 → length starts ≡ 64
+    → length next ≡ 2560 → Outline A 0 sets starts next
+outline_none A sets starts next a x y z =
+    record {
+      set_words = x;
+      start_places = y;
+      next_bytes = z;
+      small = a;
+      few = omega arith;
+      rows = omega arith;
+      ascend = λ i m. absurd (omega arith);
+      room = λ h. absurd (omega arith);
+      known = λ i e m q. absurd (omega arith);
+    }
+
+pub outline_forgotten : {A k : ℕ} {sets starts next : List ℕ} → Outline A k sets starts next
+    → Outline A 0 sets (set starts 0 0) next
+outline_forgotten {A} {k} {sets} {starts} {next} s =
+    outline_none A sets (set starts 0 0) next s.small s.set_words (length-set starts 0 0 ∙ s.start_places) s.next_bytes
 
 pub met_none : (t : Table) (cap : ℕ) (sets starts next : List ℕ) → t.alphabet ≤ 128 → length sets ≡ 1664
     → length starts ≡ 64 → length next ≡ 2560 → get_or starts 0 0 ≤ 104 → Met t cap 0 sets starts next

@@ -12,7 +12,7 @@ returns c =
       kept = record {
         sets_are = stored_part _ _ _ _ _ _ (omega arith) c.requires.count_in_bounds c.copy_from_slice.ensures.after;
         starts_are = rw add-one refl;
-        next_are = stored_zeros _ _ _ _ _ (omega arith) (omega (arith, c.requires.k_bound.2, v.shape.next_bytes))
+        next_are = stored_zeros _ _ _ _ _ (omega arith) (omega (arith, c.requires.k_bound.2, v.outline.next_bytes))
             (c.fill.ensures.after (λ y h. h));
       };
       alphabet_is = refl;

@@ -21,7 +21,7 @@ follow-reached-requires c =
 
 pub lay_set-requires : goal.lay_set-requires
 lay_set-requires c = record {
-  set_stands = shape_stands c.args.sets.now.shape _ (going_stands (regular _ (indexed_rules c.args.table.now.indexed)) c.requires.goes.going c.follow-reached.ensures);
+  set_stands = shape_stands c.requires.goes.going.met.met.shape _ (going_stands (regular _ (indexed_rules c.args.table.now.indexed)) c.requires.goes.going c.follow-reached.ensures);
   n_in_bounds = going_room (regular _ (indexed_rules c.args.table.now.indexed)) c.requires.goes.going c.follow-reached.ensures;
 }
 
