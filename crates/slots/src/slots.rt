@@ -87,12 +87,23 @@ fn place_of(area: &[u64], count: usize, slot: &[u64]) -> Option<usize>
     find_place(area, count, from, slot)
 }
 
+// Moves the first n words on by a slot, the last of them first: a loop that the compiler makes one move of memory, as
+// it does not make std's `copy_within`, nor a loop that ends above 0.
+fn move_up(words: &mut [u64], n: usize)
+    requires { n + 16 ≤ length words.old }
+    ensures { words.new ≡ gapped words.old 0 n }
+{
+    for k in (0..n).rev() {
+        words[k + SLOT_WORDS] = words[k];
+    }
+}
+
 // Moves the words from p up to n on by a slot.
 fn open_gap(area: &mut [u64], p: usize, n: usize)
     requires { (p ≤ n) × (n + 16 ≤ length area.old) }
     ensures { area.new ≡ gapped area.old p n }
 {
-    area.copy_within(p..n, p + SLOT_WORDS);
+    move_up(&mut area[p..], n - p);
 }
 
 // Stores a slot's words from p on.
