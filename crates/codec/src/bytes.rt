@@ -45,8 +45,8 @@ pub fn encode(list: &[u16], out: &mut [u8])
         ++ drop (length (list_bytes list.now)) out.old }
 {
     let mut p = 0;
-    for &n in list {
-        let Some(q) = numbers::write(out, p, n) else {
+    for i in 0..list.len() {
+        let Some(q) = numbers::write(out, p, list[i]) else {
             return;
         };
         p = q;
