@@ -14,10 +14,10 @@ fn window_begins(windows: &[u16], from: u64, minutes: u64) -> bool
     requires { from < week }
     ensures { result ≡ begins windows.now from minutes }
 {
-    for pair in windows.chunks_exact(2) {
+    for i in 0..windows.len() / 2 {
         let window = Window {
-            first: pair[0],
-            last: pair[1],
+            first: windows[2 * i],
+            last: windows[2 * i + 1],
         };
         if window.begins_by(from, minutes) {
             return true;

@@ -9,10 +9,10 @@ use crate::window::Window;
 fn wash_at(windows: &[u16], minute: u64) -> bool
     ensures { result ≡ wash_at windows.now minute }
 {
-    for pair in windows.chunks_exact(2) {
+    for i in 0..windows.len() / 2 {
         let window = Window {
-            first: pair[0],
-            last: pair[1],
+            first: windows[2 * i],
+            last: windows[2 * i + 1],
         };
         if window.holds(minute) {
             return true;

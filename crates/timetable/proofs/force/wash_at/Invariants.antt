@@ -1,11 +1,9 @@
 -- The invariant of `force.wash_at`: the windows that are left say what all of them say.
+use Prim.Native.Nat.{◌*◌}
 use mathlib.Core.Path.{◌≡◌}
-use Rattle.std.specs.Slice.Iter.{chunks_exact_rest, chunks_exact_size}
+use lib.ListN.{drop}
 use Rattle.timetable_spec.specs.Timetable.{wash_at}
 use Rattle.timetable.proofs.force.wash_at.Given as goal
 
-abbrev pub invariant-loop-pair : goal.invariant-loop-pair
-invariant-loop-pair l =
-    (goal.iterator-loop-pair).can_next l.pair-iterator × (goal.iterator-loop-pair).is_finite l.pair-iterator
-    × (chunks_exact_size l.pair-iterator ≡ 2)
-    × (wash_at (chunks_exact_rest l.pair-iterator) l.minute ≡ wash_at l.windows l.minute)
+abbrev pub invariant-loop-i : goal.invariant-loop-i
+invariant-loop-i l = wash_at (drop (2 * l.i) l.windows) l.minute ≡ wash_at l.windows l.minute
