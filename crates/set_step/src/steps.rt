@@ -14,13 +14,15 @@ use slots::{Exceeded, put};
 use tree_moves::{Way, rebuild, step_moves, way_of};
 use tree_walk::walk;
 
-// Copies the sixteen words from p on to the front of the store.
+// Copies the sixteen words from p on to the front of the store: word by word, as `slots::store` does.
 fn load(src: &[u64], p: usize, store: &mut [u64])
     requires { (p + 16 ≤ length src.now) × (16 ≤ length store.old) }
     ensures { (take 16 store.new ≡ window p 16 src.now)
         × (drop 16 store.new ≡ drop 16 store.old) }
 {
-    store[..16].copy_from_slice(&src[p..p + 16]);
+    for j in 0..16 {
+        store[j] = src[p + j];
+    }
 }
 
 // Holds all results of the i-th residual of an area in another: those of its leaves are prepared in

@@ -1,13 +1,11 @@
 -- The step: one law per way out.
---     load_next, loaded                                  words copied, one by one and as a whole
+--     load_next                                          the loop of `load`
 --     step_asks, Gathering, gather_first, -next, -exceeded, -end      the loop of `step_set`
 -- Assumes nothing.
 use Prim.Native.Nat.{ℕ, suc, ◌+◌, ◌-◌, ◌*◌, ◌<◌, ◌≤◌}
 use native.Mathlib.Omega.{arith}
-use Rattle.std.proofs.Common.{add-one, ap, take_at, drop_at, sym, ◌∙◌, append_assoc, append-nil, length-drop, take-suc, take-suc-set, get_or-drop}
+use Rattle.std.proofs.Common.{add-one, sym, ◌∙◌, append_assoc, append-nil, length-drop, take-suc, take-suc-set, get_or-drop}
 use Rattle.std.specs.Prelude.{◌≡◌, refl, List, [], ◌++◌, length, get_or, set, take, drop, Ok, Err}
-use Rattle.std.specs.List.{between}
-use Rattle.std.proofs.lemmas.List.Edits.{length-between}
 use Rattle.table.specs.Table.{Table}
 use Rattle.slots.specs.Holding.{held_as, put_all, Held, no_room}
 use Rattle.slots.proofs.Holding.Laws.{put_none, put_then, put_stop}
@@ -27,16 +25,6 @@ unfolding window
 load_next store src p j h k e =
     rw add-one (take-suc-set store j (get_or src (p + j) 0) h
     ∙ rw e (sym (take-suc (drop p src) j 0 (rw length-drop (omega arith)) ∙ rw (get_or-drop p src j 0))))
-
-pub loaded : (store src : List ℕ) (p : ℕ) → p + 16 ≤ length src → (r : List ℕ) → r ≡ between p (p + 16) src
-    → (take 16 (r ++ drop 16 store) ≡ window p 16 src) × (drop 16 (r ++ drop 16 store) ≡ drop 16 store)
-unfolding window
-loaded store src p h r e =
-    let l : length r ≡ 16 = ap length e ∙ length-between src p (p + 16) h ∙ omega arith in
-    let n : p + 16 - p ≡ 16 = omega arith in (
-      take_at r (drop 16 store) 16 l ∙ e ∙ ap (λ (k : ℕ). take k (drop p src)) n,
-      drop_at r (drop 16 store) 16 l,
-    )
 
 -- ---- step_set
 

@@ -1,18 +1,17 @@
--- Words that move up by sixteen, from the last on, and a slot copied over an area.
+-- Loops that store one word a turn: words that move up by sixteen, from the last on, and a slot over an area.
 --     gap_none, gap_step     of `gapped`
 --     gap_part               a gap opened in the part from p on
---     slot_copied, stored_step     of `stored`: at once, and one word more
+--     slot_whole             the first sixteen words of a slot are all of it
+--     stored_none, stored_step     of `stored`
 -- Assumes nothing.
 use Prim.Native.Nat.{ℕ, suc, ◌+◌, ◌-◌, ◌≤◌, ◌<◌}
 use native.Mathlib.Omega.{arith}
 use Rattle.std.specs.Prelude.{◌≡◌, length, get_or, set}
 use Rattle.std.proofs.Math.Path.{ap, sym}
 use Rattle.std.proofs.Common.{◌∙◌, take-append-drop, length-drop, drop_of_length-le, length-take-le, take_all, take-add, drop-drop, drop_at}
-use Rattle.std.proofs.lemmas.Slice.{put_mid-paste}
-use borrow.Rule.Slice.PartMut.{put_mid}
 use mathlib.Core.List.{List, [], ◌∷◌, ◌++◌, append_assoc, append-nil}
 use Rattle.std.proofs.Math.ListN.{take, drop, length-take, get_or-append}
-use Rattle.std.proofs.Math.Seq.{slice, slice_empty, slice-cons, take-suc, append_snoc, set_at, get_or-take, paste-suc}
+use Rattle.std.proofs.Math.Seq.{slice, slice_empty, slice-cons, take-suc, append_snoc, set_at, get_or-take, paste-zero, paste-suc}
 use Rattle.slots.specs.Insertion.{gapped, stored}
 
 module _ (l : List ℕ) (n : ℕ) (room : n + 16 ≤ length l) where
@@ -79,10 +78,14 @@ module _ (l : List ℕ) (p n : ℕ) (h : p ≤ n) (room : n + 16 ≤ length l) w
       ∙ ap (λ (z : List ℕ). take p l ++ z) (append-nil ys ∙ part)
       ∙ in_part
 
-pub slot_copied : (l : List ℕ) (p : ℕ) (s r : List ℕ) → length s ≡ 16 → r ≡ s
-    → put_mid p (p + 16 - p) l r ≡ stored l p s 16
+pub slot_whole : (s : List ℕ) → length s ≡ 16 → take 16 s ≡ s × length (take 16 s) ≡ 16
+slot_whole s h =
+    let whole : take 16 s ≡ s = take_all 16 s (omega arith) in
+    (whole, ap length whole ∙ h)
+
+pub stored_none : (l : List ℕ) (p : ℕ) (s : List ℕ) (n : ℕ) → n ≡ 0 → l ≡ stored l p s n
 unfolding stored
-slot_copied l p s r h e = put_mid-paste p (p + 16 - p) l r s 16 e (omega arith) (omega arith)
+stored_none l p s n e = rw e (paste-zero l p s)
 
 pub stored_step : (l : List ℕ) (p : ℕ) (s : List ℕ) (j k : ℕ) → k ≡ suc j → p + j < length l → j < length s
     → set (stored l p s j) (p + j) (get_or s j 0) ≡ stored l p s k
