@@ -106,8 +106,8 @@ fn open_gap(area: &mut [u64], p: usize, n: usize)
     move_up(&mut area[p..], n - p);
 }
 
-// Stores a slot's words from p on: word by word, since a slot has mostly just been put together so, and a copy of sixteen
-// bytes at a time waits for the words stored last (docs/DECISIONS.md, "A slot is handed on by reference").
+// Stores a slot's words from p on: word by word, since a slot has mostly just been put together so, and a copy of
+// sixteen bytes at a time waits for the words stored last (docs/DECISIONS.md, "A slot is handed on by reference").
 pub fn store(area: &mut [u64], p: usize, slot: &[u64])
     requires { (p + 16 ≤ length area.old) × (length slot.now ≡ 16) }
     ensures { area.new ≡ stored area.old p slot.now 16 }

@@ -1,5 +1,5 @@
--- `MetSets::find` meets its contract: a set is given only where count and words agree. The inner loop: the first j words
--- are the same. Assumes nothing.
+-- `MetSets::find` meets its contract: a set is given only where count and words agree. The inner loop: the first j
+-- words are the same. Assumes nothing.
 use Prim.Native.Nat.{◌*◌}
 use native.Mathlib.Omega.{arith}
 use mathlib.Core.Path.{◌≡◌, sym, ◌∙◌}
