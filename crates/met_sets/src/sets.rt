@@ -98,8 +98,8 @@ impl MetSets {
         count_of(&self.starts, i)
     }
 
-    // Which set has the first slots of an area, so many. The words are compared one by one: `==` of two parts took six
-    // instructions more for each set that differs.
+    // Which set has the first slots of an area, so many. The words are compared one by one: `==` of two parts took a
+    // third more instructions for each set that differs.
     pub fn find(&self, area: &[u64], count: usize) -> Option<usize>
         requires count_in_bounds { count * 16 ≤ length area.now }
         ensures { IfSome result (λ i. (i < self.now.count)
