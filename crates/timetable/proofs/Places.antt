@@ -1,5 +1,5 @@
 -- One pass over the windows of a list, by their places.
---     found_at, next_at, none_at    some_window: of the window at a place; of those from the next place on; of no window
+--     found_at, next_at, none_at    some_window: of the window at a place; of those from the next on; of no window
 -- Assumes nothing.
 use Rattle.std.specs.Prelude.{ℕ, ◌+◌, ◌*◌, ◌≤◌, ◌<◌, ◌≡◌, Bool, true, false, List, [], ◌∷◌, ◌⊎◌, drop}
 use Rattle.std.proofs.Common.{arith, ◌∙◌, sym, inl, inr, drop_of_length-le}
